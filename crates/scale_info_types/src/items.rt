@@ -1,0 +1,156 @@
+//! A list of values, which contracts see as the list of its elements.
+ghost use Rattle.std.specs.Prelude.{◌≡◌, ◌++◌, ◌∷◌, ◌↔◌, [], length, IsTrue, if◌then◌else◌, is_ok};
+ghost use Rattle.std.specs.Cmp.Lexicographic.{pointwise, slice_cmp, slice_partial_cmp, lists_equiv, lists_agrees, lists_total, lists_ties, lists_per, lists_po};
+ghost use Rattle.std.specs.Hash as fed;
+ghost use Rattle.std.specs.Hash.{items_Alike};
+
+use std::alloc::{AllocError, AllocFailed, Global};
+use std::cmp::Ordering;
+use std::hash::{Hash, Hasher};
+use std::iter::FromIterator;
+use std::marker::Model;
+use std::slice;
+
+/// A list. Two lists with equal elements are one value to a contract, which two `Vec`s are not.
+///
+/// It is made from a `Vec` and gives it back without taking memory.
+#[derive(Drop)]
+pub struct Items<T> {
+    all: Vec<T>,
+}
+
+impl<T> Model for Items<T> {
+    ghost use Rattle.std.specs.Prelude.{List};
+
+    ghost Value = { List T };
+
+    ghost view = { λ a. a.all.items };
+}
+
+impl<T> Items<T> {
+    /// The empty list.
+    pub fn new(alloc: Global) -> Self
+        ensures { result ≡ [] }
+    {
+        Items {
+            all: Vec::new(alloc),
+        }
+    }
+
+    /// The vector of the elements; takes no memory.
+    pub fn into_vec(self) -> Vec<T>
+        ensures { result.items ≡ self }
+    {
+        let Items { all } = self;
+        all
+    }
+
+    /// The elements, to read.
+    pub fn as_slice(&self) -> &[T]
+        ensures { result.now ≡ self.now }
+    {
+        self.all.as_slice()
+    }
+
+    /// The number of elements.
+    pub fn len(&self) -> usize
+        ensures { result ≡ length self.now }
+    {
+        self.all.len()
+    }
+
+    /// Whether there is no element.
+    pub fn is_empty(&self) -> bool
+        ensures { IsTrue result ↔ (self.now ≡ []) }
+    {
+        self.all.is_empty()
+    }
+
+    /// The elements in order, to read.
+    pub fn iter(&self) -> slice::Iter<'_, T> {
+        self.all.iter()
+    }
+
+    /// Puts one more element at the end. On an Err the list is as before, and the element comes back.
+    pub fn push(&mut self, value: T) -> Result<(), AllocFailed<T>>
+        ensures { self.new ≡ (if is_ok result then self.old ++ value ∷ [] else self.old) }
+    {
+        self.all.push(value)
+    }
+}
+
+impl<T> From<Vec<T>> for Items<T> {
+    ghost from_gives = { λ all items. items ≡ all.items };
+
+    fn from(all: Vec<T>) -> Items<T> {
+        Items { all }
+    }
+}
+
+impl<T> From<Items<T>> for Vec<T> {
+    ghost from_gives = { λ items all. all.items ≡ items };
+
+    fn from(items: Items<T>) -> Vec<T> {
+        items.into_vec()
+    }
+}
+
+impl<T: Drop> FromIterator<T> for Items<T> {
+    type Alloc = Global;
+
+    ghost from_iter_gives = { λ given items. items ≡ given };
+
+    fn from_iter<U: IntoIterator<Item = T>>(alloc: Global, iter: U) -> Result<Items<T>, AllocError> {
+        Ok(Items {
+            all: Vec::from_iter(alloc, iter)?,
+        })
+    }
+}
+
+impl<T: PartialEq> PartialEq for Items<T> {
+    ghost eq = { pointwise T.eq };
+
+    ghost laws = { lists_per T.laws };
+
+    fn eq(&self, other: &Items<T>) -> bool {
+        self.all.as_slice() == other.all.as_slice()
+    }
+}
+
+impl<T: Eq> Eq for Items<T> {
+    ghost laws = { lists_equiv T.Eq.laws };
+}
+
+impl<T: PartialOrd> PartialOrd for Items<T> {
+    ghost partial_cmp = { slice_partial_cmp T.partial_cmp };
+
+    ghost laws = { lists_po T.PartialOrd.laws };
+
+    fn partial_cmp(&self, other: &Items<T>) -> Option<Ordering> {
+        self.all.as_slice().partial_cmp(other.all.as_slice())
+    }
+}
+
+impl<T: Ord> Ord for Items<T> {
+    ghost cmp = { slice_cmp T.cmp };
+
+    ghost total = { lists_total T.total };
+
+    ghost matches_partial_cmp = { lists_agrees T.matches_partial_cmp };
+
+    ghost matches_eq = { lists_ties T.cmp T.matches_eq };
+
+    fn cmp(&self, other: &Items<T>) -> Ordering {
+        self.all.as_slice().cmp(other.all.as_slice())
+    }
+}
+
+impl<T: Hash> Hash for Items<T> {
+    ghost hash_input = { fed.slice T.hash_input };
+
+    ghost respects_eq = { (items_Alike (record { fed = T.respects_eq })).fed };
+
+    fn hash<H: Hasher>(&self, state: &mut H) {
+        self.all.as_slice().hash(state)
+    }
+}

@@ -1,0 +1,97 @@
+//! Identities of types.
+ghost use Rattle.std.specs.Prelude.{◌≡◌, ◌↔◌, IfOk, IsTrue, take};
+ghost use Rattle.scale_info_types.specs.Terms.{term, term_of, terms_of};
+ghost use Rattle.scale_info_types.specs.declared.meta_type.TypeId.{out-TypeId};
+
+use crate::items::Items;
+use crate::try_clone::TryClone;
+use std::alloc::{AllocError, Global};
+
+/// The identity of a type, by its structure: a head, numbers and the identities of its arguments.
+///
+/// Eq decides whether two identities have one structure; Ord goes by head, numbers and arguments, in
+/// this order; Hash agrees with Eq.
+#[derive(Drop, PartialEq, Eq, PartialOrd, Ord, Hash)]
+pub struct TypeId {
+    head: &'static str,
+    nums: Items<usize>,
+    args: Items<TypeId>,
+}
+
+impl TypeId {
+    /// The identity with these parts; only moves.
+    #[tactic(auto, using(crate::proofs::Terms::term_of_roll))]
+    pub fn new(head: &'static str, nums: Vec<usize>, args: Vec<TypeId>) -> TypeId
+        ensures { term_of result ≡ term head.now nums.items (terms_of args.items) }
+    {
+        TypeId {
+            head,
+            nums: Items::from(nums),
+            args: Items::from(args),
+        }
+    }
+
+    /// The head, such as the type's name.
+    pub fn head(&self) -> &'static str
+        ensures { result.now ≡ (out-TypeId self.now).head.now }
+    {
+        self.head
+    }
+
+    /// The numbers, such as an array's length.
+    pub fn nums(&self) -> &[usize]
+        ensures { result.now ≡ (out-TypeId self.now).nums }
+    {
+        self.nums.as_slice()
+    }
+
+    /// The identities of the arguments, in order.
+    pub fn args(&self) -> &[TypeId]
+        ensures { result.now ≡ (out-TypeId self.now).args }
+    {
+        self.args.as_slice()
+    }
+}
+
+/// A type of the program, by its identity.
+#[derive(Drop, PartialEq, Eq, PartialOrd, Ord, Hash)]
+pub struct MetaType {
+    identity: TypeId,
+}
+
+impl MetaType {
+    /// The type's identity.
+    pub fn type_id(&self) -> &TypeId
+        ensures { result.now ≡ self.now.identity }
+    {
+        &self.identity
+    }
+}
+
+impl TryClone for usize {
+    fn try_clone(&self, _alloc: Global) -> Result<usize, AllocError> {
+        Ok(*self)
+    }
+}
+
+impl TryClone for TypeId {
+    fn try_clone(&self, alloc: Global) -> Result<TypeId, AllocError> {
+        let mut args = Items::new(alloc);
+        for arg in self.args.as_slice() {
+            args.push(arg.try_clone(alloc)?)?;
+        }
+        Ok(TypeId {
+            head: self.head,
+            nums: self.nums.try_clone(alloc)?,
+            args,
+        })
+    }
+}
+
+impl TryClone for MetaType {
+    fn try_clone(&self, alloc: Global) -> Result<MetaType, AllocError> {
+        Ok(MetaType {
+            identity: self.identity.try_clone(alloc)?,
+        })
+    }
+}

@@ -1,0 +1,481 @@
+//! Descriptions of types.
+//!
+//! A [`Type`] is a path, parameters, a definition and docs; a [`TypeDef`] is one of the eight kinds of
+//! definition that the crate `scale-info` has.
+ghost use Rattle.std.specs.Prelude.{◌≡◌, [], IfOk};
+ghost use Rattle.std.specs.Iterator.{IsFinite};
+ghost use Rattle.std.specs.Option.{option_copied};
+ghost use Rattle.scale_info_types.specs.Iterators.{GivesAll};
+ghost use Rattle.scale_info_types.specs.declared.ty.TypeDef.TheVariants as def;
+
+use crate::form::{Form, MetaForm, PortableForm};
+use crate::interner::UntrackedSymbol;
+use crate::items::Items;
+use crate::meta_type::TypeId;
+use crate::text::Text;
+use std::alloc::{AllocError, Global};
+
+pub mod composite;
+mod copies;
+pub mod fields;
+pub mod path;
+pub mod variant;
+
+pub use composite::TypeDefComposite;
+pub use fields::Field;
+pub use variant::TypeDefVariant;
+
+use path::Path;
+
+/// A description of a type, in the form `T`.
+///
+/// It is declared under the name `Description` and offered as [`Type`].
+#[derive(Drop)]
+#[derive_where(PartialEq, Eq, PartialOrd, Ord)]
+pub struct Description<T: Form = MetaForm> {
+    /// Where the type is declared, and its name; empty for built-in types.
+    pub path: Path<T>,
+    /// The type's parameters, in order.
+    pub type_params: Items<TypeParameter<T>>,
+    /// What values of the type are made of.
+    pub type_def: TypeDef<T>,
+    /// The lines of the type's documentation.
+    pub docs: Items<T::String>,
+}
+
+pub use Description as Type;
+
+impl<T: Form> Description<T> {
+    /// The description with these parts.
+    ///
+    /// Errors: `AllocError`, where memory for the list of parameters is refused.
+    pub fn new<I: IntoIterator<Item = TypeParameter<T>>>(
+        alloc: Global,
+        path: Path<T>,
+        type_params: I,
+        type_def: TypeDef<T>,
+        docs: Vec<T::String>,
+    ) -> Result<Description<T>, AllocError>
+        requires can { (it : I.IntoIter) → I.into_iter_gives type_params it → I.IntoIter.can_next it }
+        requires ends { (it : I.IntoIter) → I.into_iter_gives type_params it → IsFinite (I.IntoIter.remaining it) }
+        ensures path { IfOk result (λ d. d.path ≡ path) }
+        ensures type_params { IfOk result (λ d. GivesAll I.into_iter_gives I.IntoIter.next_gives type_params d.type_params) }
+        ensures type_def { IfOk result (λ d. d.type_def ≡ type_def) }
+        ensures docs { IfOk result (λ d. d.docs ≡ docs.items) }
+    {
+        Ok(Description {
+            path,
+            type_params: Items::from_iter(alloc, type_params)?,
+            type_def,
+            docs: Items::from(docs),
+        })
+    }
+
+    /// The description with this definition, and with empty path, parameters and docs.
+    pub fn from_def(alloc: Global, type_def: TypeDef<T>) -> Description<T>
+        ensures path { result.path.segments ≡ [] }
+        ensures type_params { result.type_params ≡ [] }
+        ensures type_def { result.type_def ≡ type_def }
+        ensures docs { result.docs ≡ [] }
+    {
+        Description {
+            path: Path::empty(alloc),
+            type_params: Items::new(alloc),
+            type_def,
+            docs: Items::new(alloc),
+        }
+    }
+
+    /// Where the type is declared, and its name.
+    pub fn path(&self) -> &Path<T>
+        ensures { result.now ≡ self.now.path }
+    {
+        &self.path
+    }
+
+    /// The type's parameters, in order.
+    pub fn type_params(&self) -> &[TypeParameter<T>]
+        ensures { result.now ≡ self.now.type_params }
+    {
+        self.type_params.as_slice()
+    }
+
+    /// What values of the type are made of.
+    pub fn type_def(&self) -> &TypeDef<T>
+        ensures { result.now ≡ self.now.type_def }
+    {
+        &self.type_def
+    }
+
+    /// The lines of documentation.
+    pub fn docs(&self) -> &[T::String]
+        ensures { result.now ≡ self.now.docs }
+    {
+        self.docs.as_slice()
+    }
+}
+
+impl<T: Form> From<(Path<T>, Vec<TypeParameter<T>>, TypeDef<T>, Vec<T::String>)> for Description<T> {
+    ghost from_gives = { λ parts d. d ≡ record { path = parts.0; type_params = parts.1.items; type_def = parts.2; docs = parts.3.items } };
+
+    fn from(parts: (Path<T>, Vec<TypeParameter<T>>, TypeDef<T>, Vec<T::String>)) -> Description<T> {
+        let (path, type_params, type_def, docs) = parts;
+        Description {
+            path,
+            type_params: Items::from(type_params),
+            type_def,
+            docs: Items::from(docs),
+        }
+    }
+}
+
+/// A parameter of a type, and the type that stands in its place.
+#[derive(Drop)]
+#[derive_where(PartialEq, Eq, PartialOrd, Ord)]
+pub struct TypeParameter<T: Form = MetaForm> {
+    /// The parameter's name, such as `T`.
+    pub name: T::String,
+    /// The type in its place; None where the parameter is skipped.
+    pub ty: Option<T::Ty>,
+}
+
+impl<T: Form> TypeParameter<T> {
+    /// The parameter with this name and type.
+    pub fn new(name: T::String, ty: Option<T::Ty>) -> TypeParameter<T>
+        ensures { result ≡ record { name = name; ty = ty } }
+    {
+        TypeParameter { name, ty }
+    }
+
+    /// The parameter's name.
+    pub fn name(&self) -> &T::String
+        ensures { result.now ≡ self.now.name }
+    {
+        &self.name
+    }
+
+    /// The type in its place, if it isn't skipped.
+    pub fn ty(&self) -> Option<&T::Ty>
+        ensures { option_copied result ≡ self.now.ty }
+    {
+        self.ty.as_ref()
+    }
+}
+
+impl TypeParameter<PortableForm> {
+    /// The portable parameter with this name and type.
+    pub fn new_portable(
+        name: Text,
+        ty: Option<UntrackedSymbol<TypeId>>,
+    ) -> TypeParameter<PortableForm>
+        ensures { result ≡ record { name = name; ty = ty } }
+    {
+        TypeParameter { name, ty }
+    }
+}
+
+impl<T: Form> From<(T::String, Option<T::Ty>)> for TypeParameter<T> {
+    ghost from_gives = { λ parts p. p ≡ record { name = parts.0; ty = parts.1 } };
+
+    fn from(parts: (T::String, Option<T::Ty>)) -> TypeParameter<T> {
+        let (name, ty) = parts;
+        TypeParameter { name, ty }
+    }
+}
+
+/// What values of a type are made of.
+#[derive(Drop)]
+#[derive_where(PartialEq, Eq, PartialOrd, Ord)]
+pub enum TypeDef<T: Form = MetaForm> {
+    /// A struct or a tuple struct.
+    Composite(TypeDefComposite<T>),
+    /// An enum.
+    Variant(TypeDefVariant<T>),
+    /// Items of one type, in any number.
+    Sequence(TypeDefSequence<T>),
+    /// Items of one type, in a fixed number.
+    Array(TypeDefArray<T>),
+    /// Members of several types.
+    Tuple(TypeDefTuple<T>),
+    /// A built-in type.
+    Primitive(TypeDefPrimitive),
+    /// A number in the compact encoding.
+    Compact(TypeDefCompact<T>),
+    /// A sequence of bits.
+    BitSequence(TypeDefBitSequence<T>),
+}
+
+impl<T: Form> From<TypeDefComposite<T>> for TypeDef<T> {
+    ghost from_gives = { λ part d. d ≡ def.Composite part };
+
+    fn from(def: TypeDefComposite<T>) -> TypeDef<T> {
+        TypeDef::Composite(def)
+    }
+}
+
+impl<T: Form> From<TypeDefVariant<T>> for TypeDef<T> {
+    ghost from_gives = { λ part d. d ≡ def.Variant part };
+
+    fn from(def: TypeDefVariant<T>) -> TypeDef<T> {
+        TypeDef::Variant(def)
+    }
+}
+
+impl<T: Form> From<TypeDefSequence<T>> for TypeDef<T> {
+    ghost from_gives = { λ part d. d ≡ def.Sequence part };
+
+    fn from(def: TypeDefSequence<T>) -> TypeDef<T> {
+        TypeDef::Sequence(def)
+    }
+}
+
+impl<T: Form> From<TypeDefArray<T>> for TypeDef<T> {
+    ghost from_gives = { λ part d. d ≡ def.Array part };
+
+    fn from(def: TypeDefArray<T>) -> TypeDef<T> {
+        TypeDef::Array(def)
+    }
+}
+
+impl<T: Form> From<TypeDefTuple<T>> for TypeDef<T> {
+    ghost from_gives = { λ part d. d ≡ def.Tuple part };
+
+    fn from(def: TypeDefTuple<T>) -> TypeDef<T> {
+        TypeDef::Tuple(def)
+    }
+}
+
+impl<T: Form> From<TypeDefPrimitive> for TypeDef<T> {
+    ghost from_gives = { λ part d. d ≡ def.Primitive part };
+
+    fn from(def: TypeDefPrimitive) -> TypeDef<T> {
+        TypeDef::Primitive(def)
+    }
+}
+
+impl<T: Form> From<TypeDefCompact<T>> for TypeDef<T> {
+    ghost from_gives = { λ part d. d ≡ def.Compact part };
+
+    fn from(def: TypeDefCompact<T>) -> TypeDef<T> {
+        TypeDef::Compact(def)
+    }
+}
+
+impl<T: Form> From<TypeDefBitSequence<T>> for TypeDef<T> {
+    ghost from_gives = { λ part d. d ≡ def.BitSequence part };
+
+    fn from(def: TypeDefBitSequence<T>) -> TypeDef<T> {
+        TypeDef::BitSequence(def)
+    }
+}
+
+/// A built-in type.
+#[derive(Clone, Copy, PartialEq, Eq, PartialOrd, Ord)]
+pub enum TypeDefPrimitive {
+    Bool,
+    Char,
+    Str,
+    U8,
+    U16,
+    U32,
+    U64,
+    U128,
+    /// An unsigned number of 256 bits.
+    U256,
+    I8,
+    I16,
+    I32,
+    I64,
+    I128,
+    /// A signed number of 256 bits.
+    I256,
+}
+
+/// Items of one type, in any number, as `Vec<T>` or `[T]`.
+#[derive(Drop)]
+#[derive_where(PartialEq, Eq, PartialOrd, Ord)]
+pub struct TypeDefSequence<T: Form = MetaForm> {
+    /// The items' type.
+    pub type_param: T::Ty,
+}
+
+impl<T: Form> TypeDefSequence<T> {
+    /// The sequence of items of this type.
+    pub fn new(type_param: T::Ty) -> TypeDefSequence<T>
+        ensures { result.type_param ≡ type_param }
+    {
+        TypeDefSequence { type_param }
+    }
+
+    /// The items' type.
+    pub fn type_param(&self) -> &T::Ty
+        ensures { result.now ≡ self.now.type_param }
+    {
+        &self.type_param
+    }
+}
+
+/// Items of one type, in a fixed number, as `[T; N]`.
+#[derive(Drop)]
+#[derive_where(PartialEq, Eq, PartialOrd, Ord)]
+pub struct TypeDefArray<T: Form = MetaForm> {
+    /// The number of items.
+    pub len: u32,
+    /// The items' type.
+    pub type_param: T::Ty,
+}
+
+impl<T: Form> TypeDefArray<T> {
+    /// The array of this many items of this type.
+    pub fn new(len: u32, type_param: T::Ty) -> TypeDefArray<T>
+        ensures { result ≡ record { len = len; type_param = type_param } }
+    {
+        TypeDefArray { len, type_param }
+    }
+
+    /// The number of items.
+    pub fn len(&self) -> u32
+        ensures { result ≡ self.now.len }
+    {
+        self.len
+    }
+
+    /// The items' type.
+    pub fn type_param(&self) -> &T::Ty
+        ensures { result.now ≡ self.now.type_param }
+    {
+        &self.type_param
+    }
+}
+
+/// Members of several types, as `(A, B)`.
+#[derive(Drop)]
+#[derive_where(PartialEq, Eq, PartialOrd, Ord)]
+pub struct TypeDefTuple<T: Form = MetaForm> {
+    /// The members' types, in order.
+    pub fields: Items<T::Ty>,
+}
+
+impl<T: Form> TypeDefTuple<T> {
+    /// The members' types, in order.
+    pub fn fields(&self) -> &[T::Ty]
+        ensures { result.now ≡ self.now.fields }
+    {
+        self.fields.as_slice()
+    }
+}
+
+impl TypeDefTuple<PortableForm> {
+    /// The tuple of members of these types, in order; none is left out.
+    ///
+    /// Errors: `AllocError`, where memory for the list is refused.
+    pub fn new_portable<I: IntoIterator<Item = UntrackedSymbol<TypeId>>>(
+        alloc: Global,
+        fields: I,
+    ) -> Result<TypeDefTuple<PortableForm>, AllocError>
+        requires can { (it : I.IntoIter) → I.into_iter_gives fields it → I.IntoIter.can_next it }
+        requires ends { (it : I.IntoIter) → I.into_iter_gives fields it → IsFinite (I.IntoIter.remaining it) }
+        ensures { IfOk result (λ d. GivesAll I.into_iter_gives I.IntoIter.next_gives fields d.fields) }
+    {
+        Ok(TypeDefTuple {
+            fields: Items::from_iter(alloc, fields)?,
+        })
+    }
+}
+
+/// A number in the compact encoding.
+#[derive(Drop)]
+#[derive_where(PartialEq, Eq, PartialOrd, Ord)]
+pub struct TypeDefCompact<T: Form = MetaForm> {
+    /// The number's type.
+    pub type_param: T::Ty,
+}
+
+impl<T: Form> TypeDefCompact<T> {
+    /// The compact number of this type.
+    pub fn new(type_param: T::Ty) -> TypeDefCompact<T>
+        ensures { result.type_param ≡ type_param }
+    {
+        TypeDefCompact { type_param }
+    }
+
+    /// The number's type.
+    pub fn type_param(&self) -> &T::Ty
+        ensures { result.now ≡ self.now.type_param }
+    {
+        &self.type_param
+    }
+}
+
+/// A sequence of bits, kept in numbers of one type and in an order.
+#[derive(Drop)]
+#[derive_where(PartialEq, Eq, PartialOrd, Ord)]
+pub struct TypeDefBitSequence<T: Form = MetaForm> {
+    /// The type of the numbers that keep the bits.
+    pub bit_store_type: T::Ty,
+    /// The type that names the order of the bits in such a number.
+    pub bit_order_type: T::Ty,
+}
+
+impl<T: Form> TypeDefBitSequence<T> {
+    /// The type of the numbers that keep the bits.
+    pub fn bit_store_type(&self) -> &T::Ty
+        ensures { result.now ≡ self.now.bit_store_type }
+    {
+        &self.bit_store_type
+    }
+
+    /// The type that names the order of the bits.
+    pub fn bit_order_type(&self) -> &T::Ty
+        ensures { result.now ≡ self.now.bit_order_type }
+    {
+        &self.bit_order_type
+    }
+}
+
+impl TypeDefBitSequence<PortableForm> {
+    /// The bit sequence with this store and order.
+    pub fn new_portable(
+        bit_store_type: UntrackedSymbol<TypeId>,
+        bit_order_type: UntrackedSymbol<TypeId>,
+    ) -> TypeDefBitSequence<PortableForm>
+        ensures { result ≡ record { bit_store_type = bit_store_type; bit_order_type = bit_order_type } }
+    {
+        TypeDefBitSequence {
+            bit_store_type,
+            bit_order_type,
+        }
+    }
+}
+
+/// A portable description with its id in a table.
+#[derive(Drop, PartialEq, Eq)]
+pub struct PortableType {
+    /// The id; in a table that this library makes, the place of the entry.
+    pub id: u32,
+    /// The description.
+    pub ty: Description<PortableForm>,
+}
+
+impl PortableType {
+    /// The entry with this id and description.
+    pub fn new(id: u32, ty: Description<PortableForm>) -> PortableType
+        ensures { result ≡ record { id = id; ty = ty } }
+    {
+        PortableType { id, ty }
+    }
+
+    /// The id.
+    pub fn id(&self) -> u32
+        ensures { result ≡ self.now.id }
+    {
+        self.id
+    }
+
+    /// The description.
+    pub fn ty(&self) -> &Description<PortableForm>
+        ensures { result.now ≡ self.now.ty }
+    {
+        &self.ty
+    }
+}
