@@ -1,0 +1,2 @@
+pub mod PortableSpelling
+pub mod PortableSpellingLaw

@@ -1,0 +1,20 @@
+//! Portable registries of types: tables by which a client in any language decodes SCALE values.
+#![tactic(auto)]
+
+pub mod portable;
+
+pub use scale_info_codec as codec;
+pub use scale_info_types::form;
+pub use scale_info_types::impls;
+pub use scale_info_types::items;
+pub use scale_info_types::text;
+pub use scale_info_types::try_clone;
+pub use scale_info_types::ty;
+pub use portable::PortableRegistry;
+pub use scale_info_types::meta_type::{MetaType, TypeId};
+pub use scale_info_types::ty::path::Path;
+pub use scale_info_types::ty::variant::Variant;
+pub use scale_info_types::ty::{
+    Field, PortableType, Type, TypeDef, TypeDefArray, TypeDefBitSequence, TypeDefCompact,
+    TypeDefComposite, TypeDefPrimitive, TypeDefSequence, TypeDefTuple, TypeDefVariant, TypeParameter,
+};
