@@ -1,2 +1,1 @@
 pub mod Iterators
-pub mod Terms

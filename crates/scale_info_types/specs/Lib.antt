@@ -3,4 +3,5 @@ pub mod Portable
 pub mod References
 pub mod Shapes
 pub mod Terms
+pub mod TermsSame
 pub mod formers

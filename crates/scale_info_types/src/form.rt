@@ -3,6 +3,8 @@ ghost use Rattle.std.specs.Prelude.{◌≡◌, ◌↔◌, ℕ, List, IfOk, IsTru
 ghost use Rattle.std.specs.Cmp.Lexicographic.{slice_cmp};
 ghost use Rattle.std.specs.Ordering.{nat_cmp};
 ghost use Rattle.std.proofs.Common.{rules, refl};
+ghost use Rattle.scale_info_types.specs.Terms.{Term, term_of};
+ghost use Rattle.scale_info_types.specs.TermsSame.{same_type_ids};
 
 use crate::interner::UntrackedSymbol;
 use crate::meta_type::{MetaType, TypeId};
@@ -21,6 +23,12 @@ pub trait Form: Drop {
     /// What stands for a text.
     type String: Ord + Drop;
 
+    /// What a type stands for, whatever memory holds it.
+    ghost Reference: { Type 0 };
+
+    /// The reading of a type.
+    ghost reference: { Self.Ty → Reference };
+
     /// The bytes of a text.
     ghost text: { Self.String → List ℕ };
 
@@ -36,6 +44,9 @@ pub trait Form: Drop {
     fn copy_string(alloc: Global, source: &Self::String) -> Result<Self::String, AllocError>
         ensures { IfOk result (λ copy. copy ≡ source.now) };
 
+    /// Types are equal exactly where they stand for one thing.
+    ghost reference_equal: { (a b : Self.Ty) → IsTrue (Self.Ty.eq a b) ↔ (reference a ≡ reference b) };
+
     /// Texts are equal exactly where their bytes are.
     ghost text_equal: { (a b : Self.String) → IsTrue (Self.String.eq a b) ↔ (text a ≡ text b) };
 
@@ -50,6 +61,12 @@ pub enum PortableForm {}
 impl Form for PortableForm {
     type Ty = UntrackedSymbol<TypeId>;
     type String = Text;
+
+    ghost Reference = { ℕ };
+
+    ghost reference = { λ symbol. symbol.id };
+
+    ghost reference_equal = { λ a b. Prim.search rules };
 
     ghost text = { λ a. a };
 
@@ -76,6 +93,12 @@ pub enum MetaForm {}
 impl Form for MetaForm {
     type Ty = MetaType;
     type String = &'static str;
+
+    ghost Reference = { Term };
+
+    ghost reference = { λ meta_type. term_of meta_type.identity };
+
+    ghost reference_equal = { λ a b. same_type_ids a.identity b.identity };
 
     ghost text = { λ a. a.now };
 

@@ -11,7 +11,7 @@ use std::alloc::{AllocError, Global};
 ///
 /// Eq decides whether two identities have one structure; Ord goes by head, numbers and arguments, in
 /// this order; Hash agrees with Eq.
-#[derive(Drop, PartialEq, Eq, PartialOrd, Ord, Hash)]
+#[derive(Debug, Drop, PartialEq, Eq, PartialOrd, Ord, Hash)]
 pub struct TypeId {
     head: &'static str,
     nums: Items<usize>,
@@ -20,7 +20,7 @@ pub struct TypeId {
 
 impl TypeId {
     /// The identity with these parts; only moves.
-    #[tactic(auto, using(crate::proofs::Terms::term_of_roll))]
+    #[tactic(auto, using(crate::specs::TermsSame::term_of_roll))]
     pub fn new(head: &'static str, nums: Vec<usize>, args: Vec<TypeId>) -> TypeId
         ensures { term_of result ≡ term head.now nums.items (terms_of args.items) }
     {
