@@ -52,3 +52,7 @@ Shape = Description (Unit {0}) (Unit {0}) (List ℕ)
 -- the shape of a description, where `text` gives the bytes of a text; shapes of both forms can be equal
 abbrev pub shape : {F T S : Type 0} → (S → List ℕ) → Description F T S → Shape
 shape text d = map_description (λ _. tt) text d
+
+-- the contents of a description: each type read as what it stands for, each text as its bytes, in no form
+abbrev pub content : {F T S R : Type 0} → (T → R) → (S → List ℕ) → Description F T S → Description (Unit {0}) R (List ℕ)
+content reference text d = map_description reference text d

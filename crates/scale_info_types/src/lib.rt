@@ -5,6 +5,7 @@ pub mod form;
 pub mod impls;
 pub mod interner;
 pub mod items;
+pub mod laws;
 pub mod mark;
 pub mod meta_type;
 pub mod text;

@@ -1,0 +1,52 @@
+//! Laws of identities and of descriptions. Nothing here does any work when it runs.
+ghost use Rattle.std.specs.Prelude.{◌≡◌, ◌↔◌, IsTrue};
+ghost use Rattle.std.specs.Cmp.Lexicographic.{slice_cmp};
+ghost use Rattle.std.specs.Ordering.{nat_cmp, ordering_then};
+ghost use Rattle.scale_info_types.specs.Shapes.{map_definition, content};
+ghost use Rattle.scale_info_types.specs.Terms.{term_of};
+ghost use Rattle.scale_info_types.specs.declared.meta_type.TypeId.{TypeId, out-TypeId};
+ghost use Rattle.scale_info_types.specs.declared.ty.TypeDef.{TypeDef};
+ghost use Rattle.scale_info_types.specs.declared.ty.Description.{Description};
+
+use crate::form::Form;
+use crate::ty::Type;
+
+/// Two identities are equal exactly where their terms are: heads by their bytes, numbers and arguments.
+///
+/// So the identity of `Vec<u8>` equals any other with the head `Vec`, no numbers and `u8` as its one
+/// argument, wherever its text and its lists lie in memory.
+pub fn equal_type_ids()
+    ensures { (a b : TypeId) → IsTrue (⟦<crate::meta_type::TypeId as PartialEq>⟧.eq a b) ↔ (term_of a ≡ term_of b) }
+{}
+
+/// Identities are ordered by their heads, then by their numbers, then by their arguments.
+pub fn ordered_type_ids()
+    ensures { (a b : TypeId) → ⟦<crate::meta_type::TypeId as Ord>⟧.cmp a b
+        ≡ ordering_then (slice_cmp nat_cmp (out-TypeId a).head.now (out-TypeId b).head.now)
+            (ordering_then (slice_cmp nat_cmp (out-TypeId a).nums (out-TypeId b).nums)
+                (slice_cmp ⟦<crate::meta_type::TypeId as Ord>⟧.cmp (out-TypeId a).args (out-TypeId b).args)) }
+{}
+
+/// Equal identities are hashed alike.
+pub fn hashed_type_ids()
+    ensures { (a b : TypeId) → IsTrue (⟦<crate::meta_type::TypeId as PartialEq>⟧.eq a b)
+        → ⟦<crate::meta_type::TypeId as std::hash::Hash>⟧.hash_input a ≡ ⟦<crate::meta_type::TypeId as std::hash::Hash>⟧.hash_input b }
+{}
+
+/// Two definitions are equal, in any form, exactly where their contents are.
+fn equal_definitions<T: Form>()
+    ensures { (a b : TypeDef T T.Ty T.String) → IsTrue (⟦<crate::ty::TypeDef<T> as PartialEq>⟧.eq a b)
+        ↔ (map_definition {G = Unit {0}} T.reference T.text a ≡ map_definition {G = Unit {0}} T.reference T.text b) }
+{}
+
+/// Two descriptions are equal, in any form, exactly where their contents are: the description with each
+/// type read as what it stands for and each text as its bytes.
+///
+/// So a description that differs in one line of docs, in an index or in the order of two fields is
+/// another one, and one that is copied to other memory is the same.
+pub fn equal_contents<T: Form>()
+    ensures { (a b : Description T T.Ty T.String) → IsTrue (⟦<Type<T> as PartialEq>⟧.eq a b)
+        ↔ (content T.reference T.text a ≡ content T.reference T.text b) }
+{
+    equal_definitions::<T>()
+}
