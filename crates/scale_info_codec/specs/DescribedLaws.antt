@@ -1,17 +1,16 @@
 -- The laws of spellings of descriptions.
-use Rattle.std.specs.Prelude.{◌≡◌, ℕ, ◌<◌, List, [], ◌∷◌, ◌++◌, Option}
+use Rattle.std.specs.Prelude.{◌≡◌, ℕ, ◌<◌, List, [], ◌∷◌, ◌++◌}
 use Rattle.std.proofs.Common.{ap, sym, ◌∙◌, refl, subst, lit<}
 use Rattle.std.specs.List.{AllByRecursion}
 use Rattle.scale_info_types.specs.Portable as portable
 use Rattle.scale_info_types.specs.declared.ty.TypeDef.TheVariants as def
 use Rattle.scale_info_types.specs.declared.ty.TypeDefPrimitive.{TypeDefPrimitive}
 use Rattle.scale_info_codec.specs.Spelling.{IsSpelling, IsByte}
-use Rattle.scale_info_codec.specs.Parts.{Behind}
 use Rattle.scale_info_codec.specs.NumberLaws.{u8_law, u32_law}
 use Rattle.scale_info_codec.specs.CompactLaw.{compact_law}
 use Rattle.scale_info_codec.specs.TextLaw.{text_law}
 use Rattle.scale_info_codec.specs.PartLaws.{pair_law, through_law, option_law, list_law}
-use Rattle.scale_info_codec.specs.Described.{SpellsId, SpellsPath, SpellsParameter, parameter_parts, SpellsField, field_parts, SpellsVariant, variant_parts, array_parts, bit_sequence_parts, PrimitiveByte, bool, char, str, u8, u16, u32, u64, u128, u256, i8, i16, i32, i64, i128, i256, SpellsPrimitive, DefinitionAt, composite, variant, sequence, array, tuple, primitive, compact, bit_sequence, SpellsTypeDef, SpellsDescription, description_parts, SpellsPortableType, portable_type_parts}
+use Rattle.scale_info_codec.specs.Described.{SpellsId, SpellsPath, SpellsParameter, parameter_parts, SpellsField, field_parts, SpellsVariant, variant_parts, PrimitiveByte, bool, char, str, u8, u16, u32, u64, u128, u256, i8, i16, i32, i64, i128, i256, SpellsPrimitive, DefinitionAt, composite, variant, sequence, array, tuple, primitive, compact, bit_sequence, SpellsTypeDef, SpellsDescription, description_parts, SpellsPortableType, portable_type_parts}
 
 pub id_law : IsSpelling SpellsId
 id_law = through_law (λ v. v.id) (λ v w e i. record { id = e i; marker = v.marker }) compact_law
@@ -24,13 +23,13 @@ parameter_law = through_law parameter_parts (λ v w e i. record { name = (e i).0
 
 pub field_law : IsSpelling SpellsField
 field_law = through_law field_parts
-  (λ v w e i. record { name = (e i).0; ty = (e i).1.0; type_name = (e i).1.1.0; docs = (e i).1.1.1 })
-  (pair_law (option_law text_law) (pair_law id_law (pair_law (option_law text_law) (list_law text_law))))
+    (λ v w e i. record { name = (e i).0; ty = (e i).1.0; type_name = (e i).1.1.0; docs = (e i).1.1.1 })
+    (pair_law (option_law text_law) (pair_law id_law (pair_law (option_law text_law) (list_law text_law))))
 
 pub variant_law : IsSpelling SpellsVariant
 variant_law = through_law variant_parts
-  (λ v w e i. record { name = (e i).0; fields = (e i).1.0; index = (e i).1.1.0; docs = (e i).1.1.1 })
-  (pair_law text_law (pair_law (list_law field_law) (pair_law u8_law (list_law text_law))))
+    (λ v w e i. record { name = (e i).0; fields = (e i).1.0; index = (e i).1.1.0; docs = (e i).1.1.1 })
+    (pair_law text_law (pair_law (list_law field_law) (pair_law u8_law (list_law text_law))))
 
 -- ---- primitives
 
@@ -152,9 +151,9 @@ type_def_law = record { one = type_def_one; front = type_def_front; bytes = type
 
 pub description_law : IsSpelling SpellsDescription
 description_law = through_law description_parts
-  (λ v w e i. record { path = (e i).0; type_params = (e i).1.0; type_def = (e i).1.1.0; docs = (e i).1.1.1 })
-  (pair_law path_law (pair_law (list_law parameter_law) (pair_law type_def_law (list_law text_law))))
+    (λ v w e i. record { path = (e i).0; type_params = (e i).1.0; type_def = (e i).1.1.0; docs = (e i).1.1.1 })
+    (pair_law path_law (pair_law (list_law parameter_law) (pair_law type_def_law (list_law text_law))))
 
 pub portable_type_law : IsSpelling SpellsPortableType
 portable_type_law = through_law portable_type_parts (λ v w e i. record { id = (e i).0.0; ty = (e i).1 })
-  (pair_law (through_law (λ n. n.0) (λ v w e i. record { 0 = e i }) compact_law) description_law)
+    (pair_law (through_law (λ n. n.0) (λ v w e i. record { 0 = e i }) compact_law) description_law)

@@ -261,7 +261,10 @@ impl Scale for TypeDef<PortableForm> {
         or_restore(out, start, written)
     }
 
-    fn decode_from(alloc: Global, input: &[u8]) -> Result<(TypeDef<PortableForm>, &[u8]), DecodeError> {
+    fn decode_from(
+        alloc: Global,
+        input: &[u8],
+    ) -> Result<(TypeDef<PortableForm>, &[u8]), DecodeError> {
         match input {
             [] => Err(DecodeError::Malformed),
             [index, rest @ ..] => {

@@ -9,11 +9,11 @@ use crate::error::{DecodeError, EncodeError};
 use crate::number::{compact_at, push_compact};
 use crate::scale::{Scale, or_restore};
 use scale_info_types::form::PortableForm;
+use scale_info_types::impls::Compact;
 use scale_info_types::interner::UntrackedSymbol;
 use scale_info_types::items::Items;
 use scale_info_types::meta_type::TypeId;
 use scale_info_types::text::Text;
-use scale_info_types::impls::Compact;
 use scale_info_types::ty::fields::Field;
 use scale_info_types::ty::path::Path;
 use scale_info_types::ty::variant::Variant;
@@ -28,7 +28,10 @@ impl Scale for UntrackedSymbol<TypeId> {
         Ok(())
     }
 
-    fn decode_from(_alloc: Global, input: &[u8]) -> Result<(UntrackedSymbol<TypeId>, &[u8]), DecodeError> {
+    fn decode_from(
+        _alloc: Global,
+        input: &[u8],
+    ) -> Result<(UntrackedSymbol<TypeId>, &[u8]), DecodeError> {
         match compact_at(input) {
             Some((id, rest)) => Ok((UntrackedSymbol::from(id), rest)),
             None => Err(DecodeError::Malformed),
@@ -45,7 +48,10 @@ impl Scale for Path<PortableForm> {
         self.segments.encode_to(out)
     }
 
-    fn decode_from(alloc: Global, input: &[u8]) -> Result<(Path<PortableForm>, &[u8]), DecodeError> {
+    fn decode_from(
+        alloc: Global,
+        input: &[u8],
+    ) -> Result<(Path<PortableForm>, &[u8]), DecodeError> {
         let (segments, rest) = Items::<Text>::decode_from(alloc, input)?;
         Ok((Path::from(segments), rest))
     }
@@ -75,7 +81,10 @@ impl Scale for Field<PortableForm> {
         or_restore(out, start, written)
     }
 
-    fn decode_from(alloc: Global, input: &[u8]) -> Result<(Field<PortableForm>, &[u8]), DecodeError> {
+    fn decode_from(
+        alloc: Global,
+        input: &[u8],
+    ) -> Result<(Field<PortableForm>, &[u8]), DecodeError> {
         let ((name, (ty, (type_name, docs))), rest) = Scale::decode_from(alloc, input)?;
         let field = Field {
             name,
@@ -145,7 +154,10 @@ impl Scale for Variant<PortableForm> {
         or_restore(out, start, written)
     }
 
-    fn decode_from(alloc: Global, input: &[u8]) -> Result<(Variant<PortableForm>, &[u8]), DecodeError> {
+    fn decode_from(
+        alloc: Global,
+        input: &[u8],
+    ) -> Result<(Variant<PortableForm>, &[u8]), DecodeError> {
         let ((name, (fields, (index, docs))), rest) = Scale::decode_from(alloc, input)?;
         let variant = Variant {
             name,
@@ -293,11 +305,12 @@ impl Scale for PortableType {
     }
 
     fn decode_from(alloc: Global, input: &[u8]) -> Result<(PortableType, &[u8]), DecodeError> {
-        let ((number, ty), rest) = <(Compact<u32>, Description<PortableForm>)>::decode_from(alloc, input)?;
+        let ((number, ty), rest) = <(Compact<u32>, Description<PortableForm>)>::decode_from(
+            alloc, input,
+        )?;
         let Compact(id) = number;
         Ok((PortableType { id, ty }, rest))
     }
 
     ghost law = { portable_type_law };
 }
-

@@ -1,5 +1,5 @@
 -- Comparison part by part decides equality of contents.
-use Rattle.std.proofs.Common.{◌≡◌, ◌↔◌, ◌&&◌, ◌==◌, ℕ, Bool, true, false, IsTrue, List, [], ◌∷◌, map, Option, Some, None, option_map, refl, ap, rules, arith}
+use Rattle.std.proofs.Common.{◌≡◌, ◌↔◌, ◌&&◌, ◌==◌, ℕ, Bool, true, false, IsTrue, List, [], ◌∷◌, map, Some, None, option_map, refl, ap, rules, arith}
 use Rattle.std.proofs.lemmas.Grind.{common_steps}
 use Rattle.std.specs.Option.{option_eq}
 use lib.Pointwise.{pointwise}
@@ -27,7 +27,7 @@ same_list eq read law [] (y ∷ ys) = ((λ h. cc), (λ h. cc))
 same_list eq read law (x ∷ xs) [] = ((λ h. cc), (λ h. cc))
 same_list eq read law (x ∷ xs) (y ∷ ys) =
     through (and_same _ _ (law x y) (same_list eq read law xs ys)) (λ e. λ i. e.0 i ∷ e.1 i)
-      (λ e. let first : read x ≡ read y = cc in let rest : map read xs ≡ map read ys = cc in (first, rest))
+    (λ e. let first : read x ≡ read y = cc in let rest : map read xs ≡ map read ys = cc in (first, rest))
 
 pub same_option : {X Y : Type 0} (eq : X → X → Bool) (read : X → Y) → Decides eq read → Decides (option_eq eq) (option_map read)
 same_option eq read law None None = ((λ _. refl), (λ _. refl))
@@ -39,7 +39,7 @@ pub same_number : (m n : ℕ) → IsTrue (m == n) ↔ (m ≡ n)
 same_number m n = ((λ h. grind (arith, common_steps, rules)), (λ h. grind (arith, common_steps, rules)))
 
 module _ {F T S R : Type 0} (ty_eq : T → T → Bool) (text_eq : S → S → Bool) (reference : T → R) (text : S → List ℕ)
-  (ty_law : Decides ty_eq reference) (text_law : Decides text_eq text) where
+    (ty_law : Decides ty_eq reference) (text_law : Decides text_eq text) where
   abbrev pub path_eq : Path F T S → Path F T S → Bool
   path_eq a b = pointwise text_eq a.segments b.segments
 
@@ -55,8 +55,8 @@ module _ {F T S R : Type 0} (ty_eq : T → T → Bool) (text_eq : S → S → Bo
       → IsTrue (parameter_eq a b) ↔ (map_parameter {G = Unit {0}} reference text a ≡ map_parameter {G = Unit {0}} reference text b)
   same_parameter a b =
       through (and_same _ _ (text_law a.name b.name) (same_option ty_eq reference ty_law a.ty b.ty))
-        (λ e. λ i. record { name = e.0 i; ty = e.1 i })
-        (λ e. (ap (λ p. p.name) e, ap (λ p. p.ty) e))
+      (λ e. λ i. record { name = e.0 i; ty = e.1 i })
+      (λ e. (ap (λ p. p.name) e, ap (λ p. p.ty) e))
 
   abbrev pub field_eq : Field F T S → Field F T S → Bool
   field_eq a b =
@@ -66,10 +66,10 @@ module _ {F T S R : Type 0} (ty_eq : T → T → Bool) (text_eq : S → S → Bo
   same_field a b =
       let names = same_option text_eq text text_law in
       through
-        (and_same _ _ (names a.name b.name)
-          (and_same _ _ (ty_law a.ty b.ty) (and_same _ _ (names a.type_name b.type_name) (same_list text_eq text text_law a.docs b.docs))))
-        (λ e. λ i. record { name = e.0 i; ty = e.1.0 i; type_name = e.1.1.0 i; docs = e.1.1.1 i })
-        (λ e. (ap (λ f. f.name) e, (ap (λ f. f.ty) e, (ap (λ f. f.type_name) e, ap (λ f. f.docs) e))))
+      (and_same _ _ (names a.name b.name)
+      (and_same _ _ (ty_law a.ty b.ty) (and_same _ _ (names a.type_name b.type_name) (same_list text_eq text text_law a.docs b.docs))))
+      (λ e. λ i. record { name = e.0 i; ty = e.1.0 i; type_name = e.1.1.0 i; docs = e.1.1.1 i })
+      (λ e. (ap (λ f. f.name) e, (ap (λ f. f.ty) e, (ap (λ f. f.type_name) e, ap (λ f. f.docs) e))))
 
   abbrev pub variant_eq : Variant F T S → Variant F T S → Bool
   variant_eq a b = text_eq a.name b.name && (pointwise field_eq a.fields b.fields && (a.index == b.index && pointwise text_eq a.docs b.docs))
@@ -78,8 +78,8 @@ module _ {F T S R : Type 0} (ty_eq : T → T → Bool) (text_eq : S → S → Bo
       (a b : Variant F T S) → IsTrue (variant_eq a b) ↔ (map_variant {G = Unit {0}} reference text a ≡ map_variant {G = Unit {0}} reference text b)
   same_variant a b =
       through
-        (and_same _ _ (text_law a.name b.name)
-          (and_same _ _ (same_list field_eq (map_field {G = Unit {0}} reference text) same_field a.fields b.fields)
-            (and_same _ _ (same_number a.index b.index) (same_list text_eq text text_law a.docs b.docs))))
-        (λ e. λ i. record { name = e.0 i; fields = e.1.0 i; index = e.1.1.0 i; docs = e.1.1.1 i })
-        (λ e. (ap (λ v. v.name) e, (ap (λ v. v.fields) e, (ap (λ v. v.index) e, ap (λ v. v.docs) e))))
+      (and_same _ _ (text_law a.name b.name)
+      (and_same _ _ (same_list field_eq (map_field {G = Unit {0}} reference text) same_field a.fields b.fields)
+      (and_same _ _ (same_number a.index b.index) (same_list text_eq text text_law a.docs b.docs))))
+      (λ e. λ i. record { name = e.0 i; fields = e.1.0 i; index = e.1.1.0 i; docs = e.1.1.1 i })
+      (λ e. (ap (λ v. v.name) e, (ap (λ v. v.fields) e, (ap (λ v. v.index) e, ap (λ v. v.docs) e))))

@@ -1,5 +1,5 @@
 -- Equal definitions of one kind have equal parts.
-use Rattle.std.proofs.Common.{◌≡◌, ap}
+use Rattle.std.proofs.Common.{◌≡◌}
 use Rattle.scale_info_types.specs.declared.ty.TypeDef.TheVariants as def
 use Rattle.scale_info_types.specs.declared.ty.TypeDefPrimitive.{TypeDefPrimitive}
 use Rattle.scale_info_types.specs.declared.ty.composite.TypeDefComposite.{TypeDefComposite}

@@ -1,15 +1,15 @@
 -- Equality of identities is equality of their terms.
-use Rattle.std.proofs.Common.{◌≡◌, ◌↔◌, ◌&&◌, ℕ, Bool, true, false, IsTrue, List, [], ◌∷◌, map, rules, arith, refl, subst}
+use Rattle.std.proofs.Common.{◌≡◌, ◌↔◌, ◌&&◌, ℕ, Bool, IsTrue, List, [], ◌∷◌, map, rules, arith, refl, subst}
 use Rattle.std.proofs.lemmas.Grind.{common_steps}
 use lib.Dec.{eqb}
 use lib.Pointwise.{pointwise}
-use Rattle.scale_info_types.specs.Terms.{Term, Terms, term, terms, no_terms, more_terms, term_step, term_of, terms_of}
+use Rattle.scale_info_types.specs.Terms.{Term, Terms, term, term_step, term_of, terms_of}
 use Rattle.scale_info_types.specs.declared.meta_type.TypeId.{TypeId}
 use Rattle.scale_info_types.specs.declared.meta_type.TypeId.TheOpen.{TypeId-F}
 use Rattle.scale_info_types.specs.declared.meta_type.TypeId.TheViews.{out-TypeId, roll-TypeId, out-roll-TypeId}
 use Rattle.scale_info_types.specs.declared.meta_type.TypeId.TheFolds.{ind-TypeId, fold-roll-TypeId, fold_out-TypeId}
 use Rattle.scale_info_types.specs.contracts.meta_type.TypeIdPartialEq.TheImpl.{ghosts}
-use Rattle.scale_info_types.specs.contracts.meta_type.TypeIdPartialEq.TheImpl.Laws.{unfolded, is}
+use Rattle.scale_info_types.specs.contracts.meta_type.TypeIdPartialEq.TheImpl.Laws.{is}
 
 pub term_of_roll : (x : TypeId-F TypeId) → term_of (roll-TypeId x) ≡ term x.head.now x.nums (terms_of x.args)
 term_of_roll = fold-roll-TypeId Term term_step
@@ -50,14 +50,14 @@ parts_same p q r h h' n n' a a' f g k = ((λ t. grind (common_steps, rules)), (�
 same_as : (t : TypeId) → SameAs t
 same_as =
     ind-TypeId SameAs (λ x y joined s.
-      let u = is (roll-TypeId x) s in
-      let o = out-roll-TypeId x in
-      let args =
-          subst (λ z. IsTrue (pointwise type_eq z.args (out-TypeId s).args) ↔ (terms_of z.args ≡ terms_of (out-TypeId s).args)) joined
-            (terms_same y.args (out-TypeId s).args)
-      in
-      rw (u, o, term_of_roll x, term_of_out s)
-        (parts_same _ _ _ _ _ _ _ _ _ (numbers_same x.head.now (out-TypeId s).head.now) (numbers_same x.nums (out-TypeId s).nums) args))
+    let u = is (roll-TypeId x) s in
+    let o = out-roll-TypeId x in
+    let args =
+    subst (λ z. IsTrue (pointwise type_eq z.args (out-TypeId s).args) ↔ (terms_of z.args ≡ terms_of (out-TypeId s).args)) joined
+    (terms_same y.args (out-TypeId s).args)
+    in
+    rw (u, o, term_of_roll x, term_of_out s)
+    (parts_same _ _ _ _ _ _ _ _ _ (numbers_same x.head.now (out-TypeId s).head.now) (numbers_same x.nums (out-TypeId s).nums) args))
 
 -- two identities are equal exactly where their terms are
 pub same_type_ids : (a b : TypeId) → IsTrue (type_eq a b) ↔ (term_of a ≡ term_of b)

@@ -60,6 +60,7 @@ pub enum PortableForm {}
 
 impl Form for PortableForm {
     type Ty = UntrackedSymbol<TypeId>;
+
     type String = Text;
 
     ghost Reference = { ℕ };
@@ -92,6 +93,7 @@ pub enum MetaForm {}
 
 impl Form for MetaForm {
     type Ty = MetaType;
+
     type String = &'static str;
 
     ghost Reference = { Term };

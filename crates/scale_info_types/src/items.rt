@@ -8,11 +8,10 @@ ghost use Rattle.std.specs.Hash.{items_Alike};
 
 use std::alloc::{AllocError, AllocFailed, Global};
 use std::cmp::Ordering;
-use std::fmt;
 use std::hash::{Hash, Hasher};
 use std::iter::FromIterator;
 use std::marker::Model;
-use std::slice;
+use std::{fmt, slice};
 
 /// A list. Two lists with equal elements are one value to a contract, which two `Vec`s are not.
 ///
@@ -106,7 +105,10 @@ impl<T: Drop> FromIterator<T> for Items<T> {
 
     ghost from_iter_gives = { λ given items. items ≡ given };
 
-    fn from_iter<U: IntoIterator<Item = T>>(alloc: Global, iter: U) -> Result<Items<T>, AllocError> {
+    fn from_iter<U: IntoIterator<Item = T>>(
+        alloc: Global,
+        iter: U,
+    ) -> Result<Items<T>, AllocError> {
         Ok(Items {
             all: Vec::from_iter(alloc, iter)?,
         })

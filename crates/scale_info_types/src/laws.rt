@@ -23,8 +23,8 @@ pub fn equal_type_ids()
 pub fn ordered_type_ids()
     ensures { (a b : TypeId) → ⟦<crate::meta_type::TypeId as Ord>⟧.cmp a b
         ≡ ordering_then (slice_cmp nat_cmp (out-TypeId a).head.now (out-TypeId b).head.now)
-            (ordering_then (slice_cmp nat_cmp (out-TypeId a).nums (out-TypeId b).nums)
-                (slice_cmp ⟦<crate::meta_type::TypeId as Ord>⟧.cmp (out-TypeId a).args (out-TypeId b).args)) }
+        (ordering_then (slice_cmp nat_cmp (out-TypeId a).nums (out-TypeId b).nums)
+        (slice_cmp ⟦<crate::meta_type::TypeId as Ord>⟧.cmp (out-TypeId a).args (out-TypeId b).args)) }
 {}
 
 /// Equal identities are hashed alike.

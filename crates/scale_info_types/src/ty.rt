@@ -23,9 +23,8 @@ pub mod variant;
 
 pub use composite::TypeDefComposite;
 pub use fields::Field;
-pub use variant::TypeDefVariant;
-
 use path::Path;
+pub use variant::TypeDefVariant;
 
 /// A description of a type, in the form `T`.
 ///
@@ -115,7 +114,8 @@ impl<T: Form> Description<T> {
     }
 }
 
-impl<T: Form> From<(Path<T>, Vec<TypeParameter<T>>, TypeDef<T>, Vec<T::String>)> for Description<T> {
+impl<T: Form> From<(Path<T>, Vec<TypeParameter<T>>, TypeDef<T>, Vec<T::String>)>
+    for Description<T> {
     ghost from_gives = { λ parts d. d ≡ record { path = parts.0; type_params = parts.1.items; type_def = parts.2; docs = parts.3.items } };
 
     fn from(parts: (Path<T>, Vec<TypeParameter<T>>, TypeDef<T>, Vec<T::String>)) -> Description<T> {

@@ -6,8 +6,8 @@ use super::fields::Field;
 use super::path::Path;
 use super::variant::{TypeDefVariant, Variant};
 use super::{
-    Description, PortableType, TypeDef, TypeDefArray, TypeDefBitSequence, TypeDefCompact, TypeDefPrimitive,
-    TypeDefSequence, TypeDefTuple, TypeParameter,
+    Description, PortableType, TypeDef, TypeDefArray, TypeDefBitSequence, TypeDefCompact,
+    TypeDefPrimitive, TypeDefSequence, TypeDefTuple, TypeParameter,
 };
 use crate::form::Form;
 use crate::items::Items;
@@ -55,10 +55,7 @@ fn copy_strings<T: Form>(
 }
 
 /// A copy of a list of types.
-fn copy_types<T: Form>(
-    alloc: Global,
-    types: &Items<T::Ty>,
-) -> Result<Items<T::Ty>, AllocError>
+fn copy_types<T: Form>(alloc: Global, types: &Items<T::Ty>) -> Result<Items<T::Ty>, AllocError>
     ensures { IfOk result (λ copy. copy ≡ types.now) }
 {
     let mut copy = Items::new(alloc);

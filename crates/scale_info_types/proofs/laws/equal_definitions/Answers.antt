@@ -1,4 +1,4 @@
-use Rattle.std.proofs.Common.{◌≡◌, ap, rules}
+use Rattle.std.proofs.Common.{ap, rules}
 use denote.Enum.Bare.{same_true, true_same}
 use Rattle.scale_info_types.specs.contracts.ty.TypeDefPrimitive.{the_type}
 use Rattle.scale_info_types.proofs.Injective.{composite_parts, variant_parts, sequence_parts, array_parts, tuple_parts, primitive_parts, compact_parts, bit_sequence_parts}
@@ -11,7 +11,7 @@ pub returns : goal.returns
 returns g c =
     let type_law = g.met.T.Form.reference_equal in
     elim [
-      def.Composite a ↦ elim [ def.Composite b ↦ through (same_list _ _ (same_field g.T.Ty.PartialEq.eq g.T.String.PartialEq.eq g.T.Form.reference g.T.Form.text g.met.T.Form.reference_equal g.met.T.Form.text_equal) a.fields b.fields) (λ e. λ i. def.Composite (record { fields = e i })) (λ e. ap (λ d. d.fields) (composite_parts _ _ e)) | _ ↦ ((λ h. cc), (λ h. cc)) ]
+      | def.Composite a ↦ elim [ def.Composite b ↦ through (same_list _ _ (same_field g.T.Ty.PartialEq.eq g.T.String.PartialEq.eq g.T.Form.reference g.T.Form.text g.met.T.Form.reference_equal g.met.T.Form.text_equal) a.fields b.fields) (λ e. λ i. def.Composite (record { fields = e i })) (λ e. ap (λ d. d.fields) (composite_parts _ _ e)) | _ ↦ ((λ h. cc), (λ h. cc)) ]
       | def.Variant a ↦ elim [ def.Variant b ↦ through (same_list _ _ (same_variant g.T.Ty.PartialEq.eq g.T.String.PartialEq.eq g.T.Form.reference g.T.Form.text g.met.T.Form.reference_equal g.met.T.Form.text_equal) a.variants b.variants) (λ e. λ i. def.Variant (record { variants = e i })) (λ e. ap (λ d. d.variants) (variant_parts _ _ e)) | _ ↦ ((λ h. cc), (λ h. cc)) ]
       | def.Sequence a ↦ elim [ def.Sequence b ↦ through (type_law a.type_param b.type_param) (λ e. λ i. def.Sequence (record { type_param = e i })) (λ e. ap (λ d. d.type_param) (sequence_parts _ _ e)) | _ ↦ ((λ h. cc), (λ h. cc)) ]
       | def.Array a ↦ elim [ def.Array b ↦ through (and_same _ _ (same_number a.len b.len) (type_law a.type_param b.type_param)) (λ e. λ i. def.Array (record { len = e.0 i; type_param = e.1 i })) (λ e. let same = array_parts _ _ e in (ap (λ d. d.len) same, ap (λ d. d.type_param) same)) | _ ↦ ((λ h. cc), (λ h. cc)) ]

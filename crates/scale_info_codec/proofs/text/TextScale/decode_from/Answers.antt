@@ -1,4 +1,4 @@
-use Rattle.std.proofs.Common.{◌≡◌, arith, sym, subst, ◌∙◌, take}
+use Rattle.std.proofs.Common.{◌≡◌, sym, subst, ◌∙◌, take}
 use Rattle.std.specs.Prelude.{IsUtf8}
 use Rattle.scale_info_codec.proofs.TextAt.{no_text_count, no_text_short, no_text_utf8, front_text}
 use Rattle.scale_info_codec.proofs.text.TextScale.decode_from.Goals as goal
