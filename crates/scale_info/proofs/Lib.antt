@@ -1,0 +1,17 @@
+pub mod Carrying
+pub mod Composing
+pub mod Composites
+pub mod Extensions
+pub mod FirstReference
+pub mod Listed
+pub mod Loops
+pub mod Matches
+pub mod Paths
+pub mod Places
+pub mod PlacesOf
+pub mod Pruned
+pub mod Reached
+pub mod SideBySide
+pub mod Tables
+pub mod Tours
+pub mod Walking

@@ -1,2 +1,12 @@
+pub mod Examples
+pub mod Extensions
+pub mod Matches
+pub mod Numberings
+pub mod Paths
 pub mod PortableSpelling
 pub mod PortableSpellingLaw
+pub mod PortableTables
+pub mod Registrations
+pub mod Systems
+pub mod Tables
+pub mod Unfoldings

@@ -1,6 +1,7 @@
 //! Portable registries of types: tables by which a client in any language decodes SCALE values.
 #![tactic(auto)]
 
+pub mod laws;
 pub mod portable;
 
 pub use scale_info_codec as codec;
