@@ -1,0 +1,6 @@
+//! The worked tables and rows of the library and of its program, as tests.
+#![tactic(auto)]
+
+#[cfg(test)]
+mod codec;
+pub mod tables;
