@@ -7,6 +7,7 @@ pub mod portable;
 pub use scale_info_codec as codec;
 pub use scale_info_types::form;
 pub use scale_info_types::impls;
+pub use scale_info_types::interner;
 pub use scale_info_types::items;
 pub use scale_info_types::text;
 pub use scale_info_types::try_clone;

@@ -27,7 +27,7 @@ impl PortableRegistry {
     pub fn resolve(&self, id: u32) -> Option<&Type<PortableForm>>
         ensures { option_copied result ≡ option_map (λ entry. entry.ty) (slice_get self.now.types id) }
     {
-        self.types.as_slice().get(id as usize).map(|entry| &entry.ty)
+        self.types().get(id as usize).map(|entry| &entry.ty)
     }
 
     /// The entries, in order.

@@ -3,4 +3,9 @@
 
 #[cfg(test)]
 mod codec;
+#[cfg(test)]
+mod constructors;
+#[cfg(test)]
+mod orders;
+pub mod parts;
 pub mod tables;
