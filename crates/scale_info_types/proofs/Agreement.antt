@@ -40,6 +40,16 @@ module _ {A B C R : Type 0} (short : A → B) (full : A → C) (refs : A → Lis
             (λ i. f.0 i ∷ r.0 i, f.1)),
       )
 
+-- a larger value with one part that has references
+agree_inside :
+    {P Q B C X Y : Type 0} {p p' : P} {q q' : Q} (short : P → B) (full : Q → C) → (short p ≡ short p' → p ≡ p') → (full q ≡ full q' → q ≡ q')
+    → ((p ≡ p') × X) ↔ ((q ≡ q') × Y)
+    → ((short p ≡ short p') × X) ↔ ((full q ≡ full q') × Y)
+agree_inside short full open_short open_full law = (
+  (λ h. let e = law.0 (open_short h.0, h.1) in (ap full e.0, e.1)),
+  (λ h. let e = law.1 (open_full h.0, h.1) in (ap short e.0, e.1)),
+)
+
 -- where nothing is behind
 pub agree_whole :
     {A B C R : Type 0} (short : A → B) (full : A → C) (refs : A → List R) → Agree short full refs
@@ -128,34 +138,23 @@ module _ {F T S R : Type 0} (reference : T → R) (text : S → List ℕ) where
       elim [
         | def.Composite a ↦ elim [
           | def.Composite b ↦ λ x y.
-              let law = agree_fields a.fields b.fields x y in (
-                (λ h.
-                    let e = law.0 (ap (λ d. d.fields) (composite_parts _ _ h.0), h.1) in
-                    (λ i. def.Composite (record { fields = e.0 i }), e.1)),
-                (λ h.
-                    let e = law.1 (ap (λ d. d.fields) (composite_parts _ _ h.0), h.1) in
-                    (λ i. def.Composite (record { fields = e.0 i }), e.1)),
-              )
+              agree_inside (λ p. def.Composite (record { fields = p })) (λ p. def.Composite (record { fields = p }))
+              (λ e. ap (λ d. d.fields) (composite_parts _ _ e)) (λ e. ap (λ d. d.fields) (composite_parts _ _ e))
+              (agree_fields a.fields b.fields x y)
           | _ ↦ λ x y. ((λ h. cc), (λ h. cc))
         ]
         | def.Variant a ↦ elim [
           | def.Variant b ↦ λ x y.
-              let law = agree_variants a.variants b.variants x y in (
-                (λ h.
-                    let e = law.0 (ap (λ d. d.variants) (variant_parts _ _ h.0), h.1) in
-                    (λ i. def.Variant (record { variants = e.0 i }), e.1)),
-                (λ h.
-                    let e = law.1 (ap (λ d. d.variants) (variant_parts _ _ h.0), h.1) in
-                    (λ i. def.Variant (record { variants = e.0 i }), e.1)),
-              )
+              agree_inside (λ p. def.Variant (record { variants = p })) (λ p. def.Variant (record { variants = p }))
+              (λ e. ap (λ d. d.variants) (variant_parts _ _ e)) (λ e. ap (λ d. d.variants) (variant_parts _ _ e))
+              (agree_variants a.variants b.variants x y)
           | _ ↦ λ x y. ((λ h. cc), (λ h. cc))
         ]
         | def.Sequence a ↦ elim [
           | def.Sequence b ↦ λ x y.
-              let law = agree_type reference a.type_param b.type_param x y in (
-                (λ h. let e = law.0 (refl, h.1) in (λ i. def.Sequence (record { type_param = e.0 i }), e.1)),
-                (λ h. (refl, (law.1 (ap (λ d. d.type_param) (sequence_parts _ _ h.0), h.1)).1)),
-              )
+              agree_inside (λ p. def.Sequence (record { type_param = p })) (λ p. def.Sequence (record { type_param = p }))
+              (λ e. ap (λ d. d.type_param) (sequence_parts _ _ e)) (λ e. ap (λ d. d.type_param) (sequence_parts _ _ e))
+              (agree_type reference a.type_param b.type_param x y)
           | _ ↦ λ x y. ((λ h. cc), (λ h. cc))
         ]
         | def.Array a ↦ elim [
@@ -173,14 +172,9 @@ module _ {F T S R : Type 0} (reference : T → R) (text : S → List ℕ) where
         ]
         | def.Tuple a ↦ elim [
           | def.Tuple b ↦ λ x y.
-              let law = agree_types reference a.fields b.fields x y in (
-                (λ h.
-                    let e = law.0 (ap (λ d. d.fields) (tuple_parts _ _ h.0), h.1) in
-                    (λ i. def.Tuple (record { fields = e.0 i }), e.1)),
-                (λ h.
-                    let e = law.1 (ap (λ d. d.fields) (tuple_parts _ _ h.0), h.1) in
-                    (λ i. def.Tuple (record { fields = e.0 i }), e.1)),
-              )
+              agree_inside (λ p. def.Tuple (record { fields = p })) (λ p. def.Tuple (record { fields = p }))
+              (λ e. ap (λ d. d.fields) (tuple_parts _ _ e)) (λ e. ap (λ d. d.fields) (tuple_parts _ _ e))
+              (agree_types reference a.fields b.fields x y)
           | _ ↦ λ x y. ((λ h. cc), (λ h. cc))
         ]
         | def.Primitive a ↦ elim [
@@ -190,10 +184,9 @@ module _ {F T S R : Type 0} (reference : T → R) (text : S → List ℕ) where
         ]
         | def.Compact a ↦ elim [
           | def.Compact b ↦ λ x y.
-              let law = agree_type reference a.type_param b.type_param x y in (
-                (λ h. let e = law.0 (refl, h.1) in (λ i. def.Compact (record { type_param = e.0 i }), e.1)),
-                (λ h. (refl, (law.1 (ap (λ d. d.type_param) (compact_parts _ _ h.0), h.1)).1)),
-              )
+              agree_inside (λ p. def.Compact (record { type_param = p })) (λ p. def.Compact (record { type_param = p }))
+              (λ e. ap (λ d. d.type_param) (compact_parts _ _ e)) (λ e. ap (λ d. d.type_param) (compact_parts _ _ e))
+              (agree_type reference a.type_param b.type_param x y)
           | _ ↦ λ x y. ((λ h. cc), (λ h. cc))
         ]
         | def.BitSequence a ↦ elim [

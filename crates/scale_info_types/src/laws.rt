@@ -54,35 +54,35 @@ pub fn equal_contents<T: Form>()
     equal_definitions::<T>()
 }
 
-/// The content of a description, in any form, is its shape and what its references stand for, in order;
-/// neither says anything of the other.
+/// A portable description is its shape and its references: no two share both.
+///
+/// So the description of a pair can be kept as the shape `(_, _)` and the list `[2, 3]` of the ids that
+/// fill it.
+pub fn shape_and_references()
+    ensures { (a b : portable.Description) → shape (λ text. text) a ≡ shape (λ text. text) b → references a ≡ references b → a ≡ b }
+{}
+
+/// The content of a description, in any form, is its shape and what its references stand for, in order.
 ///
 /// So two descriptions are `==` exactly where their shapes are equal and their references stand, one by
-/// one, for the same types: `struct P { a: u8, b: u16 }` and `struct P { a: u16, b: u8 }` have one shape,
-/// and the same references in another order, and are not `==`.
+/// one, for the same types. `(u8, u16)` and `(u16, u8)` have one shape, but their references stand for
+/// the types in another order, so the two are not `==`.
 pub fn shape_and_references_of<T: Form>()
     ensures { (a b : Description T T.Ty T.String) → (content T.reference T.text a ≡ content T.reference T.text b)
         ↔ ((shape T.text a ≡ shape T.text b) × (map T.reference (references a) ≡ map T.reference (references b))) }
 {}
 
-/// Descriptions of one shape have equally many references, in any form and whatever the texts are made of.
+/// Descriptions of one shape have equally many references.
 ///
-/// So a program that knows the shape of `struct P { a: u8, b: u16 }` knows that two types have to be named.
+/// So the shape `(_, _)` says that two types fill it.
 pub fn same_shape_same_counts<T: Form>()
     ensures { (a b : Description T T.Ty T.String) → shape T.text a ≡ shape T.text b → length (references a) ≡ length (references b) }
 {}
 
-/// A portable description is its shape and its references: no two share both.
+/// In the portable form `==` is equality: the comparison passes over nothing that a description or an
+/// entry holds.
 ///
-/// So a table's entry can be kept as a shape, `struct P { a: _, b: _ }`, and the list `[2, 3]` of the ids
-/// that fill it.
-pub fn shape_and_references()
-    ensures { (a b : portable.Description) → shape (λ text. text) a ≡ shape (λ text. text) b → references a ≡ references b → a ≡ b }
-{}
-
-/// In the portable form `==` is equality: a portable description holds nothing that the comparison passes over.
-///
-/// So a table's entry that is read back `==` the one that was written is that entry.
+/// So a table's entry that is `==` to the entry with id 3 and the description of `bool` is that entry.
 pub fn equal_portable()
     ensures description { (a b : portable.Description) → IsTrue (⟦<Type<PortableForm> as PartialEq>⟧.eq a b) ↔ (a ≡ b) }
     ensures entry { (a b : PortableType) → IsTrue (⟦<crate::ty::PortableType as PartialEq>⟧.eq a b) ↔ (a ≡ b) }

@@ -10,6 +10,5 @@ returns-clause-description c = λ a b.
 
 pub returns-clause-entry : goal.returns-clause-entry
 returns-clause-entry c = λ a b.
-    through (and_same _ _ (same_number a.id b.id) (through (c.equal_contents.ensures a.ty b.ty) (portable_content a.ty b.ty) (λ e. ap (content (λ symbol. symbol.id) (λ text. text)) e)))
-    (λ e. λ i. record { id = e.0 i; ty = e.1 i })
+    through (and_same _ _ (same_number a.id b.id) (returns-clause-description c a.ty b.ty)) (λ e. λ i. record { id = e.0 i; ty = e.1 i })
     (λ e. (ap (λ p. p.id) e, ap (λ p. p.ty) e))
