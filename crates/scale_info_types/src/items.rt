@@ -77,9 +77,15 @@ impl<T> Items<T> {
     }
 
     /// Puts one more element at the end. On an Err the list is as before, and the element comes back.
+    ///
+    /// A list of one element takes room for one, since most lists of a description are that short; a
+    /// longer one grows as a `Vec` does.
     pub fn push(&mut self, value: T) -> Result<(), AllocFailed<T>>
         ensures { self.new ≡ (if is_ok result then self.old ++ value ∷ [] else self.old) }
     {
+        if self.all.is_empty() && self.all.reserve_exact(1).is_err() {
+            return Err(AllocFailed { value });
+        }
         self.all.push(value)
     }
 }
