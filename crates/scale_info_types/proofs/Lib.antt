@@ -1,2 +1,4 @@
+pub mod Identifiers
 pub mod Iterators
+pub mod Paths
 pub mod Terms
