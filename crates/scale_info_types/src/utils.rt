@@ -3,7 +3,16 @@ ghost use Rattle.std.specs.Prelude.{◌↔◌, IsTrue};
 ghost use Rattle.std.specs.List.{All};
 ghost use Rattle.scale_info_types.specs.Identifiers.{IsIdentifier, IsLetter, IsLetterOrDigit, IsPlainIdentifier};
 
-/// Whether the text is an identifier of Rust.
+/// Whether the text is an identifier of Rust: some number of `r#`, none too, then `_` or an ASCII letter, and then `_`,
+/// ASCII letters and ASCII digits alone.
+///
+/// The Rust reference has this rule for identifiers in ASCII, with at most one `r#` and with keywords set apart. As in
+/// the Rust crate `scale-info`, a text that isn't ASCII is none, repeated `r#` count as one, and keywords and `_` pass.
+///
+/// ```text
+/// is_rust_identifier("r#mod")  // true
+/// is_rust_identifier("r#")     // false
+/// ```
 pub fn is_rust_identifier(text: &str) -> bool
     ensures { IsTrue result ↔ IsIdentifier text.now }
 {

@@ -15,7 +15,11 @@ use std::alloc::{AllocError, AllocFailed, Global};
 use std::fmt;
 use thiserror::Error;
 
-/// Why no path could be made.
+/// Why no path could be made. It is displayed as the name of the case alone.
+///
+/// ```text
+/// Path::from_segments(alloc, ["Earth", "::world"]) == Err(PathError::InvalidIdentifier { segment: 1 })
+/// ```
 #[derive(Debug, Drop, PartialEq, Eq, Error)]
 pub enum PathError {
     /// There is no segment.
@@ -95,6 +99,12 @@ impl<T: Form> Path<T> {
     }
 
     /// A copy of the last segment, the type's name; `None` for a path without segments.
+    ///
+    /// Errors: `AllocError`, where memory for the copy is wanted and refused.
+    ///
+    /// ```text
+    /// Path::new(alloc, "Planet", "hello::world")?.ident(alloc) == Ok(Some("Planet"))
+    /// ```
     pub fn ident(&self, alloc: Global) -> Result<Option<T::String>, AllocError>
         ensures { IfOk result (λ name. name ≡ slice_get self.now.segments (length self.now.segments - 1)) }
     {
@@ -104,7 +114,11 @@ impl<T: Form> Path<T> {
         }
     }
 
-    /// All segments but the last: the modules around the type. A path without segments has none.
+    /// All segments but the last: the modules around the type. A path without segments has none. Takes no memory.
+    ///
+    /// ```text
+    /// Path::new(alloc, "Planet", "hello::world")?.namespace() == ["hello", "world"]
+    /// ```
     pub fn namespace(&self) -> &[T::String]
         ensures { result.now ≡ take (length self.now.segments - 1) self.now.segments }
     {
@@ -117,7 +131,18 @@ impl<T: Form> Path<T> {
 }
 
 impl Path<MetaForm> {
-    /// The path.
+    /// The path of a type: the pieces of its module path around `::`, and then its name.
+    ///
+    /// It takes what `module_path!` gives in the module of the type. The empty text has one piece, which is empty. The
+    /// Rust crate `scale-info` makes the same path, and panics where this answers an `Err`.
+    ///
+    /// Errors: `InvalidIdentifier` with the first place whose segment is no identifier, `Memory` where memory for the
+    /// list is refused. It never answers `MissingSegments`.
+    ///
+    /// ```text
+    /// Path::new(alloc, "Planet", "hello::world")  // hello, world, Planet
+    /// Path::new(alloc, "Planet", "a::::b") == Err(PathError::InvalidIdentifier { segment: 1 })
+    /// ```
     pub fn new(
         alloc: Global,
         ident: &'static str,
@@ -132,7 +157,16 @@ impl Path<MetaForm> {
         Path::new_with_replace(alloc, ident, module_path, &[])
     }
 
-    /// The path, replaced.
+    /// The path that `new` makes, after each segment, the name too, is replaced: by the second text of the first pair
+    /// whose first text equals it, once. A segment without such a pair stays.
+    ///
+    /// Replacing comes before the test: what a pair brings in must be an identifier, and what it takes out need not.
+    ///
+    /// Errors: as for `new`.
+    ///
+    /// ```text
+    /// Path::new_with_replace(alloc, "Planet", "hello::world", &[("hello", "goodbye")])  // goodbye, world, Planet
+    /// ```
     pub fn new_with_replace(
         alloc: Global,
         ident: &'static str,
@@ -151,7 +185,15 @@ impl Path<MetaForm> {
         checked(segments)
     }
 
-    /// The path of segments.
+    /// The path of these segments, in order.
+    ///
+    /// Errors: `MissingSegments` where there is none, `InvalidIdentifier` with the first place whose segment is no
+    /// identifier, counted from 0, `Memory` where memory for the list is refused.
+    ///
+    /// ```text
+    /// Path::from_segments(alloc, ["hello", "World"])  // hello, World
+    /// Path::from_segments(alloc, ["Hello", ", World!"]) == Err(PathError::InvalidIdentifier { segment: 1 })
+    /// ```
     pub fn from_segments<I: IntoIterator<Item = &'static str>>(
         alloc: Global,
         segments: I,
@@ -229,7 +271,12 @@ fn replacement(text: &'static str, pairs: &[(&'static str, &'static str)]) -> &'
     text
 }
 
-/// The segments with `::` between them; width, fill and precision change nothing.
+/// The segments with `::` between them; a path without segments writes nothing. Width, fill and precision of the format
+/// change nothing, as in the Rust crate `scale-info`.
+///
+/// ```text
+/// format!(in alloc; "{path}")? == "hello::world::Planet"
+/// ```
 impl fmt::Display for Path<PortableForm> {
     ghost output = { λ path. Some (joined path.segments) };
 
