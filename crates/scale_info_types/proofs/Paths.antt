@@ -26,20 +26,20 @@ split_at_separator text None lacks =
     record {
       none =
           λ front back e.
-              lacks (length front) (front_fits text front (separator ++ back) e) back (after_front text front (separator ++ back) e);
+          lacks (length front) (front_fits text front (separator ++ back) e) back (after_front text front (separator ++ back) e);
     }
 split_at_separator text (Some x) (i, j, finds, before_is, after_is, ordered, before_len, _) =
     record {
       parts =
           sym (take-append-drop i text)
-              ∙ ap (λ t. take i text ++ t) finds.1.split
-              ∙ ap (λ t. t ++ (separator ++ drop j text)) (sym before_is)
-              ∙ ap (λ t. x.0.now ++ (separator ++ t)) (sym after_is);
+          ∙ ap (λ t. take i text ++ t) finds.1.split
+          ∙ ap (λ t. t ++ (separator ++ drop j text)) (sym before_is)
+          ∙ ap (λ t. x.0.now ++ (separator ++ t)) (sym after_is);
       first =
           λ front back e. elim (cases_lt (length front) (length x.0.now)) [
-              | inl less ↦ absurd (finds.0 (length front) (omega arith) back (after_front text front (separator ++ back) e))
-              | inr ok ↦ ok
-            ];
+            | inl less ↦ absurd (finds.0 (length front) (omega arith) back (after_front text front (separator ++ back) e))
+            | inr ok ↦ ok
+          ];
     }
 
 pub after_is_shorter : (text before after : List ℕ) → IsAroundFirstSeparator text before after → length after < length text
@@ -58,32 +58,35 @@ pub cut_none : (pairs : List (List ℕ × List ℕ)) (text : List ℕ) → IsCut
 cut_none pairs text more is = (more, is, refl)
 
 pub cut_more :
-    (pairs : List (List ℕ × List ℕ)) (text rest before after : List ℕ) (done : Held) (new : Bor (List ℕ))
+    (pairs : List (List ℕ × List ℕ)) (text rest before after : List ℕ) (done : Held) (new : Bor (List ℕ)) (longer : Held)
     → IsCutTo pairs text done rest
     → IsAroundFirstSeparator rest before after
     → new.now ≡ replaced pairs before
-    → IsCutTo pairs text (done ++ new ∷ []) after
-cut_more pairs text rest before after done new so_far around is_new more is =
+    → longer ≡ done ++ new ∷ []
+    → IsCutTo pairs text longer after
+cut_more pairs text rest before after done new longer so_far around is_new e more is =
     let all = so_far (before ∷ more) (cut rest before after more around is) in (
       all.0,
       all.1,
-      ap (λ t. t ++ map (replaced pairs) more) (map_push (λ t. t.now) done new)
+      ap (λ ts. texts ts ++ map (replaced pairs) more) e
+          ∙ ap (λ t. t ++ map (replaced pairs) more) (map_push (λ t. t.now) done new)
           ∙ append_assoc (texts done) (new.now ∷ []) (map (replaced pairs) more)
           ∙ ap (λ t. texts done ++ (t ∷ map (replaced pairs) more)) is_new
           ∙ all.2,
     )
 
 pub cut_all :
-    (pairs : List (List ℕ × List ℕ)) (text rest : List ℕ) (done : Held) (new : Bor (List ℕ))
+    (pairs : List (List ℕ × List ℕ)) (text rest : List ℕ) (done : Held) (new : Bor (List ℕ)) (longer : Held)
     → IsCutTo pairs text done rest
     → HasNoSeparator rest
     → new.now ≡ replaced pairs rest
-    → (pieces : List (List ℕ)) × IsPieces text pieces × (texts (done ++ new ∷ []) ≡ map (replaced pairs) pieces)
-cut_all pairs text rest done new so_far lacks is_new =
+    → longer ≡ done ++ new ∷ []
+    → (pieces : List (List ℕ)) × IsPieces text pieces × (texts longer ≡ map (replaced pairs) pieces)
+cut_all pairs text rest done new longer so_far lacks is_new e =
     let all = so_far (rest ∷ []) (whole rest lacks) in (
       all.0,
       all.1,
-      map_push (λ t. t.now) done new ∙ ap (λ t. texts done ++ (t ∷ [])) is_new ∙ all.2,
+      ap texts e ∙ map_push (λ t. t.now) done new ∙ ap (λ t. texts done ++ (t ∷ [])) is_new ∙ all.2,
     )
 
 -- one more pair
@@ -146,8 +149,8 @@ bad_here held i d within so_far bad =
       back = texts (drop (i + 1) held);
       parts =
           ap texts (sym (take-append-drop i held))
-              ∙ map-append (λ t. t.now) (take i held) (drop i held)
-              ∙ ap (λ ts. texts (take i held) ++ texts ts) (drop_more held i d within);
+          ∙ map-append (λ t. t.now) (take i held) (drop i held)
+          ∙ ap (λ ts. texts (take i held) ++ texts ts) (drop_more held i d within);
       before = length-map (take i held) (λ t. t.now) ∙ length-take-le i held (omega arith);
       identifiers = so_far;
       no_identifier = bad;
@@ -161,13 +164,13 @@ pub declared_more :
     → all ≡ done ++ new ∷ []
     → (declared : List (List ℕ)) × AreDeclared name module_path declared × (texts all ≡ map (replaced pairs) declared)
 declared_more pairs name module_path done new all (pieces, is, so_far) is_new e = (
-    pieces ++ name ∷ [],
-    record { modules = pieces; cut = is; order = refl },
-    ap texts e
-        ∙ map_push (λ t. t.now) done new
-        ∙ ap (λ t. texts done ++ (t ∷ [])) is_new
-        ∙ ap (λ t. t ++ replaced pairs name ∷ []) so_far
-        ∙ sym (map_push (replaced pairs) pieces name),
+  pieces ++ name ∷ [],
+  record { modules = pieces; cut = is; order = refl },
+  ap texts e
+      ∙ map_push (λ t. t.now) done new
+      ∙ ap (λ t. texts done ++ (t ∷ [])) is_new
+      ∙ ap (λ t. t ++ replaced pairs name ∷ []) so_far
+      ∙ sym (map_push (replaced pairs) pieces name),
 )
 
 -- one more segment of a joined path
@@ -179,8 +182,8 @@ pub joined_more :
     → joined (first ∷ take i others) ++ (separator ++ shown) ≡ joined (first ∷ take (i + 1) others)
 joined_more first others i segment shown within is same =
     ap (λ t. joined (first ∷ take i others) ++ (separator ++ t)) (same ∙ is)
-        ∙ flat_map_more (λ t. separator ++ t) first (take i others) (get_or others i segment)
-        ∙ ap (λ ts. joined (first ∷ ts)) (sym (take_more others i segment within))
+    ∙ flat_map_more (λ t. separator ++ t) first (take i others) (get_or others i segment)
+    ∙ ap (λ ts. joined (first ∷ ts)) (sym (take_more others i segment within))
 
 pub joined_all :
     (all others : List (List ℕ)) (first : List ℕ) (i : ℕ)
@@ -203,14 +206,13 @@ same_cut text before after other rest a b =
     let high = b.first before after a.parts in
     let same : length before ≡ length other = omega arith in
     let fronts : before ≡ other =
-      sym (take_at before (separator ++ after) (length other) same)
-          ∙ ap (take (length other)) (sym a.parts ∙ b.parts)
-          ∙ take_at other (separator ++ rest) (length other) refl in
-    (
+    sym (take_at before (separator ++ after) (length other) same)
+    ∙ ap (take (length other)) (sym a.parts ∙ b.parts)
+    ∙ take_at other (separator ++ rest) (length other) refl in (
       fronts,
       append_cancel_left separator after rest
-      (append_cancel_left other (separator ++ after) (separator ++ rest)
-      (ap (λ t. t ++ (separator ++ after)) (sym fronts) ∙ sym a.parts ∙ b.parts)),
+          (append_cancel_left other (separator ++ after) (separator ++ rest)
+          (ap (λ t. t ++ (separator ++ after)) (sym fronts) ∙ sym a.parts ∙ b.parts)),
     )
 
 pub same_pieces :
@@ -221,4 +223,4 @@ same_pieces _ _ _ (cut text before after more around is) (whole _ none) = absurd
 same_pieces _ _ _ (cut text before after more around is) (cut _ other rest left also are) =
     let same = same_cut text before after other rest around also in
     ap (λ t. t ∷ more) same.0
-        ∙ ap (λ ts. other ∷ ts) (same_pieces after more left is (subst (λ t. IsPieces t left) (sym same.1) are))
+    ∙ ap (λ ts. other ∷ ts) (same_pieces after more left is (subst (λ t. IsPieces t left) (sym same.1) are))

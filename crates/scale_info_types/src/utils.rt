@@ -33,7 +33,9 @@ fn is_plain_identifier(text: &[u8]) -> bool
 fn are_letters_or_digits(bytes: &[u8]) -> bool
     ensures { IsTrue result ↔ All IsLetterOrDigit bytes.now }
 {
-    bytes.iter().all(|byte| is_letter(*byte) || byte.is_ascii_digit())
+    bytes
+        .iter()
+        .all(|byte| is_letter(*byte) || byte.is_ascii_digit())
 }
 
 /// Whether the byte is `_` or an ASCII letter.

@@ -249,7 +249,8 @@ fn replaced_pieces(
     ensures { IfOk result (λ all. (pieces : List (List ℕ)) × IsPieces text.now pieces
         × (texts all.items ≡ map (replaced (text_pairs pairs.now)) pieces)) }
 {
-    let mut all = Vec::new(alloc);
+    // The pieces, and room for the name behind them.
+    let mut all = Vec::with_capacity(alloc, text.matches("::").count().saturating_add(2))?;
     let mut rest = text;
     'pieces: while let Some((before, after)) = rest.split_once("::") {
         all.push(replacement(before, pairs))?;

@@ -16,8 +16,8 @@ pub loop-segment-preserved : goal.loop-segment-preserved
 loop-segment-preserved g c =
     let so_far = c.loop-segment.invariant in
     let more =
-      joined_more so_far.0 c.in-Some.others.now c.loop-segment.segment-index c.segment-item.result _ c.loop-segment-test.true
-      c.segment-item.is c.as_str-in-loop-segment.ensures in (
+    joined_more so_far.0 c.in-Some.others.now c.loop-segment.segment-index c.segment-item.result _ c.loop-segment-test.true
+    c.segment-item.is c.as_str-in-loop-segment.ensures in (
       so_far.0,
       so_far.1,
       λ plain.
