@@ -128,11 +128,20 @@ fn other_segments_are_refused_at_their_place(rt: HostRuntime) {
     let alloc = rt.alloc();
     let none = Path::from_segments(alloc, Vec::<&'static str>::new(alloc));
     assert_eq!(rt; none.err(), Some(PathError::MissingSegments));
-    assert_eq!(rt; Path::from_segments(alloc, ["Hello", ", World!"]).err(), bad_at(1));
-    assert_eq!(rt; Path::from_segments(alloc, ["Earth", "::world"]).err(), bad_at(1));
+    assert_eq!(rt;
+        Path::from_segments(alloc, ["Hello", ", World!"]).err(),
+        bad_at(1)
+    );
+    assert_eq!(rt;
+        Path::from_segments(alloc, ["Earth", "::world"]).err(),
+        bad_at(1)
+    );
     assert_eq!(rt; Path::from_segments(alloc, [""]).err(), bad_at(0));
     assert_eq!(rt; Path::from_segments(alloc, ["1"]).err(), bad_at(0));
-    assert_eq!(rt; Path::from_segments(alloc, ["a", "1", "2"]).err(), bad_at(1));
+    assert_eq!(rt;
+        Path::from_segments(alloc, ["a", "1", "2"]).err(),
+        bad_at(1)
+    );
 }
 
 #[test]
