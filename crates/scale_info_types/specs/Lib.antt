@@ -1,4 +1,6 @@
+pub mod Identifiers
 pub mod Iterators
+pub mod Paths
 pub mod Portable
 pub mod References
 pub mod Shapes

@@ -11,3 +11,4 @@ pub mod meta_type;
 pub mod text;
 pub mod try_clone;
 pub mod ty;
+pub mod utils;

@@ -8,4 +8,6 @@ mod constructors;
 #[cfg(test)]
 mod orders;
 pub mod parts;
+#[cfg(test)]
+mod paths;
 pub mod tables;

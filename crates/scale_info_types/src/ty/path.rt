@@ -1,12 +1,56 @@
 //! Paths: where a type is declared, and its name.
-ghost use Rattle.std.specs.Prelude.{◌≡◌, ◌↔◌, [], IfOk, IsTrue};
+ghost use Rattle.std.specs.Prelude.{◌≡◌, ◌≢◌, ◌↔◌, ◌-◌, ℕ, List, [], ◌∷◌, ◌++◌, Some, map, length, take, slice_get, IfOk, IfSome, IsNone, IsTrue};
 ghost use Rattle.std.specs.Iterator.{IsFinite};
+ghost use Rattle.std.specs.List.{All};
+ghost use Rattle.scale_info_types.specs.Identifiers.{IsIdentifier};
 ghost use Rattle.scale_info_types.specs.Iterators.{GivesAll};
+ghost use Rattle.scale_info_types.specs.Paths.{AreDeclared, ArePathSegments, Held, IsFirstBadPlace, IsPieces, joined, replaced, text_pairs, texts};
+ghost use Rattle.scale_info_types.specs.declared.ty.path.PathError.TheVariants.{Memory as memory};
 
-use crate::form::{Form, MetaForm};
+use crate::form::{Form, MetaForm, PortableForm};
 use crate::items::Items;
 use crate::mark::Mark;
-use std::alloc::{AllocError, Global};
+use crate::utils::is_rust_identifier;
+use std::alloc::{AllocError, AllocFailed, Global};
+use std::fmt;
+use thiserror::Error;
+
+/// Why no path could be made. It is displayed as the name of the case alone.
+///
+/// ```text
+/// Path::from_segments(alloc, ["Earth", "::world"]) == Err(PathError::InvalidIdentifier { segment: 1 })
+/// ```
+#[derive(Debug, Drop, PartialEq, Eq, Error)]
+pub enum PathError {
+    /// There is no segment.
+    #[error("MissingSegments")]
+    MissingSegments,
+    /// A segment is no identifier of Rust.
+    #[error("InvalidIdentifier")]
+    InvalidIdentifier {
+        /// The place of the first such segment, counted from 0.
+        segment: usize,
+    },
+    /// Memory was wanted and refused.
+    #[error("Memory")]
+    Memory,
+}
+
+impl From<AllocError> for PathError {
+    ghost from_gives = { λ _ e. e ≡ memory };
+
+    fn from(_e: AllocError) -> PathError {
+        PathError::Memory
+    }
+}
+
+impl<T: Drop> From<AllocFailed<T>> for PathError {
+    ghost from_gives = { λ _ e. e ≡ memory };
+
+    fn from(_e: AllocFailed<T>) -> PathError {
+        PathError::Memory
+    }
+}
 
 /// The modules in which a type is declared, outermost first, and the type's name last.
 #[derive(Drop)]
@@ -52,6 +96,202 @@ impl<T: Form> Path<T> {
         ensures { IsTrue result ↔ (self.now.segments ≡ []) }
     {
         self.segments.is_empty()
+    }
+
+    /// A copy of the last segment, the type's name; `None` for a path without segments.
+    ///
+    /// Errors: `AllocError`, where memory for the copy is wanted and refused.
+    ///
+    /// ```text
+    /// Path::new(alloc, "Planet", "hello::world")?.ident(alloc) == Ok(Some("Planet"))
+    /// ```
+    pub fn ident(&self, alloc: Global) -> Result<Option<T::String>, AllocError>
+        ensures { IfOk result (λ name. name ≡ slice_get self.now.segments (length self.now.segments - 1)) }
+    {
+        match self.segments.as_slice().last() {
+            None => Ok(None),
+            Some(name) => Ok(Some(T::copy_string(alloc, name)?)),
+        }
+    }
+
+    /// All segments but the last: the modules around the type. A path without segments has none. Takes no memory.
+    ///
+    /// ```text
+    /// Path::new(alloc, "Planet", "hello::world")?.namespace() == ["hello", "world"]
+    /// ```
+    pub fn namespace(&self) -> &[T::String]
+        ensures { result.now ≡ take (length self.now.segments - 1) self.now.segments }
+    {
+        let segments = self.segments.as_slice();
+        match segments.split_last() {
+            None => segments,
+            Some((_, modules)) => modules,
+        }
+    }
+}
+
+impl Path<MetaForm> {
+    /// The path of a type: the pieces of its module path around `::`, and then its name.
+    ///
+    /// It takes what `module_path!` gives in the module of the type. The empty text has one piece, which is empty. The
+    /// Rust crate `scale-info` makes the same path, and panics where this answers an `Err`.
+    ///
+    /// Errors: `InvalidIdentifier` with the first place whose segment is no identifier, `Memory` where memory for the
+    /// list is refused. It never answers `MissingSegments`.
+    ///
+    /// ```text
+    /// Path::new(alloc, "Planet", "hello::world")  // hello, world, Planet
+    /// Path::new(alloc, "Planet", "a::::b") == Err(PathError::InvalidIdentifier { segment: 1 })
+    /// ```
+    pub fn new(
+        alloc: Global,
+        ident: &'static str,
+        module_path: &'static str,
+    ) -> Result<Path, PathError>
+        ensures ok { IfOk result (λ path. AreDeclared ident.now module_path.now (texts path.segments)
+            × ArePathSegments (texts path.segments)) }
+        ensures invalid { (segment : ℕ) → result ≡ Err (PathError.InvalidIdentifier segment)
+            → (declared : List (List ℕ)) × AreDeclared ident.now module_path.now declared × IsFirstBadPlace declared segment }
+        ensures never_missing { result ≢ Err PathError.MissingSegments }
+    {
+        Path::new_with_replace(alloc, ident, module_path, &[])
+    }
+
+    /// The path that `new` makes, after each segment, the name too, is replaced: by the second text of the first pair
+    /// whose first text equals it, once. A segment without such a pair stays.
+    ///
+    /// Replacing comes before the test: what a pair brings in must be an identifier, and what it takes out need not.
+    ///
+    /// Errors: as for `new`.
+    ///
+    /// ```text
+    /// Path::new_with_replace(alloc, "Planet", "hello::world", &[("hello", "goodbye")])  // goodbye, world, Planet
+    /// ```
+    pub fn new_with_replace(
+        alloc: Global,
+        ident: &'static str,
+        module_path: &'static str,
+        pairs: &[(&'static str, &'static str)],
+    ) -> Result<Path, PathError>
+        ensures ok { IfOk result (λ path. (declared : List (List ℕ)) × AreDeclared ident.now module_path.now declared
+            × (texts path.segments ≡ map (replaced (text_pairs pairs.now)) declared) × ArePathSegments (texts path.segments)) }
+        ensures invalid { (segment : ℕ) → result ≡ Err (PathError.InvalidIdentifier segment)
+            → (declared : List (List ℕ)) × AreDeclared ident.now module_path.now declared
+            × IsFirstBadPlace (map (replaced (text_pairs pairs.now)) declared) segment }
+        ensures never_missing { result ≢ Err PathError.MissingSegments }
+    {
+        let mut segments = replaced_pieces(alloc, module_path, pairs)?;
+        segments.push(replacement(ident, pairs))?;
+        checked(segments)
+    }
+
+    /// The path of these segments, in order.
+    ///
+    /// Errors: `MissingSegments` where there is none, `InvalidIdentifier` with the first place whose segment is no
+    /// identifier, counted from 0, `Memory` where memory for the list is refused.
+    ///
+    /// ```text
+    /// Path::from_segments(alloc, ["hello", "World"])  // hello, World
+    /// Path::from_segments(alloc, ["Hello", ", World!"]) == Err(PathError::InvalidIdentifier { segment: 1 })
+    /// ```
+    pub fn from_segments<I: IntoIterator<Item = &'static str>>(
+        alloc: Global,
+        segments: I,
+    ) -> Result<Path, PathError>
+        requires can { (it : I.IntoIter) → I.into_iter_gives segments it → I.IntoIter.can_next it }
+        requires ends { (it : I.IntoIter) → I.into_iter_gives segments it → IsFinite (I.IntoIter.remaining it) }
+        ensures ok { IfOk result (λ path. GivesAll I.into_iter_gives I.IntoIter.next_gives segments path.segments
+            × ArePathSegments (texts path.segments)) }
+        ensures missing { result ≡ Err PathError.MissingSegments → GivesAll I.into_iter_gives I.IntoIter.next_gives segments [] }
+        ensures invalid { (segment : ℕ) → result ≡ Err (PathError.InvalidIdentifier segment)
+            → (items : Held) × GivesAll I.into_iter_gives I.IntoIter.next_gives segments items × IsFirstBadPlace (texts items) segment }
+    {
+        checked(Vec::from_iter(alloc, segments)?)
+    }
+}
+
+/// The path of these segments, where there is one and all are identifiers.
+fn checked(segments: Vec<&'static str>) -> Result<Path, PathError>
+    ensures ok { IfOk result (λ path. (path.segments ≡ segments.entry.items) × ArePathSegments (texts path.segments)) }
+    ensures missing { result ≡ Err PathError.MissingSegments → segments.entry.items ≡ [] }
+    ensures invalid { (segment : ℕ) → result ≡ Err (PathError.InvalidIdentifier segment)
+        → IsFirstBadPlace (texts segments.entry.items) segment }
+    ensures takes_no_memory { result ≢ Err PathError.Memory }
+{
+    if segments.is_empty() {
+        return Err(PathError::MissingSegments);
+    }
+    if let Some(segment) = first_bad_place(segments.as_slice()) {
+        return Err(PathError::InvalidIdentifier { segment });
+    }
+    Ok(Path::from(Items::from(segments)))
+}
+
+/// The place of the first text that is no identifier, counted from 0.
+fn first_bad_place(held: &[&'static str]) -> Option<usize>
+    ensures good { IsNone result → All IsIdentifier (texts held.now) }
+    ensures bad { IfSome result (IsFirstBadPlace (texts held.now)) }
+{
+    for (place, text) in held.iter().enumerate() {
+        if !is_rust_identifier(text) {
+            return Some(place);
+        }
+    }
+    None
+}
+
+/// The pieces of a text around `::`, each after the pairs have replaced it.
+fn replaced_pieces(
+    alloc: Global,
+    text: &'static str,
+    pairs: &[(&'static str, &'static str)],
+) -> Result<Vec<&'static str>, AllocError>
+    ensures { IfOk result (λ all. (pieces : List (List ℕ)) × IsPieces text.now pieces
+        × (texts all.items ≡ map (replaced (text_pairs pairs.now)) pieces)) }
+{
+    // The pieces, and room for the name behind them.
+    let mut all = Vec::with_capacity(alloc, text.matches("::").count().saturating_add(2))?;
+    let mut rest = text;
+    'pieces: while let Some((before, after)) = rest.split_once("::") {
+        all.push(replacement(before, pairs))?;
+        rest = after;
+    }
+    all.push(replacement(rest, pairs))?;
+    Ok(all)
+}
+
+/// The second text of the first pair whose first text is this one; without such a pair the text itself.
+fn replacement(text: &'static str, pairs: &[(&'static str, &'static str)]) -> &'static str
+    ensures { result.now ≡ replaced (text_pairs pairs.now) text.now }
+{
+    for (from, to) in pairs {
+        if *from == text {
+            return to;
+        }
+    }
+    text
+}
+
+/// The segments with `::` between them; a path without segments writes nothing. Width, fill and precision of the format
+/// change nothing, as in the Rust crate `scale-info`.
+///
+/// ```text
+/// format!(in alloc; "{path}")? == "hello::world::Planet"
+/// ```
+impl fmt::Display for Path<PortableForm> {
+    ghost output = { λ path. Some (joined path.segments) };
+
+    ghost styled_output = { λ path _. Some (joined path.segments) };
+
+    fn fmt<W: fmt::Write>(&self, f: &mut fmt::Formatter<W>) -> fmt::Result {
+        if let Some((first, others)) = self.segments.as_slice().split_first() {
+            f.write_str(first.as_str())?;
+            for segment in others {
+                f.write_str("::")?;
+                f.write_str(segment.as_str())?;
+            }
+        }
+        Ok(())
     }
 }
 
