@@ -5,4 +5,3 @@ pub mod Injective
 pub mod Iterators
 pub mod Paths
 pub mod Readings
-pub mod Terms

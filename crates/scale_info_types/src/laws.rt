@@ -1,10 +1,11 @@
 //! Laws of identities and of descriptions. Nothing here does any work when it runs.
-ghost use Rattle.std.specs.Prelude.{◌≡◌, ◌↔◌, IsTrue, length, map};
+ghost use Rattle.std.specs.Prelude.{◌≡◌, ◌↔◌, IsTrue, length, map, ℕ, List};
 ghost use Rattle.std.specs.Cmp.Lexicographic.{slice_cmp};
 ghost use Rattle.std.specs.Ordering.{nat_cmp, ordering_then};
 ghost use Rattle.scale_info_types.specs.Shapes.{map_definition, content, shape};
 ghost use Rattle.scale_info_types.specs.Portable as portable;
 ghost use Rattle.scale_info_types.specs.References.{references};
+ghost use Rattle.scale_info_types.specs.Paths.{IsPieces};
 ghost use Rattle.scale_info_types.specs.Terms.{term_of};
 ghost use Rattle.scale_info_types.specs.declared.meta_type.TypeId.{TypeId, out-TypeId};
 ghost use Rattle.scale_info_types.specs.declared.ty.TypeDef.{TypeDef};
@@ -89,3 +90,10 @@ pub fn equal_portable()
 {
     equal_contents::<PortableForm>()
 }
+
+/// A text has one list of pieces around `::`.
+///
+/// `a:::b` has the pieces `a` and `:b`, since the first `::` counts, and no others.
+pub fn one_list_of_pieces()
+    ensures { (text : List ℕ) (pieces others : List (List ℕ)) → IsPieces text pieces → IsPieces text others → pieces ≡ others }
+{}
