@@ -19,11 +19,6 @@ pub record Told (old new : Option (List ℕ)) (line : List ℕ) : Type 0 where
   pub is_known : IsSome old
   pub appends : Appends old new line
 
--- known bytes grow by a front of the line of one fault
-pub record TellsFault (old new : Option (List ℕ)) : Type 0 where
-  pub fault : Fault
-  pub tells : AppendsFront old new (line_of fault)
-
 -- what a fault says of the known input, and of the known bytes of the output before and after
 abbrev pub Explains : Option (List ℕ) → Option (List ℕ) → Option (List ℕ) → Fault → Type 0
 Explains input old new Malformed = IfSome input (NoFront SpellsRegistry) × Keeps old new
@@ -31,3 +26,9 @@ Explains input old new TrailingBytes = IfSome input HasTrailing × Keeps old new
 Explains input old new Memory = Keeps old new
 Explains input old new Input = Keeps old new
 Explains input old new Output = IfSome input (λ bytes. IsTable bytes × AppendsFront old new bytes)
+
+-- one fault holds, and known bytes of the writer for faults grow by a front of its line
+pub record Refuses (input output_old output_new faults_old faults_new : Option (List ℕ)) : Type 0 where
+  pub fault : Fault
+  pub explains : Explains input output_old output_new fault
+  pub tells : AppendsFront faults_old faults_new (line_of fault)

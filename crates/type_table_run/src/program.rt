@@ -6,7 +6,7 @@ ghost use Rattle.scale_info.specs.PortableSpelling.{SpellsRegistry};
 ghost use Rattle.type_table_run.specs.Commands.{IsCommand};
 ghost use Rattle.type_table_run.specs.Lines.{usage_line, malformed_line, trailing_bytes_line, out_of_memory_line, input_failed_line, output_failed_line};
 ghost use Rattle.type_table_run.specs.Tables.{IsTable, HasTrailing};
-ghost use Rattle.type_table_run.specs.Telling.{AppendsFront, Told, TellsFault, Explains};
+ghost use Rattle.type_table_run.specs.Telling.{AppendsFront, Told, Explains, Refuses};
 
 use crate::command::{Command, command_of};
 use crate::fault::Fault;
@@ -88,7 +88,9 @@ pub fn run<R: Read, W: Write, F: Write>(
     ensures untold { result ≡ 0 → faults.new ≡ faults.old }
 
     // A command that is refused tells one fault, and what it tells is so.
-    ensures fault_told { result ≡ 1 → TellsFault (F.contents faults.old) (F.contents faults.new) }
+    ensures refused { result ≡ 1 → Refuses (R.remaining reader.old)
+        (W.contents output.old) (W.contents output.new)
+        (F.contents faults.old) (F.contents faults.new) }
     ensures malformed { Told (F.contents faults.old) (F.contents faults.new) malformed_line
         → IfSome (R.remaining reader.old) (NoFront SpellsRegistry)
         × Keeps (W.contents output.old) (W.contents output.new) }
