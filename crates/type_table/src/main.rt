@@ -2,10 +2,9 @@
 #![tactic(auto)]
 
 use scale_info_types::text::Text;
-use std::env;
-use std::io;
 use std::io::{ErrorKind, Write};
 use std::process::ExitCode;
+use std::{env, io};
 
 /// The words after the program's name.
 fn words_of(rt: &HostRuntime) -> io::Result<Vec<Text>> {
