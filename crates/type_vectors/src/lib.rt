@@ -10,4 +10,8 @@ mod orders;
 pub mod parts;
 #[cfg(test)]
 mod paths;
+#[cfg(test)]
+mod program;
+#[cfg(test)]
+mod streams;
 pub mod tables;

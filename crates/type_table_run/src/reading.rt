@@ -1,0 +1,89 @@
+//! Reading to the end.
+ghost use Rattle.std.specs.Prelude.{◌≡◌, ◌≤◌, ◌<◌, ◌+◌, ◌⊎◌, take, drop, length, vec_len, IfOk, IfErr, IfSome, OnOk, OnErr};
+ghost use Rattle.std.specs.Io.KnownBytes.{Consumes, IsAtEnd, Keeps};
+
+use crate::fault::Fault;
+use std::alloc::{AllocError, Global};
+use std::io;
+use std::io::{ErrorKind, Read};
+
+/// The least room that a read is given.
+const PIECE: usize = 65536;
+
+/// The most calls of `read` that are made for one input.
+const MOST_READS: u64 = 4294967296;
+
+/// Makes the buffer longer, by zeros, where less than a piece stands after `filled`.
+///
+/// The length doubles, so that all growths together copy no more than a growing vector does.
+fn make_room(buf: &mut Vec<u8>, filled: usize) -> Result<(), AllocError>
+    requires { filled ≤ vec_len buf.old }
+    ensures within { filled ≤ vec_len buf.new }
+    ensures front { take filled buf.new.items ≡ take filled buf.old.items }
+    ensures room { OnOk result (filled < vec_len buf.new) }
+{
+    let len = buf.len();
+    if len - filled < PIECE {
+        buf.resize(len.max(PIECE).saturating_mul(2), 0)?;
+    }
+    Ok(())
+}
+
+/// One read, into what stands after the first `filled` bytes.
+fn read_after<R: Read>(reader: &mut R, buf: &mut [u8], filled: usize) -> io::Result<usize>
+    requires { filled < length buf.old }
+    ensures front { take filled buf.new ≡ take filled buf.old }
+    ensures fits { IfOk result (λ n. filled + n ≤ length buf.new) }
+    ensures ok { IfOk result (λ n. Consumes (R.remaining reader.old) (R.remaining reader.new)
+        (take n (drop filled buf.new))) }
+    ensures end { IfOk result (λ n. n ≡ 0 → IsAtEnd (R.remaining reader.new)) }
+    ensures err { OnErr result (Keeps (R.remaining reader.old) (R.remaining reader.new)) }
+{
+    reader.read(&mut buf[filled..])
+}
+
+/// The same in a vector.
+fn read_piece<R: Read>(reader: &mut R, buf: &mut Vec<u8>, filled: usize) -> io::Result<usize>
+    requires { filled < vec_len buf.old }
+    ensures front { take filled buf.new.items ≡ take filled buf.old.items }
+    ensures fits { IfOk result (λ n. filled + n ≤ vec_len buf.new) }
+    ensures ok { IfOk result (λ n. Consumes (R.remaining reader.old) (R.remaining reader.new)
+        (take n (drop filled buf.new.items))) }
+    ensures end { IfOk result (λ n. n ≡ 0 → IsAtEnd (R.remaining reader.new)) }
+    ensures err { OnErr result ((filled ≤ vec_len buf.new) × Keeps (R.remaining reader.old) (R.remaining reader.new)) }
+{
+    read_after(reader, buf.as_mut_slice(), filled)
+}
+
+/// Reads the input to its end.
+///
+/// A read that was interrupted is tried again. On an Err some bytes of the input may be gone.
+///
+/// Errors: `Memory`, where memory is refused; `Input`, where a read fails, or where 4294967296 reads
+/// didn't come to the end.
+pub fn read_whole<R: Read>(alloc: Global, reader: &mut R) -> Result<Vec<u8>, Fault>
+    ensures whole { IfOk result (λ input. IfSome (R.remaining reader.old) (λ bytes. input.items ≡ bytes)) }
+    ensures end { OnOk result (IsAtEnd (R.remaining reader.new)) }
+    ensures fault { IfErr result (λ fault. (fault ≡ Fault.Memory) ⊎ (fault ≡ Fault.Input)) }
+{
+    let mut input = Vec::new(alloc);
+    let mut filled = 0;
+    for _ in 0..MOST_READS {
+        if make_room(&mut input, filled).is_err() {
+            return Err(Fault::Memory);
+        }
+        match read_piece(reader, &mut input, filled) {
+            Ok(0) => {
+                input.truncate(filled);
+                return Ok(input);
+            }
+            Ok(n) => filled += n,
+            Err(e) => {
+                if e.kind() != ErrorKind::Interrupted {
+                    return Err(Fault::Input);
+                }
+            }
+        }
+    }
+    Err(Fault::Input)
+}
