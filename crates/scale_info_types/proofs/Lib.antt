@@ -1,2 +1,4 @@
+pub mod Ends
 pub mod Iterators
+pub mod Places
 pub mod Terms

@@ -1,3 +1,4 @@
+pub mod Interned
 pub mod Iterators
 pub mod Portable
 pub mod References
