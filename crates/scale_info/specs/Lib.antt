@@ -1,2 +1,3 @@
 pub mod PortableSpelling
 pub mod PortableSpellingLaw
+pub mod Registered

@@ -1,5 +1,5 @@
 //! Lists of distinct values, and the numbers that stand for them.
-ghost use Rattle.std.specs.Prelude.{◌≡◌, ◌↔◌, ◌++◌, [], ◌∷◌, true, false, IsTrue, length, IfOk, IfSome, IsOk, IsSome, OnErr, IsErrOf, slice_get, take, option_map, Some};
+ghost use Rattle.std.specs.Prelude.{◌≡◌, ◌≤◌, ◌↔◌, ◌++◌, [], ◌∷◌, true, false, IsTrue, length, IfOk, IfSome, IsOk, IsSome, OnErr, IsErrOf, slice_get, take, option_map, Some};
 ghost use Rattle.std.specs.Option.{option_copied};
 ghost use Rattle.std.specs.Cmp.Lexicographic.{pointwise, lists_equiv, lists_per};
 ghost use Rattle.scale_info_types.specs.Interned.{IsPlaceOf, IsKnown, IsNew, AreDistinct};
@@ -39,6 +39,14 @@ impl<T> From<u32> for UntrackedSymbol<T> {
             id,
             marker: PhantomData,
         }
+    }
+}
+
+impl<T> From<UntrackedSymbol<T>> for u32 {
+    ghost from_gives = { λ symbol id. id ≡ symbol.id };
+
+    fn from(symbol: UntrackedSymbol<T>) -> u32 {
+        symbol.id
     }
 }
 
@@ -133,18 +141,13 @@ impl<T: Ord + Drop> Interner<T> {
         }
     }
 
-    /// The elements, in the order in which they came.
+    /// The elements, in the order in which they came. No two are equal.
     pub fn elements(&self) -> &[T]
-        ensures { result.now ≡ self.now }
+        ensures list { result.now ≡ self.now }
+        ensures distinct { AreDistinct T.eq self.now }
+        ensures bounded { length self.now ≤ 4294967295 }
     {
         &self.elements
-    }
-
-    /// States that no two elements are equal; does nothing when it runs.
-    pub fn distinct(&self)
-        ensures { AreDistinct T.eq self.now }
-    {
-        let _ = &self.elements;
     }
 
     /// The symbol of the element that equals this value; None where there is none. Takes no memory.

@@ -1,0 +1,80 @@
+//! Tables that a program puts together at run time.
+ghost use Rattle.std.specs.Prelude.{◌≡◌, ◌++◌, [], ◌∷◌, length, IfOk, OnErr, IsErrOf, slice_get, Some, Ok, IsTrue, ◌↔◌, take};
+ghost use Rattle.std.specs.Option.{option_copied};
+ghost use Rattle.scale_info.specs.Registered.{IsRegistered, IsUnregistered, numbered_from};
+
+use super::PortableRegistry;
+use scale_info_types::form::PortableForm;
+use scale_info_types::interner::{InternError, Interner};
+use scale_info_types::items::Items;
+use scale_info_types::try_clone::TryClone;
+use scale_info_types::ty::{PortableType, Type};
+use std::alloc::{AllocError, Global};
+use std::marker::Model;
+
+/// A table in the making: descriptions are registered one by one, and each gets an id.
+#[derive(Drop)]
+pub struct PortableRegistryBuilder {
+    types: Interner<Type<PortableForm>>,
+}
+
+impl Model for PortableRegistryBuilder {
+    ghost use Rattle.std.specs.Prelude.{List};
+    ghost use Rattle.scale_info_types.specs.Portable.{Description};
+
+    ghost Value = { List Description };
+
+    ghost view = { λ s. s.types };
+}
+
+impl PortableRegistryBuilder {
+    /// The builder with no type; takes no memory.
+    pub fn new(alloc: Global) -> PortableRegistryBuilder
+        ensures { result ≡ [] }
+    {
+        PortableRegistryBuilder {
+            types: Interner::new(alloc),
+        }
+    }
+
+    pub fn register_type(&mut self, ty: Type<PortableForm>) -> Result<u32, InternError>
+        ensures known { (id : _) → slice_get self.old id ≡ Some ty → (result ≡ Ok id) × (self.new ≡ self.old) }
+        ensures new { IsUnregistered self.old ty → IfOk result (λ id. (self.new ≡ self.old ++ ty ∷ []) × (id ≡ length self.old)) }
+        ensures full { IsErrOf result InternError.Full ↔ (length self.old ≡ 4294967295) × IsUnregistered self.old ty }
+        ensures err { OnErr result (self.new ≡ self.old) }
+    {
+        let (_, symbol) = self.types.intern_or_get(ty)?;
+        Ok(u32::from(symbol))
+    }
+
+    /// The id that the next new type gets, where there is room for it.
+    pub fn next_type_id(&self) -> u32
+        ensures { result ≡ length self.now }
+    {
+        self.types.elements().len() as u32
+    }
+
+    /// The description with this id; None where no type has it.
+    pub fn get(&self, id: u32) -> Option<&Type<PortableForm>>
+        ensures { option_copied result ≡ slice_get self.now id }
+    {
+        self.types.elements().get(id as usize)
+    }
+
+    pub fn finish(&self, alloc: Global) -> Result<PortableRegistry, AllocError>
+        ensures { IfOk result (λ table. table.types ≡ numbered_from 0 self.now) }
+    {
+        let mut types = Items::new(alloc);
+        for ty in self.types.elements() {
+            let id = types.len() as u32;
+            types.push(PortableType::new(id, ty.try_clone(alloc)?))?;
+        }
+        Ok(PortableRegistry { types })
+    }
+}
+
+fn equal(a: &Type<PortableForm>, b: &Type<PortableForm>) -> bool
+    ensures { IsTrue result ↔ (a.now ≡ b.now) }
+{
+    a == b
+}
