@@ -3,12 +3,12 @@ use Rattle.std.specs.Prelude.{◌≡◌, ℕ, ◌+◌, List, [], ◌∷◌, Some
 use Rattle.scale_info_types.specs.Portable.{Description}
 use Rattle.scale_info_types.specs.declared.ty.PortableType.{PortableType}
 
--- ty is one of the descriptions
-abbrev pub IsRegistered : List Description → Description → Type 0
+-- ty is one of the types
+abbrev pub IsRegistered : {X : Type 0} → List X → X → Type 0
 IsRegistered types ty = (id : ℕ) × (slice_get types id ≡ Some ty)
 
--- ty is none of the descriptions
-abbrev pub IsUnregistered : List Description → Description → Type 0
+-- ty is none of the types
+abbrev pub IsUnregistered : {X : Type 0} → List X → X → Type 0
 IsUnregistered types ty = IsRegistered types ty → ⊥
 
 -- the entries of the descriptions, with ids that count up from the first one

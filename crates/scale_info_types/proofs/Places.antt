@@ -9,7 +9,7 @@ use Rattle.std.specs.Option.{unwrap_or}
 use Rattle.std.specs.Cmp.{IsTotalOrder}
 use Rattle.std.specs.Map.{lookup}
 use Rattle.std.specs.BTreeMap.{BTreeMap, get, is_at, Updates}
-use Rattle.scale_info_types.specs.Interned.{IsKnown, AreDistinct, HasPlaces}
+use Rattle.scale_info_types.specs.Interned.{IsPlaceOf, IsKnown, AreDistinct, HasPlaces}
 use Rattle.scale_info_types.proofs.Ends.{at_end, kept_at, last_at}
 
 some_is : {A : Type 0} {x y : A} → Some x ≡ Some y → x ≡ y
@@ -44,6 +44,12 @@ module _ {T : Type 0} {cmp : T → T → Ordering} (o : IsTotalOrder cmp) where
         let a = h.0 k.0 k.1.0 k.1.1 in
         let s = get_same m x k.1.0 (tied x k.1.0 k.1.2) in
         grind (common_steps, rules, a, n, s)
+
+    pub places_at : (xs : List T) (m : BTreeMap T ℕ) (x : T) → HasPlaces cmp xs m → (i : ℕ) → (get cmp m x ≡ Some i) ↔ IsPlaceOf eq xs x i
+    places_at xs m x h i =
+        ( (λ e. let y = h.1 x i e in (y.0, y.1, ties x y.0 ∙ ap is_eq y.2))
+        , (λ k. get_same m x k.0 (tied x k.0 k.2) ∙ h.0 i k.0 k.1)
+        )
 
     pub places_answer : (xs : List T) (m : BTreeMap T ℕ) (x : T) → HasPlaces cmp xs m → (r : Option ℕ) → r ≡ get cmp m x → IsSome r ↔ IsKnown eq xs x
     places_answer xs m x h r e =

@@ -42,14 +42,6 @@ impl<T> From<u32> for UntrackedSymbol<T> {
     }
 }
 
-impl<T> From<UntrackedSymbol<T>> for u32 {
-    ghost from_gives = { λ symbol id. id ≡ symbol.id };
-
-    fn from(symbol: UntrackedSymbol<T>) -> u32 {
-        symbol.id
-    }
-}
-
 impl<T> TryClone for UntrackedSymbol<T> {
     fn try_clone(&self, _alloc: Global) -> Result<UntrackedSymbol<T>, AllocError> {
         Ok(*self)
@@ -189,7 +181,7 @@ impl<T: Ord + Drop> Interner<T> {
 
     /// The place of the element that equals this value.
     fn place_of(&self, value: &T) -> Option<u32>
-        ensures found { IfSome result (IsPlaceOf T.eq self.now value.now) }
+        ensures place { (i : _) → (result ≡ Some i) ↔ IsPlaceOf T.eq self.now value.now i }
         ensures known { IsSome result ↔ IsKnown T.eq self.now value.now }
     {
         self.places.get(value).copied()
@@ -206,12 +198,10 @@ impl<T: Ord + TryClone> Interner<T> {
     /// for a new element is refused. On an Err the interner is as before, and the value is let go. The
     /// crate `scale-info` panics where this answers an error.
     pub fn intern_or_get(&mut self, value: T) -> Result<(bool, UntrackedSymbol<T>), InternError>
-        ensures new { IfOk result (λ r. r.0 ≡ true → (self.new ≡ self.old ++ value ∷ []) × (r.1.id ≡ length self.old)) }
-        ensures known { IfOk result (λ r. r.0 ≡ false → (self.new ≡ self.old) × IsPlaceOf T.eq self.old value r.1.id) }
-        ensures flag { IfOk result (λ r. IsTrue r.0 ↔ IsNew T.eq self.old value) }
-
         // A known value can't fail, so it needs no memory.
-        ensures succeeds { IsKnown T.eq self.old value → IsOk result }
+        ensures known { (i : _) → IsPlaceOf T.eq self.old value i → IsOk result × IfOk result (λ r. (r.0 ≡ false) × (r.1.id ≡ i)) × (self.new ≡ self.old) }
+        ensures new { IsNew T.eq self.old value → IfOk result (λ r. (r.0 ≡ true) × (r.1.id ≡ length self.old) × (self.new ≡ self.old ++ value ∷ [])) }
+
         ensures full { IsErrOf result InternError.Full ↔ (length self.old ≡ 4294967295) × IsNew T.eq self.old value }
         ensures err { OnErr result (self.new ≡ self.old) }
     {

@@ -4,7 +4,7 @@ ghost use Rattle.std.specs.Option.{option_copied};
 ghost use Rattle.scale_info.specs.Registered.{IsRegistered, IsUnregistered, numbered_from};
 
 use super::PortableRegistry;
-use scale_info_types::form::PortableForm;
+use scale_info_types::form::{Form, PortableForm};
 use scale_info_types::interner::{InternError, Interner};
 use scale_info_types::items::Items;
 use scale_info_types::try_clone::TryClone;
@@ -39,12 +39,11 @@ impl PortableRegistryBuilder {
 
     pub fn register_type(&mut self, ty: Type<PortableForm>) -> Result<u32, InternError>
         ensures known { (id : _) → slice_get self.old id ≡ Some ty → (result ≡ Ok id) × (self.new ≡ self.old) }
-        ensures new { IsUnregistered self.old ty → IfOk result (λ id. (self.new ≡ self.old ++ ty ∷ []) × (id ≡ length self.old)) }
+        ensures new { IsUnregistered self.old ty → IfOk result (λ id. (id ≡ length self.old) × (self.new ≡ self.old ++ ty ∷ [])) }
         ensures full { IsErrOf result InternError.Full ↔ (length self.old ≡ 4294967295) × IsUnregistered self.old ty }
         ensures err { OnErr result (self.new ≡ self.old) }
     {
-        let (_, symbol) = self.types.intern_or_get(ty)?;
-        Ok(u32::from(symbol))
+        register(&mut self.types, ty)
     }
 
     /// The id that the next new type gets, where there is room for it.
@@ -73,8 +72,15 @@ impl PortableRegistryBuilder {
     }
 }
 
-fn equal(a: &Type<PortableForm>, b: &Type<PortableForm>) -> bool
-    ensures { IsTrue result ↔ (a.now ≡ b.now) }
+/// Registers a description, in a form whose equal types and equal texts are one value each.
+fn register<T: Form>(types: &mut Interner<Type<T>>, ty: Type<T>) -> Result<u32, InternError>
+    requires same_types { (a b : T.Ty) → IsTrue (T.Ty.eq a b) → a ≡ b }
+    requires same_texts { (a b : T.String) → IsTrue (T.String.eq a b) → a ≡ b }
+    ensures known { (id : _) → slice_get types.old id ≡ Some ty → (result ≡ Ok id) × (types.new ≡ types.old) }
+    ensures new { IsUnregistered types.old ty → IfOk result (λ id. (id ≡ length types.old) × (types.new ≡ types.old ++ ty ∷ [])) }
+    ensures full { IsErrOf result InternError.Full ↔ (length types.old ≡ 4294967295) × IsUnregistered types.old ty }
+    ensures err { OnErr result (types.new ≡ types.old) }
 {
-    a == b
+    let (_, symbol) = types.intern_or_get(ty)?;
+    Ok(symbol.id)
 }

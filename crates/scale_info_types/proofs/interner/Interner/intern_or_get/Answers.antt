@@ -1,4 +1,4 @@
-use Rattle.std.proofs.Common.{rules, ◌≡◌, ◌≤◌, ◌∷◌, ◌++◌, [], None, Some, true, length, subst, arith, sym, ◌∙◌}
+use Rattle.std.proofs.Common.{rules, ◌≡◌, ◌≤◌, ◌∷◌, ◌++◌, [], None, Some, true, length, subst, refl, arith, sym, ◌∙◌}
 use Rattle.std.proofs.lemmas.Grind.{common_steps}
 use Rattle.std.specs.BTreeMap.{get, Updates}
 use Rattle.scale_info_types.specs.Interned.{HasPlaces, IsKnown}
@@ -22,3 +22,9 @@ invariant_of-self-else-is_err g c =
     ( subst (λ xs. HasPlaces g.T.Ord.cmp xs c.insert.new.self) (sym items) (places_push g.met.T.Ord.total g.T.PartialEq.eq g.met.T.Ord.matches_eq c.self.inside.elements.items c.self.inside.places c.insert.new.self c.args.value c.self.invariant.0 updates absent)
     , rw items (search (rules, common_steps))
     )
+
+pub returns-in-Some-clause-known : goal.returns-in-Some-clause-known
+returns-in-Some-clause-known g c = λ i k.
+    let found = (c.in-Some.ensures.place i).1 k in
+    let given : c.from.result.id ≡ c.in-Some.place = search rules in
+    (refl, (refl, cc), refl)
