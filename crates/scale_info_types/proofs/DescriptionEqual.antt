@@ -3,6 +3,8 @@ use Rattle.std.proofs.Common.{◌≡◌, Bool, true, false, ◌&&◌, IsTrue, Li
 use denote.RattleType.{RattleType}
 use denote.Enum.Bare.{same_true}
 use mir.Syntax.{Dict}
+use denote.Enum.Declared.{tag_of}
+use Rattle.std.specs.Cmp.{nat_eq_equiv}
 use Rattle.std.specs.declared.cmp.Ord as ord
 use Rattle.std.specs.declared.cmp.Eq as equiv
 use Rattle.std.specs.declared.cmp.PartialEq as partial_eq
@@ -16,10 +18,13 @@ use Rattle.scale_info_types.specs.declared.ty.TypeDefPrimitive.{TypeDefPrimitive
 use Rattle.scale_info_types.specs.declared.ty.TypeDef.{TypeDef}
 use Rattle.scale_info_types.specs.declared.ty.TypeDef.TheVariants.{Composite, Variant, Sequence, Array, Tuple, Primitive, Compact, BitSequence}
 use Rattle.scale_info_types.specs.declared.ty.Description.{Description}
-use Rattle.scale_info_types.proofs.Same.{IsSame, composite_same, choice_same, array_same, bit_sequence_same, lists_same, description_same}
+use Rattle.scale_info_types.proofs.Same.{IsSame, composite_same, choice_same, array_same, bit_sequence_same, lists_same, description_same, EqualsItself, field_eq, variant_eq, lists_itself, field_itself, variant_itself, array_itself, bit_sequence_itself, description_itself}
 
 primitive_same : IsSame {X = TypeDefPrimitive} (primitive_impl.ghosts).eq
 primitive_same a b h = same_true the_type (search rules) a b h
+
+primitive_itself : EqualsItself {X = TypeDefPrimitive} (primitive_impl.ghosts).eq
+primitive_itself a = nat_eq_equiv.refl (tag_of the_type a)
 
 module _ (T Ty Text : RattleType) (form : forms.Ghosts T.Denot Ty.Denot Text.Denot) (form-dict : Dict) (ty_ord : ord.Ghosts Ty.Denot) (ty_ord-dict : Dict) (ty_eq : equiv.Ghosts Ty.Denot) (ty_eq-dict : Dict) (ty_partial_eq : partial_eq.Ghosts Ty.Denot) (ty_partial_eq-dict : Dict) (ty_partial_ord : partial_ord.Ghosts Ty.Denot) (ty_partial_ord-dict : Dict) (text_ord : ord.Ghosts Text.Denot) (text_ord-dict : Dict) (text_eq : equiv.Ghosts Text.Denot) (text_eq-dict : Dict) (text_partial_eq : partial_eq.Ghosts Text.Denot) (text_partial_eq-dict : Dict) (text_partial_ord : partial_ord.Ghosts Text.Denot) (text_partial_ord-dict : Dict) (d e f : Dict) where
   abbrev definition_eq : TypeDef T.Denot Ty.Denot Text.Denot → TypeDef T.Denot Ty.Denot Text.Denot → Bool
@@ -49,3 +54,17 @@ module _ (T Ty Text : RattleType) (form : forms.Ghosts T.Denot Ty.Denot Text.Den
 
     pub same_contents : IsSame description_eq
     same_contents a b h = description_same ty_partial_eq.eq text_partial_eq.eq same_type same_text definition_eq definition_same a b h
+
+  module _ (type_itself : EqualsItself ty_partial_eq.eq) (text_itself : EqualsItself text_partial_eq.eq) where
+    definition_itself : EqualsItself definition_eq
+    definition_itself (Composite a) = lists_itself (field_eq ty_partial_eq.eq text_partial_eq.eq) (field_itself ty_partial_eq.eq text_partial_eq.eq type_itself text_itself) a.fields
+    definition_itself (Variant a) = lists_itself (variant_eq ty_partial_eq.eq text_partial_eq.eq) (variant_itself ty_partial_eq.eq text_partial_eq.eq type_itself text_itself) a.variants
+    definition_itself (Sequence a) = type_itself a.type_param
+    definition_itself (Array a) = array_itself ty_partial_eq.eq text_partial_eq.eq type_itself text_itself a
+    definition_itself (Tuple a) = lists_itself ty_partial_eq.eq type_itself a.fields
+    definition_itself (Primitive a) = primitive_itself a
+    definition_itself (Compact a) = type_itself a.type_param
+    definition_itself (BitSequence a) = bit_sequence_itself ty_partial_eq.eq text_partial_eq.eq type_itself text_itself a
+
+    pub own_contents : EqualsItself description_eq
+    own_contents a = description_itself ty_partial_eq.eq text_partial_eq.eq type_itself text_itself definition_eq definition_itself a

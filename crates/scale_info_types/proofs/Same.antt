@@ -2,6 +2,8 @@
 use Rattle.std.proofs.Common.{◌≡◌, ℕ, zero, suc, Bool, true, false, ◌&&◌, IsTrue, List, [], ◌∷◌, Option, None, Some, eqb, refl, ap, rules, arith}
 use Rattle.std.proofs.lemmas.Grind.{common_steps}
 use Rattle.std.proofs.lemmas.Bool.{eqb-true}
+use Rattle.std.specs.Cmp.{nat_eq_equiv}
+use Rattle.std.specs.Cmp.Derive.{both_true}
 use Rattle.std.specs.Option.{option_eq}
 use lib.Pointwise.{pointwise}
 use Rattle.scale_info_types.specs.declared.ty.path.Path as paths
@@ -140,3 +142,38 @@ module _ {T Ty Text : Type 0} (te : Ty → Ty → Bool) (se : Text → Text → 
         let r = same a.type_def b.type_def (first_of_both (eq a.type_def b.type_def) docs h2) in
         let s = lists_same se same_text a.docs b.docs (second_of_both (eq a.type_def b.type_def) docs h2) in
         λ i. record { path = p i; type_params = q i; type_def = r i; docs = s i }
+
+-- every value equals itself
+abbrev pub EqualsItself : {X : Type 0} → (X → X → Bool) → Type 0
+EqualsItself {X} eq = (a : X) → IsTrue (eq a a)
+
+pub lists_itself : {X : Type 0} (eq : X → X → Bool) → EqualsItself eq → EqualsItself (pointwise eq)
+lists_itself eq itself [] = refl
+lists_itself eq itself (x ∷ xs) = both_true (itself x) (lists_itself eq itself xs)
+
+pub options_itself : {X : Type 0} (eq : X → X → Bool) → EqualsItself eq → EqualsItself (option_eq eq)
+options_itself eq itself None = refl
+options_itself eq itself (Some x) = itself x
+
+pub numbers_itself : EqualsItself eqb
+numbers_itself n = nat_eq_equiv.refl n
+
+module _ {T Ty Text : Type 0} (te : Ty → Ty → Bool) (se : Text → Text → Bool) (type_itself : EqualsItself te) (text_itself : EqualsItself se) where
+  pub parameter_itself : EqualsItself (parameter_eq {T = T} te se)
+  parameter_itself a = both_true (text_itself a.name) (options_itself te type_itself a.ty)
+
+  pub field_itself : EqualsItself (field_eq {T = T} te se)
+  field_itself a = both_true (options_itself se text_itself a.name) (both_true (type_itself a.ty) (both_true (options_itself se text_itself a.type_name) (lists_itself se text_itself a.docs)))
+
+  pub variant_itself : EqualsItself (variant_eq {T = T} te se)
+  variant_itself a = both_true (text_itself a.name) (both_true (lists_itself (field_eq {T = T} te se) field_itself a.fields) (both_true (numbers_itself a.index) (lists_itself se text_itself a.docs)))
+
+  pub array_itself : EqualsItself (array_eq {T = T} {Text = Text} te se)
+  array_itself a = both_true (numbers_itself a.len) (type_itself a.type_param)
+
+  pub bit_sequence_itself : EqualsItself (bit_sequence_eq {T = T} {Text = Text} te se)
+  bit_sequence_itself a = both_true (type_itself a.bit_store_type) (type_itself a.bit_order_type)
+
+  pub description_itself : (eq : definitions.TypeDef T Ty Text → definitions.TypeDef T Ty Text → Bool) → EqualsItself eq → (a : descriptions.Description T Ty Text) → IsTrue (path_eq {T = T} te se a.path a.path && (pointwise (parameter_eq {T = T} te se) a.type_params a.type_params && (eq a.type_def a.type_def && pointwise se a.docs a.docs)))
+  description_itself eq itself a =
+      both_true (lists_itself se text_itself a.path.segments) (both_true (lists_itself (parameter_eq {T = T} te se) parameter_itself a.type_params) (both_true (itself a.type_def) (lists_itself se text_itself a.docs)))

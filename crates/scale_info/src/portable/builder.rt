@@ -13,6 +13,11 @@ use std::alloc::{AllocError, Global};
 use std::marker::Model;
 
 /// A table in the making: descriptions are registered one by one, and each gets an id.
+///
+/// Equal descriptions share one id. Contracts see a builder as the list of its descriptions, in which
+/// an id is a place. References between descriptions are taken as they come: nothing checks that they
+/// lead to a registered type, so that types may refer to one another in a circle, or to themselves by
+/// [`next_type_id`](PortableRegistryBuilder::next_type_id).
 #[derive(Drop)]
 pub struct PortableRegistryBuilder {
     types: Interner<Type<PortableForm>>,
@@ -37,6 +42,14 @@ impl PortableRegistryBuilder {
         }
     }
 
+    /// The id of this description, which goes last if no registered one equals it.
+    ///
+    /// A new description gets the id that [`next_type_id`](PortableRegistryBuilder::next_type_id)
+    /// answered before. A registered one changes nothing, needs no memory and succeeds.
+    ///
+    /// Errors: `Full`, where the description is new and there are 4294967295 of them; `Memory`, where
+    /// memory for a new one is refused. On an Err the builder is as before, and the description is let
+    /// go. The crate `scale-info` panics where this answers an error.
     pub fn register_type(&mut self, ty: Type<PortableForm>) -> Result<u32, InternError>
         ensures known { (id : _) → slice_get self.old id ≡ Some ty → (result ≡ Ok id) × (self.new ≡ self.old) }
         ensures new { IsUnregistered self.old ty → IfOk result (λ id. (id ≡ length self.old) × (self.new ≡ self.old ++ ty ∷ [])) }
@@ -46,20 +59,27 @@ impl PortableRegistryBuilder {
         register(&mut self.types, ty)
     }
 
-    /// The id that the next new type gets, where there is room for it.
+    /// The number of registered descriptions, which is the id that the next new one gets.
+    ///
+    /// Of 4294967295 descriptions it answers 4294967295, an id that no description ever gets.
     pub fn next_type_id(&self) -> u32
         ensures { result ≡ length self.now }
     {
         self.types.elements().len() as u32
     }
 
-    /// The description with this id; None where no type has it.
+    /// The description with this id; None where none has it.
     pub fn get(&self, id: u32) -> Option<&Type<PortableForm>>
         ensures { option_copied result ≡ slice_get self.now id }
     {
         self.types.elements().get(id as usize)
     }
 
+    /// The table of the registered descriptions, in which place `i` has the id `i`.
+    ///
+    /// The builder stays as it is and can go on; the table has copies.
+    ///
+    /// Errors: `AllocError`, where memory for the table is refused.
     pub fn finish(&self, alloc: Global) -> Result<PortableRegistry, AllocError>
         ensures { IfOk result (λ table. table.types ≡ numbered_from 0 self.now) }
     {

@@ -1,0 +1,35 @@
+-- Types known by their contents, and by an equality that goes by contents.
+use Rattle.std.proofs.Common.{◌≡◌, ◌<◌, ◌≤◌, ◌+◌, ℕ, zero, suc, Bool, IsTrue, List, [], ◌∷◌, ◌++◌, length, take, Some, slice_get, ap, refl, sym, ◌∙◌, rules, arith, zero-add, add-suc, add-one}
+use Rattle.std.specs.declared.result.Result.{Result}
+use Rattle.std.specs.declared.result.Result.TheVariants.{Ok, Err}
+use Rattle.std.specs.Result.{IsErr, IsErrAnd}
+use Rattle.std.proofs.lemmas.Grind.{common_steps}
+use Rattle.scale_info_types.specs.Portable.{Description}
+use Rattle.scale_info_types.specs.Interned.{IsPlaceOf, IsKnown, IsNew}
+use Rattle.scale_info_types.proofs.Same.{IsSame, EqualsItself}
+use Rattle.scale_info.specs.Registered.{IsRegistered, IsUnregistered, numbered_from}
+
+pub placed : {X : Type 0} (eq : X → X → Bool) → EqualsItself eq → (xs : List X) (x : X) (i : ℕ) → slice_get xs i ≡ Some x → IsPlaceOf eq xs x i
+placed eq itself xs x i e = (x, e, itself x)
+
+pub new_is_unregistered : {X : Type 0} (eq : X → X → Bool) → EqualsItself eq → (xs : List X) (x : X) → IsNew eq xs x → IsUnregistered xs x
+new_is_unregistered eq itself xs x n r = n (r.0, placed eq itself xs x r.0 r.1)
+
+pub unregistered_is_new : {X : Type 0} (eq : X → X → Bool) → IsSame eq → (xs : List X) (x : X) → IsUnregistered xs x → IsNew eq xs x
+unregistered_is_new eq same xs x u k = u (k.0, k.1.1 ∙ ap Some (sym (same x k.1.0 k.1.2)))
+
+pub length_numbered : (first : ℕ) (types : List Description) → length (numbered_from first types) ≡ length types
+length_numbered first [] = refl
+length_numbered first (ty ∷ types) = ap suc (length_numbered (first + 1) types)
+
+pub numbered_push : (first : ℕ) (types : List Description) (ty : Description) → numbered_from first (types ++ ty ∷ []) ≡ numbered_from first types ++ record { id = first + length types; ty = ty } ∷ []
+numbered_push first [] ty = grind (arith, common_steps)
+numbered_push first (t ∷ types) ty =
+    let ih = numbered_push (first + 1) types ty in
+    let at : (first + 1) + length types ≡ first + suc (length types) = omega arith in
+    grind (arith, common_steps, ih, at)
+
+-- a result that is an error, and this one
+pub failed : {T E : Type 0} (r : Result T E) (e : E) → IsErr r → IsErrAnd r (λ y. y ≡ e) → r ≡ Err e
+failed (Ok x) e h k = cc
+failed (Err y) e h k = ap Err k

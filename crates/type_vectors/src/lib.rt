@@ -1,0 +1,4 @@
+//! What callers of the library see, by examples.
+#![tactic(auto)]
+
+mod interners;
