@@ -52,7 +52,6 @@ impl<T> TryClone for UntrackedSymbol<T> {
 ///
 /// Copy, Eq and Ord hold for every `T` and go by the number. The borrow keeps the interner from
 /// changing, not the symbol from being shown to another interner: see [`Interner::resolve`].
-#[derive(Drop)]
 #[derive_where(Clone, Copy, PartialEq, Eq, PartialOrd, Ord)]
 pub struct Symbol<'a, T> {
     id: u32,
