@@ -1,5 +1,5 @@
 -- Descriptions that are equal by `==` have equal contents, where that holds of types and of texts.
-use Rattle.std.proofs.Common.{◌≡◌, Bool, true, false, ◌&&◌, IsTrue, List, refl, ap, sym, rules, arith}
+use Rattle.std.proofs.Common.{Bool, ap, rules}
 use denote.RattleType.{RattleType}
 use denote.Enum.Bare.{same_true}
 use mir.Syntax.{Dict}

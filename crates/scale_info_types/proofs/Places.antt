@@ -1,5 +1,5 @@
 -- What a map of places keeps.
-use Rattle.std.proofs.Common.{◌≡◌, ◌<◌, ℕ, Bool, true, false, cond, IsTrue, List, [], ◌∷◌, ◌++◌, length, Option, None, Some, slice_get, IsSome, ◌↔◌, ◌⊎◌, inl, inr, refl, sym, ◌∙◌, ap, subst, rules, arith}
+use Rattle.std.proofs.Common.{◌≡◌, ℕ, Bool, true, false, IsTrue, List, [], ◌∷◌, ◌++◌, length, Option, None, Some, slice_get, IsSome, ◌↔◌, ◌⊎◌, inl, inr, refl, sym, ◌∙◌, ap, subst, rules, arith}
 use Rattle.std.proofs.lemmas.Grind.{common_steps}
 use Rattle.std.specs.declared.cmp.Ordering.{Ordering}
 use Rattle.std.specs.declared.cmp.Ordering.TheVariants.{Less, Equal, Greater}
@@ -46,23 +46,23 @@ module _ {T : Type 0} {cmp : T → T → Ordering} (o : IsTotalOrder cmp) where
         grind (common_steps, rules, a, n, s)
 
     pub places_at : (xs : List T) (m : BTreeMap T ℕ) (x : T) → HasPlaces cmp xs m → (i : ℕ) → (get cmp m x ≡ Some i) ↔ IsPlaceOf eq xs x i
-    places_at xs m x h i =
-        ( (λ e. let y = h.1 x i e in (y.0, y.1, ties x y.0 ∙ ap is_eq y.2))
-        , (λ k. get_same m x k.0 (tied x k.0 k.2) ∙ h.0 i k.0 k.1)
-        )
+    places_at xs m x h i = (
+      (λ e. let y = h.1 x i e in (y.0, y.1, ties x y.0 ∙ ap is_eq y.2)),
+      (λ k. get_same m x k.0 (tied x k.0 k.2) ∙ h.0 i k.0 k.1),
+    )
 
     pub places_answer : (xs : List T) (m : BTreeMap T ℕ) (x : T) → HasPlaces cmp xs m → (r : Option ℕ) → r ≡ get cmp m x → IsSome r ↔ IsKnown eq xs x
     places_answer xs m x h r e =
         let known : (r : Option ℕ) → r ≡ get cmp m x → IsSome r → IsKnown eq xs x =
-            λ r. elim r as (λ v. v ≡ get cmp m x → IsSome v → IsKnown eq xs x)
-            [ None ↦ λ e t. cc
-            | Some i ↦ λ e t. let y = h.1 x i (sym e) in (i, (y.0, y.1, ties x y.0 ∙ ap is_eq y.2))
-            ] in
+        λ r. elim r as (λ v. v ≡ get cmp m x → IsSome v → IsKnown eq xs x) [
+          | None ↦ λ e t. cc
+          | Some i ↦ λ e t. let y = h.1 x i (sym e) in (i, (y.0, y.1, ties x y.0 ∙ ap is_eq y.2))
+        ] in
         let some : (r : Option ℕ) → r ≡ get cmp m x → IsKnown eq xs x → IsSome r =
-            λ r. elim r as (λ v. v ≡ get cmp m x → IsKnown eq xs x → IsSome v)
-            [ None ↦ λ e k. absurd (places_absent xs m x h (sym e) k)
-            | Some i ↦ λ e k. refl
-            ] in
+        λ r. elim r as (λ v. v ≡ get cmp m x → IsKnown eq xs x → IsSome v) [
+          | None ↦ λ e k. absurd (places_absent xs m x h (sym e) k)
+          | Some i ↦ λ e k. refl
+        ] in
         (known r e, some r e)
 
     missed : (b : Bool) → (IsTrue b → ⊥) → b ≡ false
@@ -76,37 +76,37 @@ module _ {T : Type 0} {cmp : T → T → Ordering} (o : IsTotalOrder cmp) where
     pub places_push : (xs : List T) (m n : BTreeMap T ℕ) (x : T) → HasPlaces cmp xs m → Updates cmp m n x (Some (length xs)) → get cmp m x ≡ None → HasPlaces cmp (xs ++ x ∷ []) n
     places_push xs m n x h u absent =
         let here : get cmp n x ≡ Some (length xs) = u.1 in
-        let other : (i : ℕ) (y : T) → get cmp m y ≡ Some i → is_eq (cmp x y) ≡ false = λ i y e. missed (is_eq (cmp x y)) (λ t. let s = get_same m x y (equal_is (cmp x y) t) in grind (common_steps, rules, s, absent, e)) in
-        ( (λ i y p. elim (at_end xs x i y p) [ inl q ↦ u.2 y (other i y (h.0 i y q)) ∙ h.0 i y q | inr q ↦ subst (λ z. get cmp n z ≡ Some i) q.1 (here ∙ ap Some (sym q.0)) ])
-        , (λ k i e. elim (either (is_eq (cmp x k)))
-            [ inl t ↦
+        let other : (i : ℕ) (y : T) → get cmp m y ≡ Some i → is_eq (cmp x y) ≡ false = λ i y e. missed (is_eq (cmp x y)) (λ t. let s = get_same m x y (equal_is (cmp x y) t) in grind (common_steps, rules, s, absent, e)) in (
+          (λ i y p. elim (at_end xs x i y p) [ inl q ↦ u.2 y (other i y (h.0 i y q)) ∙ h.0 i y q | inr q ↦ subst (λ z. get cmp n z ≡ Some i) q.1 (here ∙ ap Some (sym q.0)) ]),
+          (λ k i e. elim (either (is_eq (cmp x k))) [
+            | inl t ↦
                 let k_at : cmp k x ≡ Equal = o.antisymm k x ∙ ap ordering_reverse (equal_is (cmp x k) t) in
                 let place : Some (length xs) ≡ Some i = sym here ∙ sym (get_same n k x k_at) ∙ e in
                 (x, subst (λ j. slice_get (xs ++ x ∷ []) j ≡ Some x) (some_is place) (last_at xs x), k_at)
             | inr f ↦
                 let old = h.1 k i (sym (u.2 k f) ∙ e) in
                 (old.0, kept_at xs x i old.0 old.1, old.2)
-            ])
+          ]),
         )
 
     pub places_pop : (xs : List T) (m n : BTreeMap T ℕ) (x : T) → HasPlaces cmp (xs ++ x ∷ []) m → Updates cmp m n x None → HasPlaces cmp xs n
     places_pop xs m n x h u =
         let last : get cmp m x ≡ Some (length xs) = h.0 (length xs) x (last_at xs x) in
-        let other : (i : ℕ) (y : T) → slice_get xs i ≡ Some y → is_eq (cmp x y) ≡ false = λ i y p. missed (is_eq (cmp x y)) (λ t. let s = get_same m x y (equal_is (cmp x y) t) in let e = h.0 i y (kept_at xs x i y p) in let w = slice_get_within xs i y p in let same = some_is (sym last ∙ s ∙ e) in omega (arith, w, same)) in
-        ( (λ i y p. u.2 y (other i y p) ∙ h.0 i y (kept_at xs x i y p))
-        , (λ k i e. elim (either (is_eq (cmp x k)))
-            [ inl t ↦ let gone = u.0 k in grind (common_steps, rules, gone, t, e)
+        let other : (i : ℕ) (y : T) → slice_get xs i ≡ Some y → is_eq (cmp x y) ≡ false = λ i y p. missed (is_eq (cmp x y)) (λ t. let s = get_same m x y (equal_is (cmp x y) t) in let e = h.0 i y (kept_at xs x i y p) in let w = slice_get_within xs i y p in let same = some_is (sym last ∙ s ∙ e) in omega (arith, w, same)) in (
+          (λ i y p. u.2 y (other i y p) ∙ h.0 i y (kept_at xs x i y p)),
+          (λ k i e. elim (either (is_eq (cmp x k))) [
+            | inl t ↦ let gone = u.0 k in grind (common_steps, rules, gone, t, e)
             | inr f ↦
                 let old = h.1 k i (sym (u.2 k f) ∙ e) in
-                elim (at_end xs x i old.0 old.1)
-                [ inl p ↦ (old.0, p, old.2)
-                | inr q ↦
-                    let k_at : cmp k x ≡ Equal = subst (λ z. cmp k z ≡ Equal) (sym q.1) old.2 in
-                    let x_at : cmp x k ≡ Equal = o.antisymm x k ∙ ap ordering_reverse k_at in
-                    let wrong : is_eq (cmp x k) ≡ true = ap is_eq x_at in
-                    absurd (grind (common_steps, rules, wrong, f))
+                elim (at_end xs x i old.0 old.1) [
+                  | inl p ↦ (old.0, p, old.2)
+                  | inr q ↦
+                      let k_at : cmp k x ≡ Equal = subst (λ z. cmp k z ≡ Equal) (sym q.1) old.2 in
+                      let x_at : cmp x k ≡ Equal = o.antisymm x k ∙ ap ordering_reverse k_at in
+                      let wrong : is_eq (cmp x k) ≡ true = ap is_eq x_at in
+                      absurd (grind (common_steps, rules, wrong, f))
                 ]
-            ])
+          ]),
         )
 
 pub places_kept : {T : Type 0} {cmp : T → T → Ordering} (xs : List T) (m n : BTreeMap T ℕ) → n.entries ≡ m.entries → HasPlaces cmp xs m → HasPlaces cmp xs n
@@ -116,8 +116,8 @@ places_kept {T} {cmp} xs m n e h =
 pub places_unknown : {T : Type 0} {cmp : T → T → Ordering} (eq : T → T → Bool) → ((x y : T) → eq x y ≡ is_eq (cmp x y)) → (xs : List T) (m : BTreeMap T ℕ) (x : T) → HasPlaces cmp xs m → (IsKnown eq xs x → ⊥) → get cmp m x ≡ None
 places_unknown {T} {cmp} eq ties xs m x h not_known =
     let at : (r : Option ℕ) → get cmp m x ≡ r → r ≡ None =
-        λ r. elim r as (λ v. get cmp m x ≡ v → v ≡ None)
-        [ None ↦ λ e. refl
-        | Some i ↦ λ e. let y = h.1 x i e in absurd (not_known (i, (y.0, y.1, ties x y.0 ∙ ap is_eq y.2)))
-        ] in
+    λ r. elim r as (λ v. get cmp m x ≡ v → v ≡ None) [
+      | None ↦ λ e. refl
+      | Some i ↦ λ e. let y = h.1 x i e in absurd (not_known (i, (y.0, y.1, ties x y.0 ∙ ap is_eq y.2)))
+    ] in
     at (get cmp m x) refl

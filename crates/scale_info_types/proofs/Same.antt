@@ -1,6 +1,5 @@
 -- Descriptions that are equal have equal contents, where that holds of types and of texts.
-use Rattle.std.proofs.Common.{◌≡◌, ℕ, zero, suc, Bool, true, false, ◌&&◌, IsTrue, List, [], ◌∷◌, Option, None, Some, eqb, refl, ap, rules, arith}
-use Rattle.std.proofs.lemmas.Grind.{common_steps}
+use Rattle.std.proofs.Common.{◌≡◌, Bool, true, false, ◌&&◌, IsTrue, [], ◌∷◌, None, Some, eqb, refl, ap}
 use Rattle.std.proofs.lemmas.Bool.{eqb-true}
 use Rattle.std.specs.Cmp.{nat_eq_equiv}
 use Rattle.std.specs.Cmp.Derive.{both_true}
@@ -12,10 +11,7 @@ use Rattle.scale_info_types.specs.declared.ty.fields.Field as fields
 use Rattle.scale_info_types.specs.declared.ty.variant.Variant as variants
 use Rattle.scale_info_types.specs.declared.ty.composite.TypeDefComposite as composites
 use Rattle.scale_info_types.specs.declared.ty.variant.TypeDefVariant as choices
-use Rattle.scale_info_types.specs.declared.ty.TypeDefSequence as sequences
 use Rattle.scale_info_types.specs.declared.ty.TypeDefArray as arrays
-use Rattle.scale_info_types.specs.declared.ty.TypeDefTuple as tuples
-use Rattle.scale_info_types.specs.declared.ty.TypeDefCompact as compacts
 use Rattle.scale_info_types.specs.declared.ty.TypeDefBitSequence as bit_sequences
 use Rattle.scale_info_types.specs.declared.ty.TypeDef as definitions
 use Rattle.scale_info_types.specs.declared.ty.Description as descriptions

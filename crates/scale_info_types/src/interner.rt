@@ -102,7 +102,8 @@ impl<T: Drop> From<AllocFailed<T>> for InternError {
 ///
 /// Two values with equal contents have one place, as in the crate `scale-info`. Contracts see an
 /// interner as the list of its elements. A look-up or an insertion takes a number of comparisons
-/// logarithmic in the number of elements.
+/// logarithmic in the number of elements. Each element is kept twice, in the list and in the ordered
+/// map of places, as `scale-info` keeps it.
 #[derive(Drop)]
 pub struct Interner<T: Ord> {
     elements: Vec<T>,
@@ -195,12 +196,11 @@ impl<T: Ord + TryClone> Interner<T> {
     ///
     /// Errors: `Full`, where the value is new and there are 4294967295 elements; `Memory`, where memory
     /// for a new element is refused. On an Err the interner is as before, and the value is let go. The
-    /// crate `scale-info` panics where this answers an error.
+    /// crate `scale-info` has no such errors.
     pub fn intern_or_get(&mut self, value: T) -> Result<(bool, UntrackedSymbol<T>), InternError>
         // A known value can't fail, so it needs no memory.
         ensures known { (i : _) → IsPlaceOf T.eq self.old value i → IsOk result × IfOk result (λ r. (r.0 ≡ false) × (r.1.id ≡ i)) × (self.new ≡ self.old) }
         ensures new { IsNew T.eq self.old value → IfOk result (λ r. (r.0 ≡ true) × (r.1.id ≡ length self.old) × (self.new ≡ self.old ++ value ∷ [])) }
-
         ensures full { IsErrOf result InternError.Full ↔ (length self.old ≡ 4294967295) × IsNew T.eq self.old value }
         ensures err { OnErr result (self.new ≡ self.old) }
     {

@@ -2,14 +2,20 @@
 
 #[cfg(test)]
 mod tests {
-    use scale_info::{Field, Path, PortableRegistryBuilder, Type, TypeDefComposite, TypeDefPrimitive, TypeDefSequence};
+    use scale_info::{
+        Field, Path, PortableRegistryBuilder, Type, TypeDefComposite, TypeDefPrimitive,
+        TypeDefSequence,
+    };
     use scale_info_types::form::PortableForm;
     use scale_info_types::interner::{InternError, Interner, UntrackedSymbol};
     use std::alloc::{AllocError, Global};
 
     /// The description of a sequence of the type with this id.
     fn sequence(alloc: Global, id: u32) -> Type<PortableForm> {
-        Type::from_def(alloc, TypeDefSequence::new(UntrackedSymbol::from(id)).into())
+        Type::from_def(
+            alloc,
+            TypeDefSequence::new(UntrackedSymbol::from(id)).into(),
+        )
     }
 
     /// The description of `u32`.

@@ -49,7 +49,7 @@ impl PortableRegistryBuilder {
     ///
     /// Errors: `Full`, where the description is new and there are 4294967295 of them; `Memory`, where
     /// memory for a new one is refused. On an Err the builder is as before, and the description is let
-    /// go. The crate `scale-info` panics where this answers an error.
+    /// go. The crate `scale-info` has no such errors.
     pub fn register_type(&mut self, ty: Type<PortableForm>) -> Result<u32, InternError>
         ensures known { (id : _) → slice_get self.old id ≡ Some ty → (result ≡ Ok id) × (self.new ≡ self.old) }
         ensures new { IsUnregistered self.old ty → IfOk result (λ id. (id ≡ length self.old) × (self.new ≡ self.old ++ ty ∷ [])) }

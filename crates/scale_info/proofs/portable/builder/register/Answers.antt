@@ -27,9 +27,9 @@ pub returns-clause-full : goal.returns-clause-full
 returns-clause-full g c =
     let eq = description_eq g.row.T g.row.T-Ty g.row.T-String g.T.Form g.T.Form-dict g.T.Ty.Ord g.T.Ty.Ord-dict g.T.Ty.Eq g.T.Ty.Eq-dict g.T.Ty.PartialEq g.T.Ty.PartialEq-dict g.T.Ty.PartialOrd g.T.Ty.PartialOrd-dict g.T.String.Ord g.T.String.Ord-dict g.T.String.Eq g.T.String.Eq-dict g.T.String.PartialEq g.T.String.PartialEq-dict g.T.String.PartialOrd g.T.String.PartialOrd-dict g.T.Destruct-dict g.T.Destruct-dict g.T.Destruct-dict in
     let same : IsSame eq = same_contents g.row.T g.row.T-Ty g.row.T-String g.T.Form g.T.Form-dict g.T.Ty.Ord g.T.Ty.Ord-dict g.T.Ty.Eq g.T.Ty.Eq-dict g.T.Ty.PartialEq g.T.Ty.PartialEq-dict g.T.Ty.PartialOrd g.T.Ty.PartialOrd-dict g.T.String.Ord g.T.String.Ord-dict g.T.String.Eq g.T.String.Eq-dict g.T.String.PartialEq g.T.String.PartialEq-dict g.T.String.PartialOrd g.T.String.PartialOrd-dict g.T.Destruct-dict g.T.Destruct-dict g.T.Destruct-dict c.requires.same_types c.requires.same_texts in
-    let full = c.in_ok-symbol.ensures.full in
-    ( (λ h. absurd (cc))
-    , (λ h. let e = full.1 (h.0, unregistered_is_new eq same c.args.types.now c.args.ty h.1) in absurd (cc))
+    let full = c.in_ok-symbol.ensures.full in (
+      (λ h. absurd (cc)),
+      (λ h. let e = full.1 (h.0, unregistered_is_new eq same c.args.types.now c.args.ty h.1) in absurd (cc)),
     )
 
 pub returns-in_err-symbol-clause-known : goal.returns-in_err-symbol-clause-known
@@ -47,7 +47,7 @@ returns-in_err-symbol-clause-full g c =
     let itself : EqualsItself eq = own_contents g.row.T g.row.T-Ty g.row.T-String g.T.Form g.T.Form-dict g.T.Ty.Ord g.T.Ty.Ord-dict g.T.Ty.Eq g.T.Ty.Eq-dict g.T.Ty.PartialEq g.T.Ty.PartialEq-dict g.T.Ty.PartialOrd g.T.Ty.PartialOrd-dict g.T.String.Ord g.T.String.Ord-dict g.T.String.Eq g.T.String.Eq-dict g.T.String.PartialEq g.T.String.PartialEq-dict g.T.String.PartialOrd g.T.String.PartialOrd-dict g.T.Destruct-dict g.T.Destruct-dict g.T.Destruct-dict g.met.T.Ty.Eq.laws.refl g.met.T.String.Eq.laws.refl in
     let same : IsSame eq = same_contents g.row.T g.row.T-Ty g.row.T-String g.T.Form g.T.Form-dict g.T.Ty.Ord g.T.Ty.Ord-dict g.T.Ty.Eq g.T.Ty.Eq-dict g.T.Ty.PartialEq g.T.Ty.PartialEq-dict g.T.Ty.PartialOrd g.T.Ty.PartialOrd-dict g.T.String.Ord g.T.String.Ord-dict g.T.String.Eq g.T.String.Eq-dict g.T.String.PartialEq g.T.String.PartialEq-dict g.T.String.PartialOrd g.T.String.PartialOrd-dict g.T.Destruct-dict g.T.Destruct-dict g.T.Destruct-dict c.requires.same_types c.requires.same_texts in
     let full = c.in_err-symbol.ensures.full in
-    let given : c.from_residual.result ≡ Err c.in_err-symbol.field-0.0 = failed c.from_residual.result c.in_err-symbol.field-0.0 c.from_residual.ensures.0 c.from_residual.ensures.1 in
-    ( (λ h. let old = full.0 (search rules) in (old.0, new_is_unregistered eq itself c.args.types.now c.args.ty old.1))
-    , (λ h. let e = full.1 (h.0, unregistered_is_new eq same c.args.types.now c.args.ty h.1) in search rules)
+    let given : c.from_residual.result ≡ Err c.in_err-symbol.field-0.0 = failed c.from_residual.result c.in_err-symbol.field-0.0 c.from_residual.ensures.0 c.from_residual.ensures.1 in (
+      (λ h. let old = full.0 (search rules) in (old.0, new_is_unregistered eq itself c.args.types.now c.args.ty old.1)),
+      (λ h. let e = full.1 (h.0, unregistered_is_new eq same c.args.types.now c.args.ty h.1) in search rules),
     )

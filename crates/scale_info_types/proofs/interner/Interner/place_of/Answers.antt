@@ -1,6 +1,5 @@
-use Rattle.std.proofs.Common.{rules, ◌≡◌, Some}
+use Rattle.std.proofs.Common.{rules, ◌≡◌}
 use Rattle.std.specs.BTreeMap.{get}
-use Rattle.scale_info_types.specs.Interned.{IsPlaceOf, IsKnown}
 use Rattle.scale_info_types.proofs.Places.{places_at, places_answer}
 use Rattle.scale_info_types.proofs.interner.Interner.place_of.Goals as goal
 
