@@ -1,13 +1,13 @@
 -- Types known by their contents, and by an equality that goes by contents.
-use Rattle.std.proofs.Common.{◌≡◌, ◌<◌, ◌≤◌, ◌+◌, ℕ, zero, suc, Bool, IsTrue, List, [], ◌∷◌, ◌++◌, length, take, Some, slice_get, ap, refl, sym, ◌∙◌, rules, arith, zero-add, add-suc, add-one}
+use Rattle.std.proofs.Common.{◌≡◌, ◌+◌, ℕ, suc, Bool, List, [], ◌∷◌, ◌++◌, length, Some, slice_get, ap, refl, sym, ◌∙◌, arith}
 use Rattle.std.specs.declared.result.Result.{Result}
 use Rattle.std.specs.declared.result.Result.TheVariants.{Ok, Err}
 use Rattle.std.specs.Result.{IsErr, IsErrAnd}
 use Rattle.std.proofs.lemmas.Grind.{common_steps}
 use Rattle.scale_info_types.specs.Portable.{Description}
-use Rattle.scale_info_types.specs.Interned.{IsPlaceOf, IsKnown, IsNew}
+use Rattle.scale_info_types.specs.Interned.{IsPlaceOf, IsNew}
 use Rattle.scale_info_types.proofs.Same.{IsSame, EqualsItself}
-use Rattle.scale_info.specs.Registered.{IsRegistered, IsUnregistered, numbered_from}
+use Rattle.scale_info.specs.Registered.{IsUnregistered, numbered_from}
 
 pub placed : {X : Type 0} (eq : X → X → Bool) → EqualsItself eq → (xs : List X) (x : X) (i : ℕ) → slice_get xs i ≡ Some x → IsPlaceOf eq xs x i
 placed eq itself xs x i e = (x, e, itself x)

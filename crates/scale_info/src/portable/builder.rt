@@ -1,7 +1,7 @@
 //! Tables that a program puts together at run time.
-ghost use Rattle.std.specs.Prelude.{◌≡◌, ◌++◌, [], ◌∷◌, length, IfOk, OnErr, IsErrOf, slice_get, Some, Ok, IsTrue, ◌↔◌, take};
+ghost use Rattle.std.specs.Prelude.{◌≡◌, ◌++◌, [], ◌∷◌, length, IfOk, OnErr, IsErrOf, slice_get, Some, Ok, IsTrue, ◌↔◌};
 ghost use Rattle.std.specs.Option.{option_copied};
-ghost use Rattle.scale_info.specs.Registered.{IsRegistered, IsUnregistered, numbered_from};
+ghost use Rattle.scale_info.specs.Registered.{IsUnregistered, numbered_from};
 
 use super::PortableRegistry;
 use scale_info_types::form::{Form, PortableForm};

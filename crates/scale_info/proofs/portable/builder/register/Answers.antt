@@ -1,9 +1,6 @@
-use Rattle.std.proofs.Common.{rules, ◌≡◌, Ok, Err, IsOk, IsErrOf, length, ap, sym, ◌∙◌}
-use Rattle.std.proofs.lemmas.Grind.{common_steps}
-use Rattle.scale_info_types.specs.declared.interner.InternError.TheVariants.{Full}
+use Rattle.std.proofs.Common.{rules, ◌≡◌, Ok, Err, ap}
 use Rattle.scale_info_types.proofs.Same.{IsSame, EqualsItself}
 use Rattle.scale_info_types.proofs.DescriptionEqual.{description_eq, same_contents, own_contents}
-use Rattle.scale_info.specs.Registered.{IsUnregistered}
 use Rattle.scale_info.proofs.Registered.{failed, placed, new_is_unregistered, unregistered_is_new}
 use Rattle.scale_info.proofs.portable.builder.register.Goals as goal
 

@@ -1,6 +1,5 @@
-use Rattle.std.proofs.Common.{rules, ◌≡◌, ◌<◌, ◌≤◌, length, take, ap, arith}
+use Rattle.std.proofs.Common.{rules, length, ap, arith}
 use Rattle.std.proofs.lemmas.Grind.{common_steps}
-use Rattle.scale_info.specs.Registered.{numbered_from}
 use Rattle.scale_info.proofs.Registered.{length_numbered, numbered_push}
 use Rattle.scale_info.proofs.portable.builder.PortableRegistryBuilder.finish.Goals as goal
 
