@@ -11,6 +11,7 @@ pub mod Places
 pub mod PlacesOf
 pub mod Pruned
 pub mod Reached
+pub mod Registered
 pub mod SideBySide
 pub mod Tables
 pub mod Tours

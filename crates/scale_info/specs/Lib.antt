@@ -6,6 +6,7 @@ pub mod Paths
 pub mod PortableSpelling
 pub mod PortableSpellingLaw
 pub mod PortableTables
+pub mod Registered
 pub mod Registrations
 pub mod Systems
 pub mod Tables

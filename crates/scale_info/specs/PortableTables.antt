@@ -1,5 +1,5 @@
 -- A table of descriptions as a reference system, whose nodes are its places.
-use Rattle.std.specs.Prelude.{ℕ, Option, option_map, slice_get, List, map}
+use Rattle.std.specs.Prelude.{ℕ, option_map, slice_get, map}
 use Rattle.scale_info_types.specs.References.{references}
 use Rattle.scale_info_types.specs.Shapes.{Shape, shape}
 use Rattle.scale_info_types.specs.declared.ty.PortableType.{PortableType}

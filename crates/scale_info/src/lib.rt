@@ -12,7 +12,7 @@ pub use scale_info_types::items;
 pub use scale_info_types::text;
 pub use scale_info_types::try_clone;
 pub use scale_info_types::ty;
-pub use portable::PortableRegistry;
+pub use portable::{PortableRegistry, PortableRegistryBuilder};
 pub use scale_info_types::meta_type::{MetaType, TypeId};
 pub use scale_info_types::ty::path::Path;
 pub use scale_info_types::ty::variant::Variant;

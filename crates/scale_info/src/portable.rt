@@ -12,6 +12,10 @@ use scale_info_types::try_clone::TryClone;
 use scale_info_types::ty::{PortableType, Type};
 use std::alloc::{AllocError, Global};
 
+mod builder;
+
+pub use builder::PortableRegistryBuilder;
+
 /// A table of descriptions, in which an id is a place.
 ///
 /// This is what a node's metadata carries: a client finds the description of an id by

@@ -1,7 +1,9 @@
 pub mod Agreement
 pub mod Contents
+pub mod Ends
 pub mod Identifiers
 pub mod Injective
 pub mod Iterators
 pub mod Paths
+pub mod Places
 pub mod Readings

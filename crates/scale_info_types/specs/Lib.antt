@@ -1,4 +1,5 @@
 pub mod Identifiers
+pub mod Interned
 pub mod Iterators
 pub mod Paths
 pub mod Portable

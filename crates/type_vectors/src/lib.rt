@@ -6,6 +6,8 @@ mod codec;
 #[cfg(test)]
 mod constructors;
 #[cfg(test)]
+mod interners;
+#[cfg(test)]
 mod orders;
 pub mod parts;
 #[cfg(test)]

@@ -1,0 +1,107 @@
+//! Tables that a program puts together at run time.
+ghost use Rattle.std.specs.Prelude.{◌≡◌, ◌++◌, [], ◌∷◌, length, IfOk, OnErr, IsErrOf, slice_get, Some, Ok, ◌↔◌};
+ghost use Rattle.std.specs.Option.{option_copied};
+ghost use Rattle.scale_info_types.specs.Interned.{IsNew, IsPlaceOf};
+ghost use Rattle.scale_info.specs.Registered.{IsUnregistered, numbered_from};
+
+use super::PortableRegistry;
+use scale_info_types::form::PortableForm;
+use scale_info_types::interner::{InternError, Interner};
+use scale_info_types::items::Items;
+use scale_info_types::laws::equal_portable;
+use scale_info_types::try_clone::TryClone;
+use scale_info_types::ty::{PortableType, Type};
+use std::alloc::{AllocError, Global};
+use std::marker::Model;
+
+/// A table in the making: descriptions are registered one by one, and each gets an id.
+///
+/// Equal descriptions share one id. Contracts see a builder as the list of its descriptions, in which
+/// an id is a place. References between descriptions are taken as they come: nothing checks that they
+/// lead to a registered type, so that types may refer to one another in a circle, or to themselves by
+/// [`next_type_id`](PortableRegistryBuilder::next_type_id).
+#[derive(Drop)]
+pub struct PortableRegistryBuilder {
+    types: Interner<Type<PortableForm>>,
+}
+
+impl Model for PortableRegistryBuilder {
+    ghost use Rattle.std.specs.Prelude.{List};
+    ghost use Rattle.scale_info_types.specs.Portable.{Description};
+
+    ghost Value = { List Description };
+
+    ghost view = { λ s. s.types };
+}
+
+impl PortableRegistryBuilder {
+    /// The builder with no type; takes no memory.
+    pub fn new(alloc: Global) -> PortableRegistryBuilder
+        ensures { result ≡ [] }
+    {
+        PortableRegistryBuilder {
+            types: Interner::new(alloc),
+        }
+    }
+
+    /// The id of this description, which goes last if no registered one equals it.
+    ///
+    /// A new description gets the id that [`next_type_id`](PortableRegistryBuilder::next_type_id)
+    /// answered before. A registered one changes nothing, needs no memory and succeeds.
+    ///
+    /// Errors: `Full`, where the description is new and there are 4294967295 of them; `Memory`, where
+    /// memory for a new one is refused. On an Err the builder is as before, and the description is let
+    /// go. The crate `scale-info` has no such errors.
+    pub fn register_type(&mut self, ty: Type<PortableForm>) -> Result<u32, InternError>
+        ensures known { (id : _) → slice_get self.old id ≡ Some ty → (result ≡ Ok id) × (self.new ≡ self.old) }
+        ensures new { IsUnregistered self.old ty → IfOk result (λ id. (id ≡ length self.old) × (self.new ≡ self.old ++ ty ∷ [])) }
+        ensures full { IsErrOf result InternError.Full ↔ (length self.old ≡ 4294967295) × IsUnregistered self.old ty }
+        ensures err { OnErr result (self.new ≡ self.old) }
+    {
+        equal_portable();
+        number_in(&mut self.types, ty)
+    }
+
+    /// The number of registered descriptions, which is the id that the next new one gets.
+    ///
+    /// Of 4294967295 descriptions it answers 4294967295, an id that no description ever gets.
+    pub fn next_type_id(&self) -> u32
+        ensures { result ≡ length self.now }
+    {
+        self.types.elements().len() as u32
+    }
+
+    /// The description with this id; None where none has it.
+    pub fn get(&self, id: u32) -> Option<&Type<PortableForm>>
+        ensures { option_copied result ≡ slice_get self.now id }
+    {
+        self.types.elements().get(id as usize)
+    }
+
+    /// The table of the registered descriptions, in which place `i` has the id `i`.
+    ///
+    /// The builder stays as it is and can go on; the table has copies.
+    ///
+    /// Errors: `AllocError`, where memory for the table is refused.
+    pub fn finish(&self, alloc: Global) -> Result<PortableRegistry, AllocError>
+        ensures { IfOk result (λ table. table.types ≡ numbered_from 0 self.now) }
+    {
+        let mut types = Items::new(alloc);
+        for ty in self.types.elements() {
+            let id = types.len() as u32;
+            types.push(PortableType::new(id, ty.try_clone(alloc)?))?;
+        }
+        Ok(PortableRegistry { types })
+    }
+}
+
+/// The number of a value in an interner, where it goes last if it is new.
+fn number_in<T: Ord + TryClone>(values: &mut Interner<T>, value: T) -> Result<u32, InternError>
+    ensures known { (id : _) → IsPlaceOf T.eq values.old value id → (result ≡ Ok id) × (values.new ≡ values.old) }
+    ensures new { IsNew T.eq values.old value → IfOk result (λ id. (id ≡ length values.old) × (values.new ≡ values.old ++ value ∷ [])) }
+    ensures full { IsErrOf result InternError.Full ↔ (length values.old ≡ 4294967295) × IsNew T.eq values.old value }
+    ensures err { OnErr result (values.new ≡ values.old) }
+{
+    let (_, symbol) = values.intern_or_get(value)?;
+    Ok(symbol.id)
+}
