@@ -4,19 +4,14 @@
 pub mod laws;
 pub mod portable;
 
-pub use scale_info_codec as codec;
-pub use scale_info_types::form;
-pub use scale_info_types::impls;
-pub use scale_info_types::interner;
-pub use scale_info_types::items;
-pub use scale_info_types::text;
-pub use scale_info_types::try_clone;
-pub use scale_info_types::ty;
 pub use portable::{PortableRegistry, PortableRegistryBuilder};
+pub use scale_info_codec as codec;
 pub use scale_info_types::meta_type::{MetaType, TypeId};
 pub use scale_info_types::ty::path::Path;
 pub use scale_info_types::ty::variant::Variant;
 pub use scale_info_types::ty::{
     Field, PortableType, Type, TypeDef, TypeDefArray, TypeDefBitSequence, TypeDefCompact,
-    TypeDefComposite, TypeDefPrimitive, TypeDefSequence, TypeDefTuple, TypeDefVariant, TypeParameter,
+    TypeDefComposite, TypeDefPrimitive, TypeDefSequence, TypeDefTuple, TypeDefVariant,
+    TypeParameter,
 };
+pub use scale_info_types::{form, impls, interner, items, text, try_clone, ty};
