@@ -87,6 +87,99 @@ fn tables_come_back(rt: HostRuntime) -> Result<(), Fail> {
     Ok(())
 }
 
+/// Wants that `check` gives these tables back and refuses each proper front of them.
+fn are_texts(rt: &impl Abort, alloc: Global, tables: &[&[u8]]) -> Result<(), Fail> {
+    for input in tables {
+        let mut reader = *input;
+        comes_back(rt, alloc, &mut reader, input)?;
+        for end in 0..input.len() {
+            let mut reader = &input[..end];
+            is_refused(rt, alloc, &mut reader, "type_table: malformed\n")?;
+        }
+    }
+    Ok(())
+}
+
+#[test]
+fn tables_come_back_and_no_front_of_them_does(rt: HostRuntime) -> Result<(), Fail> {
+    let alloc = rt.alloc();
+    are_texts(
+        &rt,
+        alloc,
+        &[&VEC_U32, &TUPLE, &TUPLE_ALONE, &BITS, &RECURSIVE, &OPTION],
+    )?;
+    are_texts(
+        &rt,
+        alloc,
+        &[
+            &ONE_MEMBER,
+            &COMPACT,
+            &OUTSIDE,
+            &NO_VARIANTS,
+            &SKIPPED,
+            &RANGE,
+        ],
+    )?;
+    are_texts(
+        &rt,
+        alloc,
+        &[
+            &DURATION,
+            &DOCS,
+            &DOCS_ALONE,
+            &PRIMITIVES,
+            &ESCAPES,
+            &OTHER_IDS,
+        ],
+    )
+}
+
+/// Wants that `check` refuses these inputs as no tables.
+fn are_malformed(rt: &impl Abort, alloc: Global, inputs: &[&[u8]]) -> Result<(), Fail> {
+    for input in inputs {
+        let mut reader = *input;
+        is_refused(rt, alloc, &mut reader, "type_table: malformed\n")?;
+    }
+    Ok(())
+}
+
+#[test]
+fn malformed_tables_are_refused(rt: HostRuntime) -> Result<(), Fail> {
+    let alloc = rt.alloc();
+    are_malformed(
+        &rt,
+        alloc,
+        &[
+            &CUT,
+            &LONG_COUNT,
+            &COUNT_ALONE,
+            &GREATEST_COUNT,
+            &GREATEST_PATH,
+        ],
+    )?;
+    are_malformed(
+        &rt,
+        alloc,
+        &[&LONG_ID, &SMALL_IN_FIVE, &FIVE_OF_SEVEN, &NO_PRIMITIVE],
+    )?;
+    are_malformed(
+        &rt,
+        alloc,
+        &[&NO_DEFINITION, &NO_DEFINITION_EIGHT, &NO_OPTION, &NOT_UTF8],
+    )?;
+    are_malformed(
+        &rt,
+        alloc,
+        &[
+            &OVERLONG,
+            &SURROGATE,
+            &PAST_UNICODE,
+            &CUT_CHARACTER,
+            &CONTINUATION,
+        ],
+    )
+}
+
 #[test]
 fn bad_tables_are_refused(rt: HostRuntime) -> Result<(), Fail> {
     let alloc = rt.alloc();
