@@ -2,6 +2,7 @@
 ghost use Rattle.std.specs.Prelude.{◌≡◌, ◌==◌, ◌↔◌, Some, [], refl, IsTrue, length, string_bytes};
 ghost use Rattle.std.specs.Cmp.{partial_equiv_from_equiv};
 ghost use Rattle.std.specs.Cmp.Lexicographic.{pointwise, slice_cmp, texts_ties, texts_po};
+ghost use Rattle.std.specs.Fmt.{styled_text};
 ghost use Rattle.std.specs.Ordering.{nat_cmp};
 ghost use Rattle.std.proofs.lemmas.Cmp.{nat_list_cmp_total, nat_list_eq_equiv};
 
@@ -72,9 +73,14 @@ impl From<Text> for String {
     }
 }
 
+/// The text itself, with width, fill and precision as a `str` has them.
 impl fmt::Display for Text {
+    ghost output = { λ text. Some text };
+
+    ghost styled_output = { λ text style. Some (styled_text style text) };
+
     fn fmt<W: fmt::Write>(&self, f: &mut fmt::Formatter<W>) -> fmt::Result {
-        f.write_str(self.as_str())
+        f.pad(self.as_str())
     }
 }
 
