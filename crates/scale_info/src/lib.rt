@@ -6,6 +6,7 @@ pub mod portable;
 
 pub use portable::{PortableRegistry, PortableRegistryBuilder};
 pub use scale_info_codec as codec;
+pub use scale_info_collections::{items, text, try_clone};
 pub use scale_info_types::meta_type::{MetaType, TypeId};
 pub use scale_info_types::ty::path::Path;
 pub use scale_info_types::ty::variant::Variant;
@@ -14,4 +15,4 @@ pub use scale_info_types::ty::{
     TypeDefComposite, TypeDefPrimitive, TypeDefSequence, TypeDefTuple, TypeDefVariant,
     TypeParameter,
 };
-pub use scale_info_types::{form, impls, interner, items, text, try_clone, ty};
+pub use scale_info_types::{form, impls, interner, ty};

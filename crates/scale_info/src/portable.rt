@@ -6,9 +6,9 @@ ghost use Rattle.scale_info.specs.PortableSpelling.{SpellsRegistry};
 ghost use Rattle.scale_info.specs.PortableSpellingLaw.{registry_law};
 
 use scale_info_codec::{DecodeError, EncodeError, Scale};
+use scale_info_collections::items::Items;
+use scale_info_collections::try_clone::TryClone;
 use scale_info_types::form::PortableForm;
-use scale_info_types::items::Items;
-use scale_info_types::try_clone::TryClone;
 use scale_info_types::ty::{PortableType, Type};
 use std::alloc::{AllocError, Global};
 

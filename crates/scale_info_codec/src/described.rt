@@ -8,12 +8,12 @@ ghost use Rattle.scale_info_codec.specs.DescribedLaws.{id_law, path_law, paramet
 use crate::error::{DecodeError, EncodeError};
 use crate::number::{compact_at, push_compact};
 use crate::scale::{Scale, or_restore};
+use scale_info_collections::items::Items;
+use scale_info_collections::text::Text;
 use scale_info_types::form::PortableForm;
 use scale_info_types::impls::Compact;
 use scale_info_types::interner::UntrackedSymbol;
-use scale_info_types::items::Items;
 use scale_info_types::meta_type::TypeId;
-use scale_info_types::text::Text;
 use scale_info_types::ty::fields::Field;
 use scale_info_types::ty::path::Path;
 use scale_info_types::ty::variant::Variant;

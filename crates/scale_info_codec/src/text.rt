@@ -7,7 +7,7 @@ ghost use Rattle.scale_info_codec.specs.TextLaw.{text_law};
 use crate::error::{DecodeError, EncodeError};
 use crate::number::{compact_at, push_compact};
 use crate::scale::{Scale, or_restore};
-use scale_info_types::text::Text;
+use scale_info_collections::text::Text;
 use std::alloc::Global;
 
 /// Appends the count of bytes and the bytes. Where that fails, the count may stand at the end.

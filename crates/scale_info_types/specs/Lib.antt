@@ -7,4 +7,3 @@ pub mod References
 pub mod Shapes
 pub mod Terms
 pub mod TermsSame
-pub mod formers

@@ -8,8 +8,8 @@ ghost use Rattle.scale_info_types.specs.TermsSame.{same_type_ids};
 
 use crate::interner::UntrackedSymbol;
 use crate::meta_type::{MetaType, TypeId};
-use crate::text::Text;
-use crate::try_clone::TryClone;
+use scale_info_collections::text::Text;
+use scale_info_collections::try_clone::TryClone;
 use std::alloc::{AllocError, Global};
 
 /// What stands for a type and for a text in a description.

@@ -5,7 +5,7 @@ ghost use Rattle.std.specs.Cmp.Lexicographic.{pointwise, lists_equiv, lists_per}
 ghost use Rattle.scale_info_types.specs.Interned.{IsPlaceOf, IsKnown, IsNew, AreDistinct};
 ghost use Rattle.scale_info_types.specs.declared.interner.InternError.TheVariants.{Memory};
 
-use crate::try_clone::TryClone;
+use scale_info_collections::try_clone::TryClone;
 use std::alloc::{AllocError, AllocFailed, Global};
 use std::collections::BTreeMap;
 use std::marker::{Model, PhantomData};

@@ -3,8 +3,8 @@ ghost use Rattle.std.specs.Prelude.{◌≡◌, ◌↔◌, IfOk, IsTrue, take};
 ghost use Rattle.scale_info_types.specs.Terms.{term, term_of, terms_of};
 ghost use Rattle.scale_info_types.specs.declared.meta_type.TypeId.{out-TypeId};
 
-use crate::items::Items;
-use crate::try_clone::TryClone;
+use scale_info_collections::items::Items;
+use scale_info_collections::try_clone::TryClone;
 use std::alloc::{AllocError, Global};
 
 /// The identity of a type, by its structure: a head, numbers and the identities of its arguments.
@@ -65,12 +65,6 @@ impl MetaType {
         ensures { result.now ≡ self.now.identity }
     {
         &self.identity
-    }
-}
-
-impl TryClone for usize {
-    fn try_clone(&self, _alloc: Global) -> Result<usize, AllocError> {
-        Ok(*self)
     }
 }
 

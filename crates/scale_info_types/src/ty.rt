@@ -10,9 +10,9 @@ ghost use Rattle.scale_info_types.specs.declared.ty.TypeDef.TheVariants as def;
 
 use crate::form::{Form, MetaForm, PortableForm};
 use crate::interner::UntrackedSymbol;
-use crate::items::Items;
 use crate::meta_type::TypeId;
-use crate::text::Text;
+use scale_info_collections::items::Items;
+use scale_info_collections::text::Text;
 use std::alloc::{AllocError, Global};
 
 pub mod composite;
@@ -120,7 +120,7 @@ impl<T: Form> From<(Path<T>, Vec<TypeParameter<T>>, TypeDef<T>, Vec<T::String>)>
 
     fn from(parts: (Path<T>, Vec<TypeParameter<T>>, TypeDef<T>, Vec<T::String>)) -> Description<T> {
         let (path, type_params, type_def, docs) = parts;
-        Description {
+        Self {
             path,
             type_params: Items::from(type_params),
             type_def,
@@ -170,7 +170,7 @@ impl TypeParameter<PortableForm> {
     ) -> TypeParameter<PortableForm>
         ensures { result ≡ record { name = name; ty = ty } }
     {
-        TypeParameter { name, ty }
+        TypeParameter::new(name, ty)
     }
 }
 
@@ -179,7 +179,7 @@ impl<T: Form> From<(T::String, Option<T::Ty>)> for TypeParameter<T> {
 
     fn from(parts: (T::String, Option<T::Ty>)) -> TypeParameter<T> {
         let (name, ty) = parts;
-        TypeParameter { name, ty }
+        Self::new(name, ty)
     }
 }
 

@@ -1,7 +1,7 @@
 //! The program `type_table`: reads a table of descriptions of types, and writes it again.
 #![tactic(auto)]
 
-use scale_info_types::text::Text;
+use scale_info_collections::text::Text;
 use std::io::{ErrorKind, Write};
 use std::process::ExitCode;
 use std::{env, io};

@@ -3,7 +3,7 @@ ghost use Rattle.std.specs.Prelude.{◌≡◌, ◌↔◌, IsSome};
 ghost use Rattle.std.specs.Bool.{Decides};
 ghost use Rattle.type_table_run.specs.Commands.{IsCheck, IsCommand};
 
-use scale_info_types::text::Text;
+use scale_info_collections::text::Text;
 
 /// What the program is asked to do.
 #[derive(Drop)]

@@ -13,7 +13,7 @@ use crate::fault::Fault;
 use crate::reading::read_whole;
 use crate::table::check_table;
 use crate::writing::write_whole;
-use scale_info_types::text::Text;
+use scale_info_collections::text::Text;
 use std::alloc::Global;
 use std::io::{Read, Write};
 

@@ -1,6 +1,6 @@
 //! Paths and identifiers, against known values.
+use scale_info_collections::text::Text;
 use scale_info_types::form::{MetaForm, PortableForm};
-use scale_info_types::text::Text;
 use scale_info_types::ty::path::{Path, PathError};
 use scale_info_types::utils::is_rust_identifier;
 use std::alloc::{AllocError, Global};

@@ -1,7 +1,7 @@
 //! The program over readers and writers in memory: statuses, lines and output.
 use crate::streams::{HaltingReader, HaltingWriter};
 use crate::tables::*;
-use scale_info_types::text::Text;
+use scale_info_collections::text::Text;
 use std::alloc::Global;
 use std::io::{Read, Write};
 use std::process::Abort;

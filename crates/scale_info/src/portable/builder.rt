@@ -5,11 +5,11 @@ ghost use Rattle.scale_info_types.specs.Interned.{IsNew, IsPlaceOf};
 ghost use Rattle.scale_info.specs.Registered.{IsUnregistered, numbered_from};
 
 use super::PortableRegistry;
+use scale_info_collections::items::Items;
+use scale_info_collections::try_clone::TryClone;
 use scale_info_types::form::PortableForm;
 use scale_info_types::interner::{InternError, Interner};
-use scale_info_types::items::Items;
 use scale_info_types::laws::equal_portable;
-use scale_info_types::try_clone::TryClone;
 use scale_info_types::ty::{PortableType, Type};
 use std::alloc::{AllocError, Global};
 use std::marker::Model;

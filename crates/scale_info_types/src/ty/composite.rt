@@ -5,7 +5,7 @@ ghost use Rattle.scale_info_types.specs.Iterators.{GivesAll};
 
 use super::fields::Field;
 use crate::form::{Form, MetaForm};
-use crate::items::Items;
+use scale_info_collections::items::Items;
 use std::alloc::{AllocError, Global};
 
 /// A composite: a struct with named fields, a tuple struct, or a unit struct.

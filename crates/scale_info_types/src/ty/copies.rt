@@ -10,8 +10,8 @@ use super::{
     TypeDefPrimitive, TypeDefSequence, TypeDefTuple, TypeParameter,
 };
 use crate::form::Form;
-use crate::items::Items;
-use crate::try_clone::TryClone;
+use scale_info_collections::items::Items;
+use scale_info_collections::try_clone::TryClone;
 use std::alloc::{AllocError, Global};
 
 /// A copy of a text that may be missing.

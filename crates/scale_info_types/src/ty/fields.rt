@@ -3,7 +3,7 @@ ghost use Rattle.std.specs.Prelude.{◌≡◌, option_map};
 ghost use Rattle.std.specs.Option.{option_copied};
 
 use crate::form::{Form, MetaForm};
-use crate::items::Items;
+use scale_info_collections::items::Items;
 
 /// A field of a composite or of a variant.
 #[derive(Drop)]

@@ -8,9 +8,9 @@ ghost use Rattle.scale_info_types.specs.Paths.{AreDeclared, ArePathSegments, Hel
 ghost use Rattle.scale_info_types.specs.declared.ty.path.PathError.TheVariants.{Memory as memory};
 
 use crate::form::{Form, MetaForm, PortableForm};
-use crate::items::Items;
-use crate::mark::Mark;
 use crate::utils::is_rust_identifier;
+use scale_info_collections::items::Items;
+use scale_info_collections::mark::Mark;
 use std::alloc::{AllocError, AllocFailed, Global};
 use std::fmt;
 use thiserror::Error;

@@ -1,5 +1,5 @@
 //! A list of values, which contracts see as the list of its elements.
-ghost use Rattle.std.specs.Prelude.{◌≡◌, ◌++◌, ◌∷◌, ◌↔◌, ◌<◌, ◌^◌, [], length, IsTrue, if◌then◌else◌, is_ok};
+ghost use Rattle.std.specs.Prelude.{◌≡◌, ◌++◌, ◌∷◌, ◌↔◌, ◌<◌, ◌^◌, [], length, IsTrue, if◌then◌else◌, is_ok, IfErr};
 ghost use Rattle.std.specs.Slice.Iter.{iter_rest, iter_steps};
 ghost use Rattle.std.specs.Iterator.Runs.{EveryRun, ItemsMapTo};
 ghost use Rattle.std.specs.Cmp.Lexicographic.{pointwise, slice_cmp, slice_partial_cmp, lists_equiv, lists_agrees, lists_total, lists_ties, lists_per, lists_po};
@@ -51,7 +51,7 @@ impl<T> Items<T> {
     pub fn as_slice(&self) -> &[T]
         ensures { result.now ≡ self.now }
     {
-        self.all.as_slice()
+        &self.all
     }
 
     /// The number of elements.
@@ -81,7 +81,8 @@ impl<T> Items<T> {
     /// A list of one element takes room for one, since most lists of a description are that short; a
     /// longer one grows as a `Vec` does.
     pub fn push(&mut self, value: T) -> Result<(), AllocFailed<T>>
-        ensures { self.new ≡ (if is_ok result then self.old ++ value ∷ [] else self.old) }
+        ensures list { self.new ≡ (if is_ok result then self.old ++ value ∷ [] else self.old) }
+        ensures value_returned { IfErr result (λ failed. failed.value ≡ value) }
     {
         if self.all.is_empty() && self.all.reserve_exact(1).is_err() {
             return Err(AllocFailed { value });
@@ -173,7 +174,7 @@ impl<'a, T> IntoIterator for &'a Items<T> {
     ghost into_iter_gives = { λ items iter. (iter_rest iter ≡ items.now) × (length (iter_rest iter) < 2 ^ 64) × EveryRun (iter_steps {A = T}) (λ p. ItemsMapTo p (λ y. y.now) (iter_rest p.from)) };
 
     fn into_iter(self) -> slice::Iter<'a, T> {
-        self.all.iter()
+        self.iter()
     }
 }
 

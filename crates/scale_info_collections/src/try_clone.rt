@@ -24,6 +24,12 @@ impl TryClone for u32 {
     }
 }
 
+impl TryClone for usize {
+    fn try_clone(&self, _alloc: Global) -> Result<usize, AllocError> {
+        Ok(*self)
+    }
+}
+
 impl TryClone for &'static str {
     fn try_clone(&self, _alloc: Global) -> Result<&'static str, AllocError> {
         Ok(*self)

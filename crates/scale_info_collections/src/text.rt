@@ -39,7 +39,7 @@ impl Text {
     pub fn as_str(&self) -> &str
         ensures { result.now ≡ self.now }
     {
-        self.chars.as_str()
+        &self.chars
     }
 
     /// The number of bytes.

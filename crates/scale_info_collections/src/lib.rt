@@ -1,0 +1,7 @@
+//! Lists and texts that contracts see by their contents, and copies that may want memory.
+#![tactic(auto)]
+
+pub mod items;
+pub mod mark;
+pub mod text;
+pub mod try_clone;
