@@ -9,7 +9,8 @@ ghost use Rattle.scale_info_codec.specs.PartLaws.{through_law, pair_law, list_la
 ghost use Rattle.scale_info_codec.specs.DescribedLaws.{id_law, field_law, variant_law, type_def_law};
 
 use crate::error::{DecodeError, EncodeError};
-use crate::scale::{Scale, or_restore};
+use crate::parts::{encode_behind, encode_two};
+use crate::scale::Scale;
 use scale_info_types::form::PortableForm;
 use scale_info_types::ty::composite::TypeDefComposite;
 use scale_info_types::ty::variant::TypeDefVariant;
@@ -23,7 +24,8 @@ impl Scale for TypeDefComposite<PortableForm> {
     ghost spells = { λ v b. SpellsList SpellsField v.fields b };
 
     fn encode_to(&self, out: &mut Vec<u8>) -> Result<(), EncodeError> {
-        self.fields.encode_to(out)
+        let TypeDefComposite { fields } = self;
+        fields.encode_to(out)
     }
 
     fn decode_from(
@@ -41,7 +43,8 @@ impl Scale for TypeDefVariant<PortableForm> {
     ghost spells = { λ v b. SpellsList SpellsVariant v.variants b };
 
     fn encode_to(&self, out: &mut Vec<u8>) -> Result<(), EncodeError> {
-        self.variants.encode_to(out)
+        let TypeDefVariant { variants } = self;
+        variants.encode_to(out)
     }
 
     fn decode_from(
@@ -59,7 +62,8 @@ impl Scale for TypeDefSequence<PortableForm> {
     ghost spells = { λ v b. SpellsId v.type_param b };
 
     fn encode_to(&self, out: &mut Vec<u8>) -> Result<(), EncodeError> {
-        self.type_param.encode_to(out)
+        let TypeDefSequence { type_param } = self;
+        type_param.encode_to(out)
     }
 
     fn decode_from(
@@ -73,24 +77,11 @@ impl Scale for TypeDefSequence<PortableForm> {
     ghost law = { through_law (λ v. v.type_param) (λ v w e i. record { type_param = e i }) id_law };
 }
 
-/// Appends the length and the type. Where that fails, the length may stand at the end.
-fn encode_array(def: &TypeDefArray<PortableForm>, out: &mut Vec<u8>) -> Result<(), EncodeError>
-    ensures ok { OnOk result (Appends (SpellsPair SpellsU32 SpellsId (array_parts def.now)) out.old.items out.new.items) }
-    ensures err { OnErr result (Grows out.old.items out.new.items) }
-    ensures too_long { IfErr result (IfTooLong (NoText (SpellsPair SpellsU32 SpellsId (array_parts def.now)))) }
-{
-    def.len.encode_to(out)?;
-    def.type_param.encode_to(out)?;
-    Ok(())
-}
-
 impl Scale for TypeDefArray<PortableForm> {
     ghost spells = { λ v b. SpellsPair SpellsU32 SpellsId (array_parts v) b };
 
     fn encode_to(&self, out: &mut Vec<u8>) -> Result<(), EncodeError> {
-        let start = out.len();
-        let written = encode_array(self, out);
-        or_restore(out, start, written)
+        encode_two(&self.len, &self.type_param, out)
     }
 
     fn decode_from(
@@ -108,7 +99,8 @@ impl Scale for TypeDefTuple<PortableForm> {
     ghost spells = { λ v b. SpellsList SpellsId v.fields b };
 
     fn encode_to(&self, out: &mut Vec<u8>) -> Result<(), EncodeError> {
-        self.fields.encode_to(out)
+        let TypeDefTuple { fields } = self;
+        fields.encode_to(out)
     }
 
     fn decode_from(
@@ -126,7 +118,8 @@ impl Scale for TypeDefCompact<PortableForm> {
     ghost spells = { λ v b. SpellsId v.type_param b };
 
     fn encode_to(&self, out: &mut Vec<u8>) -> Result<(), EncodeError> {
-        self.type_param.encode_to(out)
+        let TypeDefCompact { type_param } = self;
+        type_param.encode_to(out)
     }
 
     fn decode_from(
@@ -140,27 +133,11 @@ impl Scale for TypeDefCompact<PortableForm> {
     ghost law = { through_law (λ v. v.type_param) (λ v w e i. record { type_param = e i }) id_law };
 }
 
-/// Appends the store and the order. Where that fails, the store may stand at the end.
-fn encode_bit_sequence(
-    def: &TypeDefBitSequence<PortableForm>,
-    out: &mut Vec<u8>,
-) -> Result<(), EncodeError>
-    ensures ok { OnOk result (Appends (SpellsPair SpellsId SpellsId (bit_sequence_parts def.now)) out.old.items out.new.items) }
-    ensures err { OnErr result (Grows out.old.items out.new.items) }
-    ensures too_long { IfErr result (IfTooLong (NoText (SpellsPair SpellsId SpellsId (bit_sequence_parts def.now)))) }
-{
-    def.bit_store_type.encode_to(out)?;
-    def.bit_order_type.encode_to(out)?;
-    Ok(())
-}
-
 impl Scale for TypeDefBitSequence<PortableForm> {
     ghost spells = { λ v b. SpellsPair SpellsId SpellsId (bit_sequence_parts v) b };
 
     fn encode_to(&self, out: &mut Vec<u8>) -> Result<(), EncodeError> {
-        let start = out.len();
-        let written = encode_bit_sequence(self, out);
-        or_restore(out, start, written)
+        encode_two(&self.bit_store_type, &self.bit_order_type, out)
     }
 
     fn decode_from(
@@ -176,34 +153,6 @@ impl Scale for TypeDefBitSequence<PortableForm> {
     }
 
     ghost law = { through_law bit_sequence_parts (λ v w e i. record { bit_store_type = (e i).0; bit_order_type = (e i).1 }) (pair_law id_law id_law) };
-}
-
-/// Appends an index byte and a value. Where that fails, the byte may stand at the end.
-fn encode_behind<T: Scale>(index: u8, value: &T, out: &mut Vec<u8>) -> Result<(), EncodeError>
-    ensures ok { OnOk result (Appends (Behind index (T.spells value.now)) out.old.items out.new.items) }
-    ensures err { OnErr result (Grows out.old.items out.new.items) }
-    ensures too_long { IfErr result (IfTooLong (NoText (T.spells value.now))) }
-{
-    out.push(index)?;
-    value.encode_to(out)
-}
-
-/// Appends the index of a definition and its parts. Where that fails, the index may stand at the end.
-fn encode_type_def(def: &TypeDef<PortableForm>, out: &mut Vec<u8>) -> Result<(), EncodeError>
-    ensures ok { OnOk result (Appends (SpellsTypeDef def.now) out.old.items out.new.items) }
-    ensures err { OnErr result (Grows out.old.items out.new.items) }
-    ensures too_long { IfErr result (IfTooLong (NoText (SpellsTypeDef def.now))) }
-{
-    match def {
-        TypeDef::Composite(def) => encode_behind(0, def, out),
-        TypeDef::Variant(def) => encode_behind(1, def, out),
-        TypeDef::Sequence(def) => encode_behind(2, def, out),
-        TypeDef::Array(def) => encode_behind(3, def, out),
-        TypeDef::Tuple(def) => encode_behind(4, def, out),
-        TypeDef::Primitive(def) => encode_behind(5, def, out),
-        TypeDef::Compact(def) => encode_behind(6, def, out),
-        TypeDef::BitSequence(def) => encode_behind(7, def, out),
-    }
 }
 
 /// Reads the parts of the definition with this index.
@@ -256,9 +205,16 @@ impl Scale for TypeDef<PortableForm> {
     ghost spells = { SpellsTypeDef };
 
     fn encode_to(&self, out: &mut Vec<u8>) -> Result<(), EncodeError> {
-        let start = out.len();
-        let written = encode_type_def(self, out);
-        or_restore(out, start, written)
+        match self {
+            TypeDef::Composite(def) => encode_behind(0, def, out),
+            TypeDef::Variant(def) => encode_behind(1, def, out),
+            TypeDef::Sequence(def) => encode_behind(2, def, out),
+            TypeDef::Array(def) => encode_behind(3, def, out),
+            TypeDef::Tuple(def) => encode_behind(4, def, out),
+            TypeDef::Primitive(def) => encode_behind(5, def, out),
+            TypeDef::Compact(def) => encode_behind(6, def, out),
+            TypeDef::BitSequence(def) => encode_behind(7, def, out),
+        }
     }
 
     fn decode_from(

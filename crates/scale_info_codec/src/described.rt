@@ -7,7 +7,8 @@ ghost use Rattle.scale_info_codec.specs.DescribedLaws.{id_law, path_law, paramet
 
 use crate::error::{DecodeError, EncodeError};
 use crate::number::{compact_at, push_compact};
-use crate::scale::{Scale, or_restore};
+use crate::parts::{encode_four, encode_two};
+use crate::scale::Scale;
 use scale_info_collections::items::Items;
 use scale_info_collections::text::Text;
 use scale_info_types::form::PortableForm;
@@ -59,26 +60,11 @@ impl Scale for Path<PortableForm> {
     ghost law = { path_law };
 }
 
-/// Appends the parts of a field. Where that fails, some of them may stand at the end.
-fn encode_field(field: &Field<PortableForm>, out: &mut Vec<u8>) -> Result<(), EncodeError>
-    ensures ok { OnOk result (Appends (SpellsField field.now) out.old.items out.new.items) }
-    ensures err { OnErr result (Grows out.old.items out.new.items) }
-    ensures too_long { IfErr result (IfTooLong (NoText (SpellsField field.now))) }
-{
-    field.name.encode_to(out)?;
-    field.ty.encode_to(out)?;
-    field.type_name.encode_to(out)?;
-    field.docs.encode_to(out)?;
-    Ok(())
-}
-
 impl Scale for Field<PortableForm> {
     ghost spells = { SpellsField };
 
     fn encode_to(&self, out: &mut Vec<u8>) -> Result<(), EncodeError> {
-        let start = out.len();
-        let written = encode_field(self, out);
-        or_restore(out, start, written)
+        encode_four(&self.name, &self.ty, &self.type_name, &self.docs, out)
     }
 
     fn decode_from(
@@ -98,27 +84,11 @@ impl Scale for Field<PortableForm> {
     ghost law = { field_law };
 }
 
-/// Appends the parts of a parameter. Where that fails, some of them may stand at the end.
-fn encode_parameter(
-    parameter: &TypeParameter<PortableForm>,
-    out: &mut Vec<u8>,
-) -> Result<(), EncodeError>
-    ensures ok { OnOk result (Appends (SpellsParameter parameter.now) out.old.items out.new.items) }
-    ensures err { OnErr result (Grows out.old.items out.new.items) }
-    ensures too_long { IfErr result (IfTooLong (NoText (SpellsParameter parameter.now))) }
-{
-    parameter.name.encode_to(out)?;
-    parameter.ty.encode_to(out)?;
-    Ok(())
-}
-
 impl Scale for TypeParameter<PortableForm> {
     ghost spells = { SpellsParameter };
 
     fn encode_to(&self, out: &mut Vec<u8>) -> Result<(), EncodeError> {
-        let start = out.len();
-        let written = encode_parameter(self, out);
-        or_restore(out, start, written)
+        encode_two(&self.name, &self.ty, out)
     }
 
     fn decode_from(
@@ -132,26 +102,11 @@ impl Scale for TypeParameter<PortableForm> {
     ghost law = { parameter_law };
 }
 
-/// Appends the parts of a variant. Where that fails, some of them may stand at the end.
-fn encode_variant(variant: &Variant<PortableForm>, out: &mut Vec<u8>) -> Result<(), EncodeError>
-    ensures ok { OnOk result (Appends (SpellsVariant variant.now) out.old.items out.new.items) }
-    ensures err { OnErr result (Grows out.old.items out.new.items) }
-    ensures too_long { IfErr result (IfTooLong (NoText (SpellsVariant variant.now))) }
-{
-    variant.name.encode_to(out)?;
-    variant.fields.encode_to(out)?;
-    variant.index.encode_to(out)?;
-    variant.docs.encode_to(out)?;
-    Ok(())
-}
-
 impl Scale for Variant<PortableForm> {
     ghost spells = { SpellsVariant };
 
     fn encode_to(&self, out: &mut Vec<u8>) -> Result<(), EncodeError> {
-        let start = out.len();
-        let written = encode_variant(self, out);
-        or_restore(out, start, written)
+        encode_four(&self.name, &self.fields, &self.index, &self.docs, out)
     }
 
     fn decode_from(
@@ -242,29 +197,17 @@ impl Scale for TypeDefPrimitive {
     ghost law = { primitive_law };
 }
 
-/// Appends the parts of a description. Where that fails, some of them may stand at the end.
-fn encode_description(
-    description: &Description<PortableForm>,
-    out: &mut Vec<u8>,
-) -> Result<(), EncodeError>
-    ensures ok { OnOk result (Appends (SpellsDescription description.now) out.old.items out.new.items) }
-    ensures err { OnErr result (Grows out.old.items out.new.items) }
-    ensures too_long { IfErr result (IfTooLong (NoText (SpellsDescription description.now))) }
-{
-    description.path.encode_to(out)?;
-    description.type_params.encode_to(out)?;
-    description.type_def.encode_to(out)?;
-    description.docs.encode_to(out)?;
-    Ok(())
-}
-
 impl Scale for Description<PortableForm> {
     ghost spells = { SpellsDescription };
 
     fn encode_to(&self, out: &mut Vec<u8>) -> Result<(), EncodeError> {
-        let start = out.len();
-        let written = encode_description(self, out);
-        or_restore(out, start, written)
+        encode_four(
+            &self.path,
+            &self.type_params,
+            &self.type_def,
+            &self.docs,
+            out,
+        )
     }
 
     fn decode_from(
@@ -284,24 +227,11 @@ impl Scale for Description<PortableForm> {
     ghost law = { description_law };
 }
 
-/// Appends the number and the description. Where that fails, the number may stand at the end.
-fn encode_portable_type(entry: &PortableType, out: &mut Vec<u8>) -> Result<(), EncodeError>
-    ensures ok { OnOk result (Appends (SpellsPortableType entry.now) out.old.items out.new.items) }
-    ensures err { OnErr result (Grows out.old.items out.new.items) }
-    ensures too_long { IfErr result (IfTooLong (NoText (SpellsPortableType entry.now))) }
-{
-    Compact(entry.id).encode_to(out)?;
-    entry.ty.encode_to(out)?;
-    Ok(())
-}
-
 impl Scale for PortableType {
     ghost spells = { SpellsPortableType };
 
     fn encode_to(&self, out: &mut Vec<u8>) -> Result<(), EncodeError> {
-        let start = out.len();
-        let written = encode_portable_type(self, out);
-        or_restore(out, start, written)
+        encode_two(&Compact(self.id), &self.ty, out)
     }
 
     fn decode_from(alloc: Global, input: &[u8]) -> Result<(PortableType, &[u8]), DecodeError> {

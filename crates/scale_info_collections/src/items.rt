@@ -1,5 +1,5 @@
 //! A list of values, which contracts see as the list of its elements.
-ghost use Rattle.std.specs.Prelude.{◌≡◌, ◌++◌, ◌∷◌, ◌↔◌, ◌<◌, ◌^◌, [], length, IsTrue, if◌then◌else◌, is_ok, IfErr};
+ghost use Rattle.std.specs.Prelude.{◌≡◌, ◌++◌, ◌∷◌, ◌↔◌, ◌<◌, ◌^◌, [], length, IsTrue, if◌then◌else◌, is_ok, IfOk, IfErr};
 ghost use Rattle.std.specs.Slice.Iter.{iter_rest, iter_steps};
 ghost use Rattle.std.specs.Iterator.Runs.{EveryRun, ItemsMapTo};
 ghost use Rattle.std.specs.Cmp.Lexicographic.{pointwise, slice_cmp, slice_partial_cmp, lists_equiv, lists_agrees, lists_total, lists_ties, lists_per, lists_po};
@@ -37,6 +37,17 @@ impl<T> Items<T> {
         Items {
             all: Vec::new(alloc),
         }
+    }
+
+    /// The empty list, with room for this many elements.
+    ///
+    /// Errors: `AllocError`, where memory is wanted and refused.
+    pub fn with_capacity(alloc: Global, capacity: usize) -> Result<Self, AllocError>
+        ensures { IfOk result (λ items. items ≡ []) }
+    {
+        Ok(Items {
+            all: Vec::with_capacity(alloc, capacity)?,
+        })
     }
 
     /// The vector of the elements; takes no memory.
@@ -84,8 +95,25 @@ impl<T> Items<T> {
         ensures list { self.new ≡ (if is_ok result then self.old ++ value ∷ [] else self.old) }
         ensures value_returned { IfErr result (λ failed. failed.value ≡ value) }
     {
-        if self.all.is_empty() && self.all.reserve_exact(1).is_err() {
-            return Err(AllocFailed { value });
+        self.push_towards(usize::MAX, value)
+    }
+
+    /// Puts one more element at the end of a list that is to have `count` elements. On an Err the list is
+    /// as before, and the element comes back.
+    ///
+    /// The list grows as by `push`, but takes no room for more than `count`. So it asks for memory by
+    /// what it holds, whatever the count announces, and ends without room to spare.
+    pub fn push_towards(&mut self, count: usize, value: T) -> Result<(), AllocFailed<T>>
+        ensures list { self.new ≡ (if is_ok result then self.old ++ value ∷ [] else self.old) }
+        ensures value_returned { IfErr result (λ failed. failed.value ≡ value) }
+    {
+        let len = self.all.len();
+        if len == self.all.capacity() {
+            let growth = if len == 0 { 1 } else { len.max(3) };
+            let wanted = count.saturating_sub(len).clamp(1, growth);
+            if self.all.reserve_exact(wanted).is_err() {
+                return Err(AllocFailed { value });
+            }
         }
         self.all.push(value)
     }

@@ -53,7 +53,7 @@ impl<T: TryClone> TryClone for Option<T> {
 
 impl<T: TryClone> TryClone for Items<T> {
     fn try_clone(&self, alloc: Global) -> Result<Items<T>, AllocError> {
-        let mut copy = Items::new(alloc);
+        let mut copy = Items::with_capacity(alloc, self.len())?;
         for value in self.as_slice() {
             copy.push(value.try_clone(alloc)?)?;
         }

@@ -70,7 +70,7 @@ impl MetaType {
 
 impl TryClone for TypeId {
     fn try_clone(&self, alloc: Global) -> Result<TypeId, AllocError> {
-        let mut args = Items::new(alloc);
+        let mut args = Items::with_capacity(alloc, self.args.len())?;
         for arg in self.args.as_slice() {
             args.push(arg.try_clone(alloc)?)?;
         }

@@ -13,18 +13,17 @@ const PIECE: usize = 65536;
 /// The most calls of `read` that are made for one input.
 const MOST_READS: u64 = 4294967296;
 
-/// Makes the buffer longer, by zeros, where less than a piece stands after `filled`.
+/// Makes the buffer longer, by zeros, until a piece stands after `filled`.
 ///
-/// The length doubles, so that all growths together copy no more than a growing vector does.
+/// The room that it takes doubles, as a vector's does, but no more of it is touched than is read into.
 fn make_room(buf: &mut Vec<u8>, filled: usize) -> Result<(), AllocError>
     requires { filled ≤ vec_len buf.old }
     ensures within { filled ≤ vec_len buf.new }
     ensures front { take filled buf.new.items ≡ take filled buf.old.items }
     ensures room { OnOk result (filled < vec_len buf.new) }
 {
-    let len = buf.len();
-    if len - filled < PIECE {
-        buf.resize(len.max(PIECE).saturating_mul(2), 0)?;
+    if buf.len() - filled < PIECE {
+        buf.resize(filled.saturating_add(PIECE), 0)?;
     }
     Ok(())
 }

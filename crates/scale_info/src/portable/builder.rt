@@ -86,7 +86,7 @@ impl PortableRegistryBuilder {
     pub fn finish(&self, alloc: Global) -> Result<PortableRegistry, AllocError>
         ensures { IfOk result (λ table. table.types ≡ numbered_from 0 self.now) }
     {
-        let mut types = Items::new(alloc);
+        let mut types = Items::with_capacity(alloc, self.types.elements().len())?;
         for ty in self.types.elements() {
             let id = types.len() as u32;
             types.push(PortableType::new(id, ty.try_clone(alloc)?))?;

@@ -47,7 +47,7 @@ fn copy_strings<T: Form>(
 ) -> Result<Items<T::String>, AllocError>
     ensures { IfOk result (λ copy. copy ≡ texts.now) }
 {
-    let mut copy = Items::new(alloc);
+    let mut copy = Items::with_capacity(alloc, texts.len())?;
     for text in texts.as_slice() {
         copy.push(T::copy_string(alloc, text)?)?;
     }
@@ -58,7 +58,7 @@ fn copy_strings<T: Form>(
 fn copy_types<T: Form>(alloc: Global, types: &Items<T::Ty>) -> Result<Items<T::Ty>, AllocError>
     ensures { IfOk result (λ copy. copy ≡ types.now) }
 {
-    let mut copy = Items::new(alloc);
+    let mut copy = Items::with_capacity(alloc, types.len())?;
     for ty in types.as_slice() {
         copy.push(T::copy_type(alloc, ty)?)?;
     }
