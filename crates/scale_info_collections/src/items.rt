@@ -88,9 +88,6 @@ impl<T> Items<T> {
     }
 
     /// Puts one more element at the end. On an Err the list is as before, and the element comes back.
-    ///
-    /// A list of one element takes room for one, since most lists of a description are that short; a
-    /// longer one grows as a `Vec` does.
     pub fn push(&mut self, value: T) -> Result<(), AllocFailed<T>>
         ensures list { self.new ≡ (if is_ok result then self.old ++ value ∷ [] else self.old) }
         ensures value_returned { IfErr result (λ failed. failed.value ≡ value) }
@@ -101,16 +98,16 @@ impl<T> Items<T> {
     /// Puts one more element at the end of a list that is to have `count` elements. On an Err the list is
     /// as before, and the element comes back.
     ///
-    /// The list grows as by `push`, but takes no room for more than `count`. So it asks for memory by
-    /// what it holds, whatever the count announces, and ends without room to spare.
+    /// The list grows as by `push`, from no room to room for four and then to twice as much, but takes no
+    /// room for more than `count`. So it asks for memory by what it holds, whatever the count announces,
+    /// and ends without room to spare.
     pub fn push_towards(&mut self, count: usize, value: T) -> Result<(), AllocFailed<T>>
         ensures list { self.new ≡ (if is_ok result then self.old ++ value ∷ [] else self.old) }
         ensures value_returned { IfErr result (λ failed. failed.value ≡ value) }
     {
         let len = self.all.len();
         if len == self.all.capacity() {
-            let growth = if len == 0 { 1 } else { len.max(3) };
-            let wanted = count.saturating_sub(len).clamp(1, growth);
+            let wanted = count.saturating_sub(len).clamp(1, len.max(4));
             if self.all.reserve_exact(wanted).is_err() {
                 return Err(AllocFailed { value });
             }
