@@ -103,7 +103,7 @@ impl<T: Drop> From<AllocFailed<T>> for InternError {
 /// Two values with equal contents have one place, as in the crate `scale-info`. Contracts see an
 /// interner as the list of its elements. A look-up or an insertion takes a number of comparisons
 /// logarithmic in the number of elements. Each element is kept twice, in the list and in the ordered
-/// map of places, as `scale-info` keeps it.
+/// map of places.
 #[derive(Drop)]
 pub struct Interner<T: Ord> {
     elements: Vec<T>,

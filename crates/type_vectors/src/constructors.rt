@@ -186,3 +186,35 @@ fn lists_and_texts(rt: HostRuntime) -> Result<(), Fail> {
     assert_eq!(rt; String::from(made).as_str(), "Ä");
     Ok(())
 }
+
+/// The list of `value` as often as `count` says, grown towards `announced`.
+fn grown<T: TryClone>(
+    alloc: Global,
+    value: &T,
+    count: usize,
+    announced: usize,
+) -> Result<Vec<T>, Fail> {
+    let mut items = Items::new(alloc);
+    for _ in 0..count {
+        items.push_towards(announced, value.try_clone(alloc)?)?;
+    }
+    Ok(items.into_vec())
+}
+
+#[test]
+fn lists_grow_towards_a_count(rt: HostRuntime) -> Result<(), Fail> {
+    let alloc = rt.alloc();
+    let five = grown(alloc, &7u32, 5, 5)?;
+    assert_eq!(rt; five.as_slice(), [7, 7, 7, 7, 7].as_slice());
+    assert_eq!(rt; five.capacity(), 5);
+    let announced_too_many = grown(alloc, &7u32, 1, 4294967295)?;
+    assert_eq!(rt; announced_too_many.len(), 1);
+    assert_eq!(rt; announced_too_many.capacity(), 4);
+    let announced_too_few = grown(alloc, &text(alloc, "Ä")?, 3, 1)?;
+    assert_eq!(rt; announced_too_few.len(), 3);
+    let mut roomy: Items<u32> = Items::with_capacity(alloc, 3)?;
+    assert!(rt; roomy.is_empty());
+    roomy.push(1)?;
+    assert_eq!(rt; roomy.into_vec().capacity(), 3);
+    Ok(())
+}
