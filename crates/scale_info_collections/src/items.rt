@@ -105,14 +105,21 @@ impl<T> Items<T> {
         ensures list { self.new ≡ (if is_ok result then self.old ++ value ∷ [] else self.old) }
         ensures value_returned { IfErr result (λ failed. failed.value ≡ value) }
     {
-        let len = self.all.len();
-        if len == self.all.capacity() {
-            let wanted = count.saturating_sub(len).clamp(1, len.max(4));
-            if self.all.reserve_exact(wanted).is_err() {
-                return Err(AllocFailed { value });
-            }
+        if self.all.len() == self.all.capacity() && self.reserve_towards(count).is_err() {
+            return Err(AllocFailed { value });
         }
         self.all.push(value)
+    }
+
+    /// Takes room for at least one more element, in a list that is to have `count` elements.
+    #[cold]
+    #[inline(never)]
+    fn reserve_towards(&mut self, count: usize) -> Result<(), AllocError>
+        ensures { self.new ≡ self.old }
+    {
+        let len = self.all.len();
+        let wanted = count.saturating_sub(len).clamp(1, len.max(4));
+        self.all.reserve_exact(wanted)
     }
 }
 
