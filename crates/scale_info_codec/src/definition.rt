@@ -1,7 +1,7 @@
 //! Definitions as bytes.
-ghost use Rattle.std.specs.Prelude.{◌≡◌, OnOk, OnErr, IfOk, IfErr};
-ghost use Rattle.scale_info_codec.specs.Spelling.{Appends, Grows, Front, NoFront, NoText, IfTooLong, IfMalformed};
-ghost use Rattle.scale_info_codec.specs.Parts.{Behind, SpellsPair, SpellsList};
+ghost use Rattle.std.specs.Prelude.{IfOk, IfErr};
+ghost use Rattle.scale_info_codec.specs.Spelling.{Front, NoFront, IfMalformed};
+ghost use Rattle.scale_info_codec.specs.Parts.{SpellsPair, SpellsList};
 ghost use Rattle.scale_info_codec.specs.Numbers.{SpellsU32};
 ghost use Rattle.scale_info_codec.specs.Described.{SpellsId, SpellsField, SpellsVariant, DefinitionAt, SpellsTypeDef, array_parts, bit_sequence_parts};
 ghost use Rattle.scale_info_codec.specs.NumberLaws.{u32_law};

@@ -1,9 +1,8 @@
 //! Descriptions as bytes.
-ghost use Rattle.std.specs.Prelude.{◌≡◌, OnOk, OnErr, IfErr, IfSome, IfNone};
-ghost use Rattle.scale_info_codec.specs.Spelling.{Appends, Grows, NoText, IfTooLong};
-ghost use Rattle.scale_info_codec.specs.Described.{SpellsId, SpellsPath, SpellsParameter, SpellsField, SpellsVariant, PrimitiveByte, SpellsPrimitive, SpellsTypeDef, SpellsDescription, SpellsPortableType};
+ghost use Rattle.std.specs.Prelude.{IfSome, IfNone};
+ghost use Rattle.scale_info_codec.specs.Described.{SpellsId, SpellsPath, SpellsParameter, SpellsField, SpellsVariant, PrimitiveByte, SpellsPrimitive, SpellsDescription, SpellsPortableType};
 ghost use Rattle.scale_info_types.specs.declared.ty.TypeDefPrimitive.{TypeDefPrimitive};
-ghost use Rattle.scale_info_codec.specs.DescribedLaws.{id_law, path_law, parameter_law, field_law, variant_law, primitive_law, type_def_law, description_law, portable_type_law};
+ghost use Rattle.scale_info_codec.specs.DescribedLaws.{id_law, path_law, parameter_law, field_law, variant_law, primitive_law, description_law, portable_type_law};
 
 use crate::error::{DecodeError, EncodeError};
 use crate::number::{compact_at, push_compact};

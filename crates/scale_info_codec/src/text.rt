@@ -1,6 +1,6 @@
 //! Texts as bytes.
-ghost use Rattle.std.specs.Prelude.{◌≡◌, OnOk, OnErr, IfErr};
-ghost use Rattle.scale_info_codec.specs.Spelling.{Appends, Grows, Front, NoFront, NoText, IfTooLong};
+ghost use Rattle.std.specs.Prelude.{OnOk, OnErr, IfErr};
+ghost use Rattle.scale_info_codec.specs.Spelling.{Appends, Grows, NoText, IfTooLong};
 ghost use Rattle.scale_info_codec.specs.Texts.{SpellsText};
 ghost use Rattle.scale_info_codec.specs.TextLaw.{text_law};
 

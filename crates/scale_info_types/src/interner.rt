@@ -1,5 +1,5 @@
 //! Lists of distinct values, and the numbers that stand for them.
-ghost use Rattle.std.specs.Prelude.{◌≡◌, ◌≤◌, ◌↔◌, ◌++◌, [], ◌∷◌, true, false, IsTrue, length, IfOk, IfSome, IsOk, IsSome, OnErr, IsErrOf, slice_get, take, Some};
+ghost use Rattle.std.specs.Prelude.{◌≡◌, ◌≤◌, ◌↔◌, ◌++◌, [], ◌∷◌, true, false, length, IfOk, IfSome, IsOk, IsSome, OnErr, IsErrOf, slice_get, take, Some};
 ghost use Rattle.std.specs.Option.{option_copied};
 ghost use Rattle.std.specs.Cmp.Lexicographic.{pointwise, lists_equiv, lists_per};
 ghost use Rattle.scale_info_types.specs.Interned.{IsPlaceOf, IsKnown, IsNew, AreDistinct};

@@ -1,5 +1,5 @@
 //! Identities of types.
-ghost use Rattle.std.specs.Prelude.{◌≡◌, ◌↔◌, IfOk, IsTrue, take};
+ghost use Rattle.std.specs.Prelude.{◌≡◌};
 ghost use Rattle.scale_info_types.specs.Terms.{term, term_of, terms_of};
 ghost use Rattle.scale_info_types.specs.declared.meta_type.TypeId.{out-TypeId};
 

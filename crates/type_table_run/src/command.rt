@@ -1,5 +1,5 @@
 //! Commands, and the words that name them.
-ghost use Rattle.std.specs.Prelude.{◌≡◌, ◌↔◌, IsSome};
+ghost use Rattle.std.specs.Prelude.{◌↔◌, IsSome};
 ghost use Rattle.std.specs.Bool.{Decides};
 ghost use Rattle.type_table_run.specs.Commands.{IsCheck, IsCommand};
 

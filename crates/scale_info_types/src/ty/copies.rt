@@ -1,5 +1,5 @@
 //! Copies of descriptions, which ask for memory.
-ghost use Rattle.std.specs.Prelude.{◌≡◌, ◌++◌, ◌∷◌, IfOk, take};
+ghost use Rattle.std.specs.Prelude.{◌≡◌, IfOk};
 
 use super::composite::TypeDefComposite;
 use super::fields::Field;

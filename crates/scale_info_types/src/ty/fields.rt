@@ -1,5 +1,5 @@
 //! Fields of composites and of variants.
-ghost use Rattle.std.specs.Prelude.{◌≡◌, option_map};
+ghost use Rattle.std.specs.Prelude.{◌≡◌};
 ghost use Rattle.std.specs.Option.{option_copied};
 
 use crate::form::{Form, MetaForm};

@@ -1,5 +1,5 @@
 //! Paths: where a type is declared, and its name.
-ghost use Rattle.std.specs.Prelude.{◌≡◌, ◌≢◌, ◌↔◌, ◌-◌, ℕ, List, [], ◌∷◌, ◌++◌, Some, map, length, take, slice_get, IfOk, IfSome, IsNone, IsTrue};
+ghost use Rattle.std.specs.Prelude.{◌≡◌, ◌≢◌, ◌↔◌, ◌-◌, ℕ, List, [], Some, map, length, take, slice_get, IfOk, IfSome, IsNone, IsTrue};
 ghost use Rattle.std.specs.Iterator.{IsFinite};
 ghost use Rattle.std.specs.List.{All};
 ghost use Rattle.scale_info_types.specs.Identifiers.{IsIdentifier};
