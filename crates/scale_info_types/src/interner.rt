@@ -71,6 +71,15 @@ impl<'a, T> Symbol<'a, T> {
     }
 }
 
+impl<'a, T> TryClone for Symbol<'a, T> {
+    fn try_clone(&self, _alloc: Global) -> Result<Symbol<'a, T>, AllocError> {
+        Ok(Symbol {
+            id: self.id,
+            marker: PhantomData,
+        })
+    }
+}
+
 /// Why a value could not be interned.
 #[derive(Debug, Drop, PartialEq, Eq, Error)]
 pub enum InternError {

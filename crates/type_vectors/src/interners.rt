@@ -2,6 +2,7 @@
 
 #[cfg(test)]
 mod tests {
+    use scale_info::try_clone::TryClone;
     use scale_info::{
         Field, Path, PortableRegistryBuilder, Type, TypeDefComposite, TypeDefPrimitive,
         TypeDefSequence,
@@ -46,6 +47,18 @@ mod tests {
         }
     }
 
+    /// The number of a copy of the symbol that stands for this value.
+    fn copied_number<T: Ord + Drop>(
+        alloc: Global,
+        interner: &Interner<T>,
+        value: &T,
+    ) -> Result<Option<u32>, AllocError> {
+        match interner.get(value) {
+            Some(symbol) => Ok(Some(symbol.try_clone(alloc)?.into_untracked().id())),
+            None => Ok(None),
+        }
+    }
+
     /// What the symbol that one interner has for this value stands for in another.
     fn resolved<'a, T: Ord + Drop>(
         from: &'a Interner<T>,
@@ -73,6 +86,7 @@ mod tests {
         assert!(rt; interner.elements() == ["Hello", ", World!", "1 2 3"].as_slice());
         assert_eq!(rt; number_in(&interner, &"1 2 3"), Some(2));
         assert_eq!(rt; number_in(&interner, &"4"), None);
+        assert_eq!(rt; copied_number(rt.alloc(), &interner, &"1 2 3")?, Some(2));
         assert_eq!(rt; resolved(&interner, &interner, &"1 2 3"), Some(&"1 2 3"));
         Ok(())
     }
