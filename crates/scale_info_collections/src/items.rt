@@ -100,7 +100,7 @@ impl<T> Items<T> {
     ///
     /// The list grows as by `push`, from no room to room for four and then to twice as much, but takes no
     /// room for more than `count`. So it asks for memory by what it holds, whatever the count announces,
-    /// and ends without room to spare.
+    /// and a list of `count` elements has no room to spare. Past the count it grows as by `push`.
     pub fn push_towards(&mut self, count: usize, value: T) -> Result<(), AllocFailed<T>>
         ensures list { self.new ≡ (if is_ok result then self.old ++ value ∷ [] else self.old) }
         ensures value_returned { IfErr result (λ failed. failed.value ≡ value) }
@@ -118,7 +118,12 @@ impl<T> Items<T> {
         ensures { self.new ≡ self.old }
     {
         let len = self.all.len();
-        let wanted = count.saturating_sub(len).clamp(1, len.max(4));
+        let growth = len.max(4);
+        let wanted = if len < count {
+            growth.min(count - len)
+        } else {
+            growth
+        };
         self.all.reserve_exact(wanted)
     }
 }
