@@ -212,6 +212,8 @@ fn lists_grow_towards_a_count(rt: HostRuntime) -> Result<(), Fail> {
     assert_eq!(rt; announced_too_many.capacity(), 4);
     let announced_too_few = grown(alloc, &text(alloc, "Ä")?, 3, 1)?;
     assert_eq!(rt; announced_too_few.len(), 3);
+    // The first took room for one, the second for four more.
+    assert_eq!(rt; announced_too_few.capacity(), 5);
     let mut roomy: Items<u32> = Items::with_capacity(alloc, 3)?;
     assert!(rt; roomy.is_empty());
     roomy.push(1)?;
