@@ -2,17 +2,25 @@
 #![tactic(auto)]
 
 pub mod laws;
-pub mod portable;
 
-pub use portable::{PortableRegistry, PortableRegistryBuilder};
 pub use scale_info_codec as codec;
+pub use scale_info_codec::{DecodeError, EncodeError, Scale};
+pub use scale_info_collections::items::Items;
+pub use scale_info_collections::text::Text;
+pub use scale_info_collections::try_clone::TryClone;
 pub use scale_info_collections::{items, text, try_clone};
-pub use scale_info_types::meta_type::{MetaType, TypeId};
-pub use scale_info_types::ty::path::Path;
+pub use scale_info_identities::interner::UntrackedSymbol;
+pub use scale_info_identities::type_id::TypeId;
+pub use scale_info_identities::{interner, utils};
+pub use scale_info_json::{JsonError, append_json, from_json, to_json};
+pub use scale_info_tables::portable;
+pub use scale_info_tables::portable::{PortableRegistry, PortableRegistryBuilder};
+pub use scale_info_types::meta_type::MetaType;
+pub use scale_info_types::ty::path::{Path, PathError};
 pub use scale_info_types::ty::variant::Variant;
 pub use scale_info_types::ty::{
     Field, PortableType, Type, TypeDef, TypeDefArray, TypeDefBitSequence, TypeDefCompact,
-    TypeDefComposite, TypeDefPrimitive, TypeDefSequence, TypeDefTuple, TypeDefVariant,
+    TypeDefComposite, TypeDefMap, TypeDefPrimitive, TypeDefSequence, TypeDefTuple, TypeDefVariant,
     TypeParameter,
 };
-pub use scale_info_types::{form, impls, interner, ty};
+pub use scale_info_types::{form, impls, meta_type, ty};

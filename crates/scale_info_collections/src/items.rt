@@ -1,8 +1,11 @@
 //! A list of values, which contracts see as the list of its elements.
-ghost use Rattle.std.specs.Prelude.{◌≡◌, ◌++◌, ◌∷◌, ◌↔◌, ◌<◌, ◌^◌, [], length, IsTrue, if◌then◌else◌, is_ok, IfOk, IfErr};
+ghost use Rattle.std.specs.Prelude.{◌≡◌, ◌++◌, ◌∷◌, ◌↔◌, ◌<◌, ◌^◌, [], length, IsTrue};
+ghost use Rattle.std.specs.Prelude.{if◌then◌else◌, is_ok, IfOk, IfErr};
 ghost use Rattle.std.specs.Slice.Iter.{iter_rest, iter_steps};
 ghost use Rattle.std.specs.Iterator.Runs.{EveryRun, ItemsMapTo};
-ghost use Rattle.std.specs.Cmp.Lexicographic.{pointwise, slice_cmp, slice_partial_cmp, lists_equiv, lists_agrees, lists_total, lists_ties, lists_per, lists_po};
+ghost use Rattle.std.specs.Cmp.Lexicographic.{pointwise, slice_cmp, slice_partial_cmp, lists_equiv};
+ghost use Rattle.std.specs.Cmp.Lexicographic.{lists_agrees, lists_total, lists_ties, lists_per};
+ghost use Rattle.std.specs.Cmp.Lexicographic.{lists_po};
 ghost use Rattle.std.specs.Hash as fed;
 ghost use Rattle.std.specs.Hash.{items_Alike};
 
@@ -11,11 +14,18 @@ use std::cmp::Ordering;
 use std::hash::{Hash, Hasher};
 use std::iter::FromIterator;
 use std::marker::Model;
+use std::ops::DerefSlice;
 use std::{fmt, slice};
 
 /// A list. Two lists with equal elements are one value to a contract, which two `Vec`s are not.
 ///
-/// It is made from a `Vec` and gives it back without taking memory.
+/// It is made from a `Vec` and gives it back without allocating, and it has the methods of a slice:
+/// `items.first()`, `items[0]` and `for item in &items` work as they do for a `Vec`.
+///
+/// ```text
+/// let items = Items::from(vec![in alloc; 1, 2]?);
+/// items.first()  // Some(&1)
+/// ```
 #[derive(Drop)]
 pub struct Items<T> {
     all: Vec<T>,
@@ -39,9 +49,9 @@ impl<T> Items<T> {
         }
     }
 
-    /// The empty list, with room for this many elements.
+    /// The empty list, with capacity for this many elements.
     ///
-    /// Errors: `AllocError`, where memory is wanted and refused.
+    /// Errors: `AllocError`, if an allocation failed.
     pub fn with_capacity(alloc: Global, capacity: usize) -> Result<Self, AllocError>
         ensures { IfOk result (λ items. items ≡ []) }
     {
@@ -50,7 +60,7 @@ impl<T> Items<T> {
         })
     }
 
-    /// The vector of the elements; takes no memory.
+    /// The vector of the elements. Does not allocate.
     pub fn into_vec(self) -> Vec<T>
         ensures { result.items ≡ self }
     {
@@ -58,7 +68,7 @@ impl<T> Items<T> {
         all
     }
 
-    /// The elements, to read.
+    /// The elements as a slice.
     pub fn as_slice(&self) -> &[T]
         ensures { result.now ≡ self.now }
     {
@@ -79,15 +89,17 @@ impl<T> Items<T> {
         self.all.is_empty()
     }
 
-    /// The elements in order, to read.
+    /// The elements in order.
     pub fn iter(&self) -> slice::Iter<'_, T>
         ensures rest { iter_rest result ≡ self.now }
-        ensures runs { EveryRun (iter_steps {A = T}) (λ p. ItemsMapTo p (λ y. y.now) (iter_rest p.from)) }
+        ensures runs { EveryRun (iter_steps {A = T})
+            (λ p. ItemsMapTo p (λ y. y.now) (iter_rest p.from)) }
     {
         self.all.iter()
     }
 
-    /// Puts one more element at the end. On an Err the list is as before, and the element comes back.
+    /// Puts one more element at the end. On an Err the list is as before, and the element is
+    /// returned.
     pub fn push(&mut self, value: T) -> Result<(), AllocFailed<T>>
         ensures list { self.new ≡ (if is_ok result then self.old ++ value ∷ [] else self.old) }
         ensures value_returned { IfErr result (λ failed. failed.value ≡ value) }
@@ -95,12 +107,12 @@ impl<T> Items<T> {
         self.push_towards(usize::MAX, value)
     }
 
-    /// Puts one more element at the end of a list that is to have `count` elements. On an Err the list is
-    /// as before, and the element comes back.
+    /// Puts one more element at the end of a list that is to have `count` elements. On an Err the
+    /// list is as before, and the element is returned.
     ///
-    /// The list grows as by `push`, from no room to room for four and then to twice as much, but takes no
-    /// room for more than `count`. So it asks for memory by what it holds, whatever the count announces,
-    /// and a list of `count` elements has no room to spare. Past the count it grows as by `push`.
+    /// The capacity grows as by `push`, from 0 to 4 and then to twice as much, but not past
+    /// `count`. So the list allocates by what it holds, whatever the count announces, and a list
+    /// of `count` elements has no spare capacity. Past the count it grows as by `push`.
     pub fn push_towards(&mut self, count: usize, value: T) -> Result<(), AllocFailed<T>>
         ensures list { self.new ≡ (if is_ok result then self.old ++ value ∷ [] else self.old) }
         ensures value_returned { IfErr result (λ failed. failed.value ≡ value) }
@@ -111,7 +123,7 @@ impl<T> Items<T> {
         self.all.push(value)
     }
 
-    /// Takes room for at least one more element, in a list that is to have `count` elements.
+    /// Makes room for at least one more element, in a list that is to have `count` elements.
     #[cold]
     #[inline(never)]
     fn reserve_towards(&mut self, count: usize) -> Result<(), AllocError>
@@ -125,6 +137,17 @@ impl<T> Items<T> {
             growth
         };
         self.all.reserve_exact(wanted)
+    }
+}
+
+/// The methods of a slice: `first`, `get`, an index and the like.
+impl<T> DerefSlice for Items<T> {
+    type Elem = T;
+
+    ghost deref_gives = { λ all xs. xs ≡ all };
+
+    fn deref(&self) -> &[T] {
+        self.as_slice()
     }
 }
 
@@ -208,7 +231,9 @@ impl<'a, T> IntoIterator for &'a Items<T> {
 
     type IntoIter = slice::Iter<'a, T>;
 
-    ghost into_iter_gives = { λ items iter. (iter_rest iter ≡ items.now) × (length (iter_rest iter) < 2 ^ 64) × EveryRun (iter_steps {A = T}) (λ p. ItemsMapTo p (λ y. y.now) (iter_rest p.from)) };
+    ghost into_iter_gives = { λ items iter.
+        (iter_rest iter ≡ items.now) × (length (iter_rest iter) < 2 ^ 64)
+        × EveryRun (iter_steps {A = T}) (λ p. ItemsMapTo p (λ y. y.now) (iter_rest p.from)) };
 
     fn into_iter(self) -> slice::Iter<'a, T> {
         self.iter()

@@ -2,6 +2,6 @@
 #![tactic(auto)]
 
 pub mod items;
-pub mod mark;
+pub mod marker;
 pub mod text;
 pub mod try_clone;

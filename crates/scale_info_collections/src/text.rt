@@ -1,18 +1,33 @@
-//! A text, which contracts see as the list of its bytes.
+//! A string, which contracts see as the list of its bytes.
 ghost use Rattle.std.specs.Prelude.{◌≡◌, ◌==◌, ◌↔◌, Some, [], refl, IsTrue, length, string_bytes};
+ghost use Rattle.std.specs.Prelude.{IfOk};
 ghost use Rattle.std.specs.Cmp.{partial_equiv_from_equiv};
+ghost use Rattle.std.specs.Cmp.Rules.{hashing};
+ghost use Rattle.std.specs.Hash as fed;
+ghost use Rattle.std.proofs.Common.{rules};
 ghost use Rattle.std.specs.Cmp.Lexicographic.{pointwise, slice_cmp, texts_ties, texts_po};
 ghost use Rattle.std.specs.Fmt.{styled_text};
 ghost use Rattle.std.specs.Ordering.{nat_cmp};
 ghost use Rattle.std.proofs.lemmas.Cmp.{nat_list_cmp_total, nat_list_eq_equiv};
 
+use std::alloc::{AllocError, Global};
 use std::cmp::Ordering;
+use std::convert::AsStr;
 use std::fmt;
+use std::hash::{Hash, Hasher};
 use std::marker::Model;
+use std::ops::DerefStr;
 
-/// A text. Two texts with equal bytes are one value to a contract, which two `String`s are not.
+/// A string. Two texts with equal bytes are one value to a contract, which two `String`s are not.
 ///
-/// It is made from a `String` and gives it back without taking memory.
+/// It is made from a `String` and gives it back without allocating, and it has the methods of a
+/// `str`.
+///
+/// ```text
+/// let name = Text::from_str(alloc, "Vec")?;
+/// name.starts_with("V")  // true
+/// *name == *"Vec"        // true
+/// ```
 #[derive(Drop)]
 pub struct Text {
     chars: String,
@@ -27,7 +42,16 @@ impl Model for Text {
 }
 
 impl Text {
-    /// The string of the text; takes no memory.
+    /// A copy of a string slice.
+    ///
+    /// Errors: `AllocError`, if an allocation failed.
+    pub fn from_str(alloc: Global, chars: &str) -> Result<Text, AllocError>
+        ensures { IfOk result (λ text. text ≡ chars.now) }
+    {
+        Ok(Text::from(String::from_str(alloc, chars)?))
+    }
+
+    /// The string of the text. Does not allocate.
     pub fn into_string(self) -> String
         ensures { string_bytes result ≡ self }
     {
@@ -35,7 +59,7 @@ impl Text {
         chars
     }
 
-    /// The text, to read.
+    /// The text as a string slice.
     pub fn as_str(&self) -> &str
         ensures { result.now ≡ self.now }
     {
@@ -57,6 +81,22 @@ impl Text {
     }
 }
 
+impl DerefStr for Text {
+    ghost deref_gives = { λ text bytes. bytes ≡ text };
+
+    fn deref(&self) -> &str {
+        self.as_str()
+    }
+}
+
+impl AsStr for Text {
+    ghost text = { λ text. text };
+
+    fn as_str(&self) -> &str {
+        self.as_str()
+    }
+}
+
 impl From<String> for Text {
     ghost from_gives = { λ chars text. text ≡ string_bytes chars };
 
@@ -73,7 +113,14 @@ impl From<Text> for String {
     }
 }
 
-/// The text itself, with width, fill and precision as a `str` has them.
+/// Prints the text in quotes, as a `str` is printed by `{:?}`.
+impl fmt::Debug for Text {
+    fn fmt<W: fmt::Write>(&self, f: &mut fmt::Formatter<W>) -> fmt::Result {
+        fmt::Debug::fmt(&self.as_str(), f)
+    }
+}
+
+/// Prints the text, with width, fill and precision as for a `str`.
 impl fmt::Display for Text {
     ghost output = { λ text. Some text };
 
@@ -119,5 +166,15 @@ impl Ord for Text {
 
     fn cmp(&self, other: &Text) -> Ordering {
         self.chars.as_str().cmp(other.chars.as_str())
+    }
+}
+
+impl Hash for Text {
+    ghost hash_input = { λ text. fed.str text };
+
+    ghost respects_eq = { Prim.search (hashing, rules) };
+
+    fn hash<H: Hasher>(&self, state: &mut H) {
+        self.as_str().hash(state);
     }
 }

@@ -1,13 +1,19 @@
-//! Copies that may want memory.
+//! Copies that allocate and may fail.
 ghost use Rattle.std.specs.Prelude.{◌≡◌, IfOk};
 
 use crate::items::Items;
 use crate::text::Text;
 use std::alloc::{AllocError, Global};
 
-/// A value that can be copied, where there is memory.
+/// A value that can be copied. In Rust this is `Clone`, which can't report a failed allocation.
+///
+/// Any type may implement it. An implementor owes the contract of `try_clone`: an Ok equals the
+/// source in the sense of contracts, so a type that holds a `Vec` or a `String` must hold them as
+/// `Items` or `Text`.
 pub trait TryClone: Drop {
     /// A copy, which equals the value.
+    ///
+    /// Errors: `AllocError`, if an allocation failed.
     fn try_clone(&self, alloc: Global) -> Result<Self, AllocError>
         ensures { IfOk result (λ copy. copy ≡ self.now) };
 }
@@ -38,7 +44,7 @@ impl TryClone for &'static str {
 
 impl TryClone for Text {
     fn try_clone(&self, alloc: Global) -> Result<Text, AllocError> {
-        Ok(Text::from(String::from_str(alloc, self.as_str())?))
+        Text::from_str(alloc, self.as_str())
     }
 }
 

@@ -1,9 +1,6 @@
-pub mod Agreement
+pub mod ShapeAndReferences
 pub mod Contents
-pub mod Ends
-pub mod Identifiers
 pub mod Injective
 pub mod Iterators
-pub mod Paths
-pub mod Places
-pub mod Readings
+pub mod TypePaths
+pub mod Inverses

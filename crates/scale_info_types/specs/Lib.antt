@@ -1,9 +1,9 @@
-pub mod Identifiers
-pub mod Interned
 pub mod Iterators
-pub mod Paths
+pub mod Orders
+pub mod TypePaths
 pub mod Portable
+pub mod Primitives
 pub mod References
 pub mod Shapes
-pub mod Terms
-pub mod TermsSame
+pub use Rattle.scale_info_identities.specs.Identifiers
+pub use Rattle.scale_info_identities.specs.TypeIds

@@ -14,8 +14,9 @@ use Rattle.scale_info_types.specs.declared.ty.Description.{Description}
 abbrev pub field_references : {F T S : Type 0} → List (Field F T S) → List T
 field_references fields = map (λ f. f.ty) fields
 
--- a composite has its fields' types; an enum those of its cases' fields, case by case; a sequence, an array and a compact
--- number their one type; a tuple its members; a bit sequence the store, then the order; a primitive none
+-- a composite has its fields' types; an enum those of its variants' fields, in order; a sequence,
+-- an array and a compact number their one type; a tuple its members; a bit sequence the store, then
+-- the order; a map the key, then the value; a primitive none
 abbrev pub definition_references : {F T S : Type 0} → TypeDef F T S → List T
 definition_references (def.Composite d) = field_references d.fields
 definition_references (def.Variant d) = flat_map (λ v. field_references v.fields) d.variants
@@ -25,6 +26,7 @@ definition_references (def.Tuple d) = d.fields
 definition_references (def.Primitive p) = []
 definition_references (def.Compact d) = d.type_param ∷ []
 definition_references (def.BitSequence d) = d.bit_store_type ∷ d.bit_order_type ∷ []
+definition_references (def.Map d) = d.key ∷ d.value ∷ []
 
 -- the types of the parameters that aren't skipped
 abbrev pub parameter_references : {F T S : Type 0} → List (TypeParameter F T S) → List T

@@ -3,58 +3,65 @@ ghost use Rattle.std.specs.Prelude.{◌≡◌, ◌↔◌, ℕ, List, IfOk, IsTru
 ghost use Rattle.std.specs.Cmp.Lexicographic.{slice_cmp};
 ghost use Rattle.std.specs.Ordering.{nat_cmp};
 ghost use Rattle.std.proofs.Common.{rules, refl};
-ghost use Rattle.scale_info_types.specs.Terms.{Term, term_of};
-ghost use Rattle.scale_info_types.specs.TermsSame.{same_type_ids};
+ghost use Rattle.scale_info_identities.specs.TypeIds.{Term, term_of};
+ghost use Rattle.scale_info_identities.specs.TypeIdLaws.{same_type_ids};
 
-use crate::interner::UntrackedSymbol;
-use crate::meta_type::{MetaType, TypeId};
+use crate::meta_type::MetaType;
+use scale_info_collections::items::Items;
 use scale_info_collections::text::Text;
 use scale_info_collections::try_clone::TryClone;
+use scale_info_identities::interner::UntrackedSymbol;
+use scale_info_identities::type_id::TypeId;
 use std::alloc::{AllocError, Global};
 
-/// What stands for a type and for a text in a description.
+/// How a description names types and holds strings.
 ///
 /// `scale-info` describes types in two forms: [`MetaForm`] while a program collects them, and
 /// [`PortableForm`] once they can be written out. Everything about descriptions is proved once for
 /// every form from the laws below.
+///
+/// A program may implement `Form` for a type of its own. It then owes the copies and the laws:
+/// equal types have equal readings, and strings are compared by their bytes.
 pub trait Form: Drop {
-    /// What stands for a type.
+    /// A type, as descriptions refer to it.
     type Ty: Ord + Drop;
-    /// What stands for a text.
+    /// A string in a description.
     type String: Ord + Drop;
 
-    /// What a type stands for, whatever memory holds it.
+    /// What a type refers to, wherever it lies in memory.
     ghost Reference: { Type 0 };
 
     /// The reading of a type.
     ghost reference: { Self.Ty → Reference };
 
-    /// The bytes of a text.
+    /// The bytes of a string.
     ghost text: { Self.String → List ℕ };
 
-    /// A copy of what stands for a type; Ok equals the source.
+    /// A copy of a type. An Ok equals the source.
     ///
-    /// Errors: `AllocError`, where memory is wanted and refused.
+    /// Errors: `AllocError`, if an allocation failed.
     fn copy_type(alloc: Global, source: &Self::Ty) -> Result<Self::Ty, AllocError>
         ensures { IfOk result (λ copy. copy ≡ source.now) };
 
-    /// A copy of a text; Ok equals the source.
+    /// A copy of a string. An Ok equals the source.
     ///
-    /// Errors: `AllocError`, where memory is wanted and refused.
+    /// Errors: `AllocError`, if an allocation failed.
     fn copy_string(alloc: Global, source: &Self::String) -> Result<Self::String, AllocError>
         ensures { IfOk result (λ copy. copy ≡ source.now) };
 
-    /// Types are equal exactly where they stand for one thing.
-    ghost reference_equal: { (a b : Self.Ty) → IsTrue (Self.Ty.eq a b) ↔ (reference a ≡ reference b) };
+    /// Types are equal exactly if their readings are.
+    ghost reference_equal: { (a b : Self.Ty) → IsTrue (Self.Ty.eq a b)
+        ↔ (reference a ≡ reference b) };
 
-    /// Texts are equal exactly where their bytes are.
+    /// Strings are equal exactly if their bytes are.
     ghost text_equal: { (a b : Self.String) → IsTrue (Self.String.eq a b) ↔ (text a ≡ text b) };
 
-    /// Texts are ordered by their bytes.
-    ghost text_order: { (a b : Self.String) → Self.String.cmp a b ≡ slice_cmp nat_cmp (text a) (text b) };
+    /// Strings are ordered by their bytes.
+    ghost text_order: { (a b : Self.String)
+        → Self.String.cmp a b ≡ slice_cmp nat_cmp (text a) (text b) };
 }
 
-/// The form that can leave the program: ids of a table, and texts of its own.
+/// The form that can be written out: types are ids of a table, and strings are owned.
 #[derive(Drop)]
 pub enum PortableForm {}
 
@@ -87,7 +94,7 @@ impl Form for PortableForm {
     }
 }
 
-/// The form inside a program: identities of types, and texts that the program holds.
+/// The form inside a program: types are identities, and strings are `&'static str`.
 #[derive(Drop)]
 pub enum MetaForm {}
 
@@ -115,4 +122,58 @@ impl Form for MetaForm {
     fn copy_string(_alloc: Global, source: &&'static str) -> Result<&'static str, AllocError> {
         Ok(*source)
     }
+}
+
+/// A copy of a string that may be missing.
+pub(crate) fn copy_optional_string<T: Form>(
+    alloc: Global,
+    source: &Option<T::String>,
+) -> Result<Option<T::String>, AllocError>
+    ensures { IfOk result (λ copy. copy ≡ source.now) }
+{
+    match source {
+        None => Ok(None),
+        Some(text) => Ok(Some(T::copy_string(alloc, text)?)),
+    }
+}
+
+/// A copy of a type that may be missing.
+pub(crate) fn copy_optional_type<T: Form>(
+    alloc: Global,
+    source: &Option<T::Ty>,
+) -> Result<Option<T::Ty>, AllocError>
+    ensures { IfOk result (λ copy. copy ≡ source.now) }
+{
+    match source {
+        None => Ok(None),
+        Some(ty) => Ok(Some(T::copy_type(alloc, ty)?)),
+    }
+}
+
+/// A copy of a list of strings.
+pub(crate) fn copy_strings<T: Form>(
+    alloc: Global,
+    texts: &Items<T::String>,
+) -> Result<Items<T::String>, AllocError>
+    ensures { IfOk result (λ copy. copy ≡ texts.now) }
+{
+    let mut copy = Items::with_capacity(alloc, texts.len())?;
+    for text in texts.as_slice() {
+        copy.push(T::copy_string(alloc, text)?)?;
+    }
+    Ok(copy)
+}
+
+/// A copy of a list of types.
+pub(crate) fn copy_types<T: Form>(
+    alloc: Global,
+    types: &Items<T::Ty>,
+) -> Result<Items<T::Ty>, AllocError>
+    ensures { IfOk result (λ copy. copy ≡ types.now) }
+{
+    let mut copy = Items::with_capacity(alloc, types.len())?;
+    for ty in types.as_slice() {
+        copy.push(T::copy_type(alloc, ty)?)?;
+    }
+    Ok(copy)
 }

@@ -1,4 +1,4 @@
-//! Types whose descriptions the library brings along.
+//! Types of this library that descriptions speak of.
 
 /// A number in SCALE's compact encoding, which takes as few bytes as the number needs.
 ///

@@ -1,13 +1,9 @@
-//! Laws of identities and of descriptions. Nothing here does any work when it runs.
+//! Laws of descriptions. Nothing here does any work when it runs.
 ghost use Rattle.std.specs.Prelude.{◌≡◌, ◌↔◌, IsTrue, length, map, ℕ, List};
-ghost use Rattle.std.specs.Cmp.Lexicographic.{slice_cmp};
-ghost use Rattle.std.specs.Ordering.{nat_cmp, ordering_then};
 ghost use Rattle.scale_info_types.specs.Shapes.{map_definition, content, shape};
 ghost use Rattle.scale_info_types.specs.Portable as portable;
 ghost use Rattle.scale_info_types.specs.References.{references};
-ghost use Rattle.scale_info_types.specs.Paths.{IsPieces};
-ghost use Rattle.scale_info_types.specs.Terms.{term_of};
-ghost use Rattle.scale_info_types.specs.declared.meta_type.TypeId.{TypeId, out-TypeId};
+ghost use Rattle.scale_info_types.specs.TypePaths.{IsPieces};
 ghost use Rattle.scale_info_types.specs.declared.ty.TypeDef.{TypeDef};
 ghost use Rattle.scale_info_types.specs.declared.ty.Description.{Description};
 ghost use Rattle.scale_info_types.specs.declared.ty.PortableType.{PortableType};
@@ -15,36 +11,20 @@ ghost use Rattle.scale_info_types.specs.declared.ty.PortableType.{PortableType};
 use crate::form::{Form, PortableForm};
 use crate::ty::Type;
 
-/// Two identities are equal exactly where their terms are: heads by their bytes, numbers and arguments.
-///
-/// So the identity of `Vec<u8>` equals any other with the head `Vec`, no numbers and `u8` as its one
-/// argument, wherever its text and its lists lie in memory.
-pub fn equal_type_ids()
-    ensures { (a b : TypeId) → IsTrue (⟦<crate::meta_type::TypeId as PartialEq>⟧.eq a b) ↔ (term_of a ≡ term_of b) }
+mod comparisons;
+
+pub use comparisons::{equal_path_errors, ordered_definitions, ordered_primitives};
+
+/// Two definitions are equal, in any form, exactly if their contents are.
+pub fn equal_definitions<T: Form>()
+    ensures { (a b : TypeDef T T.Ty T.String)
+        → IsTrue (⟦<crate::ty::TypeDef<T> as PartialEq>⟧.eq a b)
+        ↔ (map_definition {G = Unit {0}} T.reference T.text a
+        ≡ map_definition {G = Unit {0}} T.reference T.text b) }
 {}
 
-/// Identities are ordered by their heads, then by their numbers, then by their arguments.
-pub fn ordered_type_ids()
-    ensures { (a b : TypeId) → ⟦<crate::meta_type::TypeId as Ord>⟧.cmp a b
-        ≡ ordering_then (slice_cmp nat_cmp (out-TypeId a).head.now (out-TypeId b).head.now)
-        (ordering_then (slice_cmp nat_cmp (out-TypeId a).nums (out-TypeId b).nums)
-        (slice_cmp ⟦<crate::meta_type::TypeId as Ord>⟧.cmp (out-TypeId a).args (out-TypeId b).args)) }
-{}
-
-/// Equal identities are hashed alike.
-pub fn hashed_type_ids()
-    ensures { (a b : TypeId) → IsTrue (⟦<crate::meta_type::TypeId as PartialEq>⟧.eq a b)
-        → ⟦<crate::meta_type::TypeId as std::hash::Hash>⟧.hash_input a ≡ ⟦<crate::meta_type::TypeId as std::hash::Hash>⟧.hash_input b }
-{}
-
-/// Two definitions are equal, in any form, exactly where their contents are.
-fn equal_definitions<T: Form>()
-    ensures { (a b : TypeDef T T.Ty T.String) → IsTrue (⟦<crate::ty::TypeDef<T> as PartialEq>⟧.eq a b)
-        ↔ (map_definition {G = Unit {0}} T.reference T.text a ≡ map_definition {G = Unit {0}} T.reference T.text b) }
-{}
-
-/// Two descriptions are equal, in any form, exactly where their contents are: the description with each
-/// type read as what it stands for and each text as its bytes.
+/// Two descriptions are equal, in any form, exactly if their contents are: the description with
+/// each type read as what it stands for and each text as its bytes.
 ///
 /// So a description that differs in one line of docs, in an index or in the order of two fields is
 /// another one, and one that is copied to other memory is the same.
@@ -57,36 +37,44 @@ pub fn equal_contents<T: Form>()
 
 /// A portable description is its shape and its references: no two share both.
 ///
-/// So the description of a pair can be kept as the shape `(_, _)` and the list `[2, 3]` of the ids that
-/// fill it.
+/// So the description of a pair can be kept as the shape `(_, _)` and the list `[2, 3]` of the ids
+/// that fill it.
 pub fn shape_and_references()
-    ensures { (a b : portable.Description) → shape (λ text. text) a ≡ shape (λ text. text) b → references a ≡ references b → a ≡ b }
+    ensures { (a b : portable.Description) → shape (λ text. text) a ≡ shape (λ text. text) b
+        → references a ≡ references b → a ≡ b }
 {}
 
-/// The content of a description, in any form, is its shape and what its references stand for, in order.
+/// The content of a description, in any form, is its shape and what its references stand for, in
+/// order.
 ///
-/// So two descriptions are `==` exactly where their shapes are equal and their references stand, one by
-/// one, for the same types. `(u8, u16)` and `(u16, u8)` have one shape, but their references stand for
-/// the types in another order, so the two are not `==`.
+/// So two descriptions are `==` exactly where their shapes are equal and their references stand,
+/// one by one, for the same types. `(u8, u16)` and `(u16, u8)` have one shape, but their references
+/// stand for the types in another order, so the two are not `==`.
 pub fn shape_and_references_of<T: Form>()
-    ensures { (a b : Description T T.Ty T.String) → (content T.reference T.text a ≡ content T.reference T.text b)
-        ↔ ((shape T.text a ≡ shape T.text b) × (map T.reference (references a) ≡ map T.reference (references b))) }
+    ensures { (a b : Description T T.Ty T.String)
+        → (content T.reference T.text a ≡ content T.reference T.text b)
+        ↔ ((shape T.text a ≡ shape T.text b)
+        × (map T.reference (references a) ≡ map T.reference (references b))) }
 {}
 
 /// Descriptions of one shape have equally many references.
 ///
 /// So the shape `(_, _)` says that two types fill it.
 pub fn same_shape_same_counts<T: Form>()
-    ensures { (a b : Description T T.Ty T.String) → shape T.text a ≡ shape T.text b → length (references a) ≡ length (references b) }
+    ensures { (a b : Description T T.Ty T.String) → shape T.text a ≡ shape T.text b
+        → length (references a) ≡ length (references b) }
 {}
 
-/// In the portable form `==` is equality: the comparison passes over nothing that a description or an
-/// entry holds.
+/// In the portable form `==` is equality: the comparison passes over nothing that a description or
+/// an entry holds.
 ///
-/// So a table's entry that is `==` to the entry with id 3 and the description of `bool` is that entry.
+/// So a table's entry that is `==` to the entry with id 3 and the description of `bool` is that
+/// entry.
 pub fn equal_portable()
-    ensures description { (a b : portable.Description) → IsTrue (⟦<Type<PortableForm> as PartialEq>⟧.eq a b) ↔ (a ≡ b) }
-    ensures entry { (a b : PortableType) → IsTrue (⟦<crate::ty::PortableType as PartialEq>⟧.eq a b) ↔ (a ≡ b) }
+    ensures description { (a b : portable.Description)
+        → IsTrue (⟦<Type<PortableForm> as PartialEq>⟧.eq a b) ↔ (a ≡ b) }
+    ensures entry { (a b : PortableType) → IsTrue (⟦<crate::ty::PortableType as PartialEq>⟧.eq a b)
+        ↔ (a ≡ b) }
 {
     equal_contents::<PortableForm>()
 }
@@ -95,5 +83,6 @@ pub fn equal_portable()
 ///
 /// `a:::b` has the pieces `a` and `:b`, since the first `::` counts, and no others.
 pub fn one_list_of_pieces()
-    ensures { (text : List ℕ) (pieces others : List (List ℕ)) → IsPieces text pieces → IsPieces text others → pieces ≡ others }
+    ensures { (text : List ℕ) (pieces others : List (List ℕ)) → IsPieces text pieces
+        → IsPieces text others → pieces ≡ others }
 {}

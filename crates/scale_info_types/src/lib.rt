@@ -3,8 +3,8 @@
 
 pub mod form;
 pub mod impls;
-pub mod interner;
 pub mod laws;
 pub mod meta_type;
 pub mod ty;
-pub mod utils;
+
+pub use scale_info_identities::{interner, utils};

@@ -1,22 +1,23 @@
 //! Descriptions of types.
 //!
-//! A [`Type`] is a path, parameters, a definition and docs; a [`TypeDef`] is one of the eight kinds of
-//! definition that the crate `scale-info` has.
+//! A [`Type`] is a path, parameters, a definition and docs; a [`TypeDef`] is one of nine variants:
+//! eight that the crate `scale-info` has, and maps.
 ghost use Rattle.std.specs.Prelude.{◌≡◌, [], IfOk};
 ghost use Rattle.std.specs.Iterator.{IsFinite};
 ghost use Rattle.std.specs.Option.{option_copied};
 ghost use Rattle.scale_info_types.specs.Iterators.{GivesAll};
+ghost use Rattle.scale_info_types.specs.Primitives.{primitive_name};
 ghost use Rattle.scale_info_types.specs.declared.ty.TypeDef.TheVariants as def;
 
-use crate::form::{Form, MetaForm, PortableForm};
-use crate::interner::UntrackedSymbol;
-use crate::meta_type::TypeId;
+use crate::form::{Form, MetaForm, PortableForm, copy_optional_type, copy_strings, copy_types};
 use scale_info_collections::items::Items;
 use scale_info_collections::text::Text;
+use scale_info_collections::try_clone::TryClone;
+use scale_info_identities::interner::UntrackedSymbol;
+use scale_info_identities::type_id::TypeId;
 use std::alloc::{AllocError, Global};
 
 pub mod composite;
-mod copies;
 pub mod fields;
 pub mod path;
 pub mod variant;
@@ -47,7 +48,7 @@ pub use Description as Type;
 impl<T: Form> Description<T> {
     /// The description with these parts.
     ///
-    /// Errors: `AllocError`, where memory for the list of parameters is refused.
+    /// Errors: `AllocError`, if an allocation failed.
     pub fn new<I: IntoIterator<Item = TypeParameter<T>>>(
         alloc: Global,
         path: Path<T>,
@@ -55,10 +56,13 @@ impl<T: Form> Description<T> {
         type_def: TypeDef<T>,
         docs: Vec<T::String>,
     ) -> Result<Description<T>, AllocError>
-        requires can { (it : I.IntoIter) → I.into_iter_gives type_params it → I.IntoIter.can_next it }
-        requires ends { (it : I.IntoIter) → I.into_iter_gives type_params it → IsFinite (I.IntoIter.remaining it) }
+        requires can { (it : I.IntoIter) → I.into_iter_gives type_params it
+            → I.IntoIter.can_next it }
+        requires ends { (it : I.IntoIter) → I.into_iter_gives type_params it
+            → IsFinite (I.IntoIter.remaining it) }
         ensures path { IfOk result (λ d. d.path ≡ path) }
-        ensures type_params { IfOk result (λ d. GivesAll I.into_iter_gives I.IntoIter.next_gives type_params d.type_params) }
+        ensures type_params { IfOk result
+            (λ d. GivesAll I.into_iter_gives I.IntoIter.next_gives type_params d.type_params) }
         ensures type_def { IfOk result (λ d. d.type_def ≡ type_def) }
         ensures docs { IfOk result (λ d. d.docs ≡ docs.items) }
     {
@@ -116,7 +120,12 @@ impl<T: Form> Description<T> {
 
 impl<T: Form> From<(Path<T>, Vec<TypeParameter<T>>, TypeDef<T>, Vec<T::String>)>
     for Description<T> {
-    ghost from_gives = { λ parts d. d ≡ record { path = parts.0; type_params = parts.1.items; type_def = parts.2; docs = parts.3.items } };
+    ghost from_gives = { λ parts d. d ≡ record {
+      path = parts.0;
+      type_params = parts.1.items;
+      type_def = parts.2;
+      docs = parts.3.items;
+    } };
 
     fn from(parts: (Path<T>, Vec<TypeParameter<T>>, TypeDef<T>, Vec<T::String>)) -> Description<T> {
         let (path, type_params, type_def, docs) = parts;
@@ -129,13 +138,24 @@ impl<T: Form> From<(Path<T>, Vec<TypeParameter<T>>, TypeDef<T>, Vec<T::String>)>
     }
 }
 
-/// A parameter of a type, and the type that stands in its place.
+impl<T: Form> TryClone for Description<T> {
+    fn try_clone(&self, alloc: Global) -> Result<Description<T>, AllocError> {
+        Ok(Description {
+            path: self.path.try_clone(alloc)?,
+            type_params: self.type_params.try_clone(alloc)?,
+            type_def: self.type_def.try_clone(alloc)?,
+            docs: copy_strings::<T>(alloc, &self.docs)?,
+        })
+    }
+}
+
+/// A parameter of a type, and the type that it is given.
 #[derive(Drop)]
 #[derive_where(PartialEq, Eq, PartialOrd, Ord)]
 pub struct TypeParameter<T: Form = MetaForm> {
     /// The parameter's name, such as `T`.
     pub name: T::String,
-    /// The type in its place; None where the parameter is skipped.
+    /// The type that it is given; None if the parameter is skipped.
     pub ty: Option<T::Ty>,
 }
 
@@ -154,7 +174,7 @@ impl<T: Form> TypeParameter<T> {
         &self.name
     }
 
-    /// The type in its place, if it isn't skipped.
+    /// The type that it is given; None if the parameter is skipped.
     pub fn ty(&self) -> Option<&T::Ty>
         ensures { option_copied result ≡ self.now.ty }
     {
@@ -183,6 +203,15 @@ impl<T: Form> From<(T::String, Option<T::Ty>)> for TypeParameter<T> {
     }
 }
 
+impl<T: Form> TryClone for TypeParameter<T> {
+    fn try_clone(&self, alloc: Global) -> Result<TypeParameter<T>, AllocError> {
+        Ok(TypeParameter {
+            name: T::copy_string(alloc, &self.name)?,
+            ty: copy_optional_type::<T>(alloc, &self.ty)?,
+        })
+    }
+}
+
 /// What values of a type are made of.
 #[derive(Drop)]
 #[derive_where(PartialEq, Eq, PartialOrd, Ord)]
@@ -191,9 +220,9 @@ pub enum TypeDef<T: Form = MetaForm> {
     Composite(TypeDefComposite<T>),
     /// An enum.
     Variant(TypeDefVariant<T>),
-    /// Items of one type, in any number.
+    /// Any number of items of one type.
     Sequence(TypeDefSequence<T>),
-    /// Items of one type, in a fixed number.
+    /// A fixed number of items of one type.
     Array(TypeDefArray<T>),
     /// Members of several types.
     Tuple(TypeDefTuple<T>),
@@ -203,6 +232,8 @@ pub enum TypeDef<T: Form = MetaForm> {
     Compact(TypeDefCompact<T>),
     /// A sequence of bits.
     BitSequence(TypeDefBitSequence<T>),
+    /// Values by keys.
+    Map(TypeDefMap<T>),
 }
 
 impl<T: Form> From<TypeDefComposite<T>> for TypeDef<T> {
@@ -269,6 +300,30 @@ impl<T: Form> From<TypeDefBitSequence<T>> for TypeDef<T> {
     }
 }
 
+impl<T: Form> From<TypeDefMap<T>> for TypeDef<T> {
+    ghost from_gives = { λ part d. d ≡ def.Map part };
+
+    fn from(def: TypeDefMap<T>) -> TypeDef<T> {
+        TypeDef::Map(def)
+    }
+}
+
+impl<T: Form> TryClone for TypeDef<T> {
+    fn try_clone(&self, alloc: Global) -> Result<TypeDef<T>, AllocError> {
+        match self {
+            TypeDef::Composite(part) => Ok(TypeDef::Composite(part.try_clone(alloc)?)),
+            TypeDef::Variant(part) => Ok(TypeDef::Variant(part.try_clone(alloc)?)),
+            TypeDef::Sequence(part) => Ok(TypeDef::Sequence(part.try_clone(alloc)?)),
+            TypeDef::Array(part) => Ok(TypeDef::Array(part.try_clone(alloc)?)),
+            TypeDef::Tuple(part) => Ok(TypeDef::Tuple(part.try_clone(alloc)?)),
+            TypeDef::Primitive(part) => Ok(TypeDef::Primitive(*part)),
+            TypeDef::Compact(part) => Ok(TypeDef::Compact(part.try_clone(alloc)?)),
+            TypeDef::BitSequence(part) => Ok(TypeDef::BitSequence(part.try_clone(alloc)?)),
+            TypeDef::Map(part) => Ok(TypeDef::Map(part.try_clone(alloc)?)),
+        }
+    }
+}
+
 /// A built-in type.
 #[derive(Clone, Copy, PartialEq, Eq, PartialOrd, Ord)]
 pub enum TypeDefPrimitive {
@@ -291,7 +346,42 @@ pub enum TypeDefPrimitive {
     I256,
 }
 
-/// Items of one type, in any number, as `Vec<T>` or `[T]`.
+impl TypeDefPrimitive {
+    /// The name of the type: as Rust writes it, and `u256` and `i256` for the two that Rust lacks.
+    ///
+    /// ```text
+    /// TypeDefPrimitive::U32.name()  // "u32"
+    /// ```
+    pub fn name(&self) -> &'static str
+        ensures { result.now ≡ primitive_name self.now }
+    {
+        match self {
+            TypeDefPrimitive::Bool => "bool",
+            TypeDefPrimitive::Char => "char",
+            TypeDefPrimitive::Str => "str",
+            TypeDefPrimitive::U8 => "u8",
+            TypeDefPrimitive::U16 => "u16",
+            TypeDefPrimitive::U32 => "u32",
+            TypeDefPrimitive::U64 => "u64",
+            TypeDefPrimitive::U128 => "u128",
+            TypeDefPrimitive::U256 => "u256",
+            TypeDefPrimitive::I8 => "i8",
+            TypeDefPrimitive::I16 => "i16",
+            TypeDefPrimitive::I32 => "i32",
+            TypeDefPrimitive::I64 => "i64",
+            TypeDefPrimitive::I128 => "i128",
+            TypeDefPrimitive::I256 => "i256",
+        }
+    }
+}
+
+impl TryClone for TypeDefPrimitive {
+    fn try_clone(&self, _alloc: Global) -> Result<TypeDefPrimitive, AllocError> {
+        Ok(*self)
+    }
+}
+
+/// Any number of items of one type, as `Vec<u8>`, `[u8]` or `VecDeque<u8>` are.
 #[derive(Drop)]
 #[derive_where(PartialEq, Eq, PartialOrd, Ord)]
 pub struct TypeDefSequence<T: Form = MetaForm> {
@@ -315,7 +405,15 @@ impl<T: Form> TypeDefSequence<T> {
     }
 }
 
-/// Items of one type, in a fixed number, as `[T; N]`.
+impl<T: Form> TryClone for TypeDefSequence<T> {
+    fn try_clone(&self, alloc: Global) -> Result<TypeDefSequence<T>, AllocError> {
+        Ok(TypeDefSequence {
+            type_param: T::copy_type(alloc, &self.type_param)?,
+        })
+    }
+}
+
+/// A fixed number of items of one type, as `[u8; 32]` is.
 #[derive(Drop)]
 #[derive_where(PartialEq, Eq, PartialOrd, Ord)]
 pub struct TypeDefArray<T: Form = MetaForm> {
@@ -348,7 +446,16 @@ impl<T: Form> TypeDefArray<T> {
     }
 }
 
-/// Members of several types, as `(A, B)`.
+impl<T: Form> TryClone for TypeDefArray<T> {
+    fn try_clone(&self, alloc: Global) -> Result<TypeDefArray<T>, AllocError> {
+        Ok(TypeDefArray {
+            len: self.len,
+            type_param: T::copy_type(alloc, &self.type_param)?,
+        })
+    }
+}
+
+/// Members of several types, as `(u8, bool)` has.
 #[derive(Drop)]
 #[derive_where(PartialEq, Eq, PartialOrd, Ord)]
 pub struct TypeDefTuple<T: Form = MetaForm> {
@@ -366,16 +473,18 @@ impl<T: Form> TypeDefTuple<T> {
 }
 
 impl TypeDefTuple<PortableForm> {
-    /// The tuple of members of these types, in order; none is left out.
+    /// The tuple of members of these types, in order. None is dropped.
     ///
-    /// Errors: `AllocError`, where memory for the list is refused.
+    /// Errors: `AllocError`, if an allocation failed.
     pub fn new_portable<I: IntoIterator<Item = UntrackedSymbol<TypeId>>>(
         alloc: Global,
         fields: I,
     ) -> Result<TypeDefTuple<PortableForm>, AllocError>
         requires can { (it : I.IntoIter) → I.into_iter_gives fields it → I.IntoIter.can_next it }
-        requires ends { (it : I.IntoIter) → I.into_iter_gives fields it → IsFinite (I.IntoIter.remaining it) }
-        ensures { IfOk result (λ d. GivesAll I.into_iter_gives I.IntoIter.next_gives fields d.fields) }
+        requires ends { (it : I.IntoIter) → I.into_iter_gives fields it
+            → IsFinite (I.IntoIter.remaining it) }
+        ensures { IfOk result
+            (λ d. GivesAll I.into_iter_gives I.IntoIter.next_gives fields d.fields) }
     {
         Ok(TypeDefTuple {
             fields: Items::from_iter(alloc, fields)?,
@@ -383,7 +492,16 @@ impl TypeDefTuple<PortableForm> {
     }
 }
 
-/// A number in the compact encoding.
+impl<T: Form> TryClone for TypeDefTuple<T> {
+    fn try_clone(&self, alloc: Global) -> Result<TypeDefTuple<T>, AllocError> {
+        Ok(TypeDefTuple {
+            fields: copy_types::<T>(alloc, &self.fields)?,
+        })
+    }
+}
+
+/// A number in the compact encoding, as `Compact<u32>` is: the smaller the number, the fewer its
+/// bytes.
 #[derive(Drop)]
 #[derive_where(PartialEq, Eq, PartialOrd, Ord)]
 pub struct TypeDefCompact<T: Form = MetaForm> {
@@ -407,7 +525,19 @@ impl<T: Form> TypeDefCompact<T> {
     }
 }
 
-/// A sequence of bits, kept in numbers of one type and in an order.
+impl<T: Form> TryClone for TypeDefCompact<T> {
+    fn try_clone(&self, alloc: Global) -> Result<TypeDefCompact<T>, AllocError> {
+        Ok(TypeDefCompact {
+            type_param: T::copy_type(alloc, &self.type_param)?,
+        })
+    }
+}
+
+/// A sequence of bits, as `BitVec<u8, Lsb0>` of the crate `bitvec` is.
+///
+/// The bits are packed into numbers of the store type, such as `u8`. The order type says which bit
+/// of a number comes first: by convention a composite whose path ends in `Lsb0` (the lowest) or
+/// `Msb0` (the highest).
 #[derive(Drop)]
 #[derive_where(PartialEq, Eq, PartialOrd, Ord)]
 pub struct TypeDefBitSequence<T: Form = MetaForm> {
@@ -439,7 +569,8 @@ impl TypeDefBitSequence<PortableForm> {
         bit_store_type: UntrackedSymbol<TypeId>,
         bit_order_type: UntrackedSymbol<TypeId>,
     ) -> TypeDefBitSequence<PortableForm>
-        ensures { result ≡ record { bit_store_type = bit_store_type; bit_order_type = bit_order_type } }
+        ensures { result
+            ≡ record { bit_store_type = bit_store_type; bit_order_type = bit_order_type } }
     {
         TypeDefBitSequence {
             bit_store_type,
@@ -448,10 +579,68 @@ impl TypeDefBitSequence<PortableForm> {
     }
 }
 
+impl<T: Form> TryClone for TypeDefBitSequence<T> {
+    fn try_clone(&self, alloc: Global) -> Result<TypeDefBitSequence<T>, AllocError> {
+        Ok(TypeDefBitSequence {
+            bit_store_type: T::copy_type(alloc, &self.bit_store_type)?,
+            bit_order_type: T::copy_type(alloc, &self.bit_order_type)?,
+        })
+    }
+}
+
+/// Values by keys: each key of one type has a value of another type.
+///
+/// The crate `scale-info` has no such definition, and describes a map such as `BTreeMap<K, V>` as a
+/// composite.
+#[derive(Drop)]
+#[derive_where(PartialEq, Eq, PartialOrd, Ord)]
+pub struct TypeDefMap<T: Form = MetaForm> {
+    /// The keys' type.
+    pub key: T::Ty,
+    /// The values' type.
+    pub value: T::Ty,
+}
+
+impl<T: Form> TypeDefMap<T> {
+    /// The map from keys of the first type to values of the second.
+    pub fn new(key: T::Ty, value: T::Ty) -> TypeDefMap<T>
+        ensures { result ≡ record { key = key; value = value } }
+    {
+        TypeDefMap { key, value }
+    }
+
+    /// The keys' type.
+    pub fn key(&self) -> &T::Ty
+        ensures { result.now ≡ self.now.key }
+    {
+        &self.key
+    }
+
+    /// The values' type.
+    pub fn value(&self) -> &T::Ty
+        ensures { result.now ≡ self.now.value }
+    {
+        &self.value
+    }
+}
+
+impl<T: Form> TryClone for TypeDefMap<T> {
+    fn try_clone(&self, alloc: Global) -> Result<TypeDefMap<T>, AllocError> {
+        Ok(TypeDefMap {
+            key: T::copy_type(alloc, &self.key)?,
+            value: T::copy_type(alloc, &self.value)?,
+        })
+    }
+}
+
 /// A portable description with its id in a table.
 #[derive(Drop, PartialEq, Eq)]
 pub struct PortableType {
-    /// The id; in a table that this library makes, the place of the entry.
+    /// The id as it was read or given. In a table that this library makes it is the index of the
+    /// entry.
+    ///
+    /// In a table that was read it may be any number: a reference goes by the index of the entry,
+    /// so don't look an entry up by this field.
     pub id: u32,
     /// The description.
     pub ty: Description<PortableForm>,
@@ -465,7 +654,7 @@ impl PortableType {
         PortableType { id, ty }
     }
 
-    /// The id.
+    /// The id as it was read or given; see the field for what it is not.
     pub fn id(&self) -> u32
         ensures { result ≡ self.now.id }
     {
@@ -477,5 +666,14 @@ impl PortableType {
         ensures { result.now ≡ self.now.ty }
     {
         &self.ty
+    }
+}
+
+impl TryClone for PortableType {
+    fn try_clone(&self, alloc: Global) -> Result<PortableType, AllocError> {
+        Ok(PortableType {
+            id: self.id,
+            ty: self.ty.try_clone(alloc)?,
+        })
     }
 }

@@ -1,4 +1,5 @@
-//! The program `type_table`: reads a table of descriptions of types, and writes it again.
+//! The program `type_table`: reads a table of descriptions of types from the standard input, and
+//! writes it again (`check`) or its JSON text (`json`) to the standard output.
 #![tactic(auto)]
 
 use scale_info_collections::text::Text;
@@ -6,27 +7,34 @@ use std::io::{ErrorKind, Write};
 use std::process::ExitCode;
 use std::{env, io};
 
-/// The words after the program's name.
-fn words_of(rt: &HostRuntime) -> io::Result<Vec<Text>> {
-    let mut words = Vec::new(rt.alloc());
-    for word in env::args(rt)?.skip(1) {
-        words.push(Text::from(word))?;
+/// The arguments after the program's name.
+fn arguments_of(rt: &HostRuntime) -> io::Result<Vec<Text>> {
+    let mut arguments = Vec::new(rt.alloc());
+    for argument in env::args(rt)?.skip(1) {
+        arguments.push(Text::from(argument))?;
     }
-    Ok(words)
+    Ok(arguments)
 }
 
 fn main(rt: HostRuntime) -> ExitCode {
-    let words = match words_of(&rt) {
-        Ok(words) => words,
+    let arguments = match arguments_of(&rt) {
+        Ok(arguments) => arguments,
         Err(e) => {
             if e.kind() == ErrorKind::OutOfMemory {
                 let _ = rt.stderr().write_all(b"type_table: out of memory\n");
                 return ExitCode::FAILURE;
             }
+            // An argument that is not UTF-8: no command has one, so `run` prints the usage line.
             Vec::new(rt.alloc())
         }
     };
-    let (mut reader, mut output, mut faults) = (rt.stdin(), rt.stdout(), rt.stderr());
-    let status = type_table_run::run(rt.alloc(), &words, &mut reader, &mut output, &mut faults);
+    let (mut reader, mut output, mut errors) = (rt.stdin(), rt.stdout(), rt.stderr());
+    let status = type_table_run::run(
+        rt.alloc(),
+        &arguments,
+        &mut reader,
+        &mut output,
+        &mut errors,
+    );
     ExitCode::from(status)
 }

@@ -8,14 +8,14 @@ use Rattle.std.proofs.KnownBytes.{Appends-trans, Appends-kept, Consumes-trans, C
 -- n bytes more were read after the first f
 pub reads_more : (a b c : Option (List ℕ)) (xs ys : List ℕ) (f n m : ℕ) → m ≡ f + n → take f ys ≡ take f xs
     → Consumes a b (take f xs) → Consumes b c (take n (drop f ys)) → Consumes a c (take m ys)
-reads_more a b c xs ys f n m is front before read =
-    subst (Consumes a c) (sym (ap (λ k. take k ys) is ∙ take-add f n ys)) (Consumes-trans a b c _ _ (subst (Consumes a b) (sym front) before) read)
+reads_more a b c xs ys f n m is prefix before read =
+    subst (Consumes a c) (sym (ap (λ k. take k ys) is ∙ take-add f n ys)) (Consumes-trans a b c _ _ (subst (Consumes a b) (sym prefix) before) read)
 
 -- nothing more was read
 pub reads_none : (a b c : Option (List ℕ)) (xs ys : List ℕ) (f m : ℕ) → m ≡ f → take f ys ≡ take f xs
     → Consumes a b (take f xs) → Keeps b c → Consumes a c (take m ys)
-reads_none a b c xs ys f m is front before kept =
-    subst (Consumes a c) (ap (λ k. take k ys) (sym is)) (Consumes-kept a b c _ (subst (Consumes a b) (sym front) before) kept)
+reads_none a b c xs ys f m is prefix before kept =
+    subst (Consumes a c) (ap (λ k. take k ys) (sym is)) (Consumes-kept a b c _ (subst (Consumes a b) (sym prefix) before) kept)
 
 -- n bytes more were written, of those after the first f
 pub writes_more : (a b c : Option (List ℕ)) (xs : List ℕ) (f n m : ℕ) → m ≡ f + n

@@ -1,3 +1,3 @@
 pub mod Filled
-pub mod OneWord
-pub mod Tellings
+pub mod OneText
+pub mod Reports

@@ -1,4 +1,6 @@
 pub mod Commands
 pub mod Lines
 pub mod Tables
-pub mod Telling
+pub mod Reports
+pub mod Outputs
+pub mod Refusals

@@ -1,7 +1,7 @@
-//! Commands, and the words that name them.
-ghost use Rattle.std.specs.Prelude.{◌↔◌, IsSome};
+//! Commands, and the arguments that name them.
+ghost use Rattle.std.specs.Prelude.{◌≡◌, [], ◌∷◌, IfSome, IfNone};
 ghost use Rattle.std.specs.Bool.{Decides};
-ghost use Rattle.type_table_run.specs.Commands.{IsCheck, IsCommand};
+ghost use Rattle.type_table_run.specs.Commands.{Names, IsCommand};
 
 use scale_info_collections::text::Text;
 
@@ -10,24 +10,29 @@ use scale_info_collections::text::Text;
 pub enum Command {
     /// Read one table, and write its bytes again.
     Check,
+    /// Read one table, and write its JSON text and a line feed.
+    Json,
 }
 
-/// Whether the words are `check`, alone.
-fn is_check(words: &[Text]) -> bool
-    ensures { Decides result (IsCheck words.now) }
+/// Whether the arguments are this one, alone.
+fn is_alone(arguments: &[Text], argument: &str) -> bool
+    ensures { Decides result (arguments.now ≡ argument.now ∷ []) }
 {
-    match words {
-        [word] => word.as_str() == "check",
+    match arguments {
+        [only] => only.as_str() == argument,
         _ => false,
     }
 }
 
-/// The command that the words name; None where they name none.
-pub fn command_of(words: &[Text]) -> Option<Command>
-    ensures { IsSome result ↔ IsCommand words.now }
+/// The command that the arguments name; None where they name none.
+pub fn command_of(arguments: &[Text]) -> Option<Command>
+    ensures some { IfSome result (Names arguments.now) }
+    ensures none { IfNone result (IsCommand arguments.now → ⊥) }
 {
-    if is_check(words) {
+    if is_alone(arguments, "check") {
         Some(Command::Check)
+    } else if is_alone(arguments, "json") {
+        Some(Command::Json)
     } else {
         None
     }

@@ -2,7 +2,8 @@
 #![tactic(auto)]
 
 mod command;
-mod fault;
+mod error;
+mod output;
 mod program;
 mod reading;
 mod table;

@@ -1,121 +1,139 @@
 //! The program over any reader and any writers.
 ghost use Rattle.std.specs.Prelude.{◌≡◌, ◌≢◌, ◌≤◌, IfSome, IfErr, OnOk};
-ghost use Rattle.std.specs.Io.KnownBytes.{Appends, IsAtEnd, Keeps};
-ghost use Rattle.scale_info_codec.specs.Spelling.{NoFront};
-ghost use Rattle.scale_info.specs.PortableSpelling.{SpellsRegistry};
-ghost use Rattle.type_table_run.specs.Commands.{IsCommand};
-ghost use Rattle.type_table_run.specs.Lines.{usage_line, malformed_line, trailing_bytes_line, out_of_memory_line, input_failed_line, output_failed_line};
-ghost use Rattle.type_table_run.specs.Tables.{IsTable, HasTrailing};
-ghost use Rattle.type_table_run.specs.Telling.{AppendsFront, Told, Explains, Refuses};
+ghost use Rattle.std.specs.Io.KnownBytes.{IsAtEnd, Keeps};
+ghost use Rattle.scale_info_bytes.specs.Encodings.{HasNoPrefix};
+ghost use Rattle.scale_info_tables.specs.TableEncoding.{EncodesRegistry};
+ghost use Rattle.type_table_run.specs.Commands.{HasCommand, IsCommand};
+ghost use Rattle.type_table_run.specs.Lines.{usage_line, malformed_line, trailing_bytes_line};
+ghost use Rattle.type_table_run.specs.Lines.{out_of_memory_line, input_failed_line};
+ghost use Rattle.type_table_run.specs.Lines.{output_failed_line};
+ghost use Rattle.type_table_run.specs.Outputs.{Writes, WritesPrefix};
+ghost use Rattle.type_table_run.specs.Refusals.{Explains, Refuses};
+ghost use Rattle.type_table_run.specs.Tables.{HasTrailing};
+ghost use Rattle.type_table_run.specs.Reports.{AppendsPrefix, Reported};
 
 use crate::command::{Command, command_of};
-use crate::fault::Fault;
-use crate::reading::read_whole;
-use crate::table::check_table;
-use crate::writing::write_whole;
+use crate::error::RunError;
+use crate::output::output_of;
+use crate::reading::read_to_end;
+use crate::writing::write_all;
 use scale_info_collections::text::Text;
 use std::alloc::Global;
 use std::io::{Read, Write};
 
 const USAGE: &str = "usage: type_table check | prune ID .. | json\n";
 
-/// Reads the input whole, and writes it again where it is one table.
-fn check<R: Read, W: Write>(alloc: Global, reader: &mut R, output: &mut W) -> Result<(), Fault>
-    ensures ok { OnOk result (IfSome (R.remaining reader.old) (λ input.
-        IsTable input × Appends (W.contents output.old) (W.contents output.new) input)) }
+/// Reads the input whole, and writes what the command writes for it.
+///
+/// The output is made whole before anything of it is written.
+fn perform<R: Read, W: Write>(
+    alloc: Global,
+    command: &Command,
+    reader: &mut R,
+    output: &mut W,
+) -> Result<(), RunError>
+    ensures ok { OnOk result (IfSome (R.remaining reader.old)
+        (Writes command.now (W.contents output.old) (W.contents output.new))) }
     ensures end { OnOk result (IsAtEnd (R.remaining reader.new)) }
-    ensures err { IfErr result (Explains (R.remaining reader.old)
+    ensures err { IfErr result (Explains command.now (R.remaining reader.old)
         (W.contents output.old) (W.contents output.new)) }
 {
-    let input = read_whole(alloc, reader)?;
-    check_table(alloc, &input)?;
-    if write_whole(output, &input).is_err() {
-        return Err(Fault::Output);
+    let input = read_to_end(alloc, reader)?;
+    let bytes = output_of(alloc, command, input)?;
+    if write_all(output, &bytes).is_err() {
+        return Err(RunError::Output);
     }
     match output.flush() {
         Ok(()) => Ok(()),
-        Err(_) => Err(Fault::Output),
+        Err(_) => Err(RunError::Output),
     }
 }
 
-/// Writes a line to the writer for faults. Where that fails, nothing is done about it.
-fn tell<F: Write>(faults: &mut F, line: &str)
-    ensures { AppendsFront (F.contents faults.old) (F.contents faults.new) line.now }
+/// Writes a line to the writer for errors. A failure is ignored.
+fn report<F: Write>(errors: &mut F, line: &str)
+    ensures { AppendsPrefix (F.contents errors.old) (F.contents errors.new) line.now }
 {
-    let _ = write_whole(faults, line.as_bytes());
-    let _ = faults.flush();
+    let _ = write_all(errors, line.as_bytes());
+    let _ = errors.flush();
 }
 
-/// Runs the command that the words name, and answers the status.
+/// Runs the command that the arguments name, and returns the status.
 ///
-/// The words are looked at before anything is read and before memory is asked for. The one command is
-/// `check`: the input is read to its end, must be one table with nothing after it, and is written to
-/// the output again.
+/// The arguments are looked at before anything is read and before memory is asked for. The input
+/// is then read to its end, and must be one table with nothing after it. The commands:
 ///
-/// The status is 0 where that was done. It is 2 where the words name no command: then the usage line
-/// is written to `faults`. It is 1 where the command is refused: then one of these lines is written to
-/// `faults`, and nothing to the output.
+/// - `check`: the input is written to the output again.
+/// - `json`: the compact JSON text of the table and a line feed are written to the output.
 ///
-/// - `type_table: malformed`: no front of the input is a table.
-/// - `type_table: trailing bytes`: bytes stand behind the table.
-/// - `type_table: out of memory`: memory was refused.
-/// - `type_table: input failed`: a read failed, or 4294967296 reads didn't come to the end.
+/// The status is 0 if that was done. It is 2 if the arguments are not a command: then the usage line
+/// is written to `errors`. It is 1 if an error came up: then one of these lines is written to
+/// `errors`, and nothing to the output.
+///
+/// - `type_table: malformed`: no prefix of the input is a table.
+/// - `type_table: trailing bytes`: bytes come after the table.
+/// - `type_table: out of memory`: an allocation failed.
+/// - `type_table: input failed`: a read failed, or the input did not end within 4294967296 reads.
 /// - `type_table: output failed`: a write or a flush of the output failed. This line alone may come
-///   after a beginning of the output was written.
+///   after a prefix of the output was written.
 ///
-/// Each line ends with a line feed. Where it can't be written, the status is the same.
+/// Each line ends with a line feed. If it can't be written, the status is the same.
 pub fn run<R: Read, W: Write, F: Write>(
     alloc: Global,
-    words: &[Text],
+    arguments: &[Text],
     reader: &mut R,
     output: &mut W,
-    faults: &mut F,
+    errors: &mut F,
 ) -> u8
     ensures status { result ≤ 2 }
 
-    // Words that name no command: nothing is read, and nothing is written but the usage line.
-    ensures usage { result ≡ 2 → ¬ IsCommand words.now }
-    ensures command { result ≢ 2 → IsCommand words.now }
+    // Arguments that name no command: nothing is read, and nothing is written but the usage line.
+    ensures usage { result ≡ 2 → ¬ IsCommand arguments.now }
+    ensures command { result ≢ 2 → IsCommand arguments.now }
     ensures unread { result ≡ 2 → reader.new ≡ reader.old }
     ensures unwritten { result ≡ 2 → output.new ≡ output.old }
-    ensures usage_told { result ≡ 2
-        → AppendsFront (F.contents faults.old) (F.contents faults.new) usage_line }
+    ensures usage_reported { result ≡ 2
+        → AppendsPrefix (F.contents errors.old) (F.contents errors.new) usage_line }
 
-    // A command that was done: the input is one table, and the output grew by exactly the input.
+    // A command that was done: the output grew by exactly what the command writes for the input.
     ensures read { result ≡ 0 → IsAtEnd (R.remaining reader.new) }
-    ensures checked { result ≡ 0 → IfSome (R.remaining reader.old) (λ input.
-        IsTable input × Appends (W.contents output.old) (W.contents output.new) input) }
-    ensures untold { result ≡ 0 → faults.new ≡ faults.old }
+    ensures done { result ≡ 0 → HasCommand arguments.now (λ command. IfSome (R.remaining reader.old)
+        (Writes command (W.contents output.old) (W.contents output.new))) }
+    ensures unreported { result ≡ 0 → errors.new ≡ errors.old }
 
-    // A command that is refused tells one fault, and what it tells is so.
-    ensures refused { result ≡ 1 → Refuses (R.remaining reader.old)
-        (W.contents output.old) (W.contents output.new)
-        (F.contents faults.old) (F.contents faults.new) }
-    ensures malformed { Told (F.contents faults.old) (F.contents faults.new) malformed_line
-        → IfSome (R.remaining reader.old) (NoFront SpellsRegistry)
+    // A command that is refused reports one error, and what it reports is so.
+    ensures refused { result ≡ 1 → HasCommand arguments.now (λ command. Refuses command
+        (R.remaining reader.old) (W.contents output.old) (W.contents output.new)
+        (F.contents errors.old) (F.contents errors.new)) }
+    ensures malformed { Reported (F.contents errors.old) (F.contents errors.new)
+        malformed_line
+        → IfSome (R.remaining reader.old) (HasNoPrefix EncodesRegistry)
         × Keeps (W.contents output.old) (W.contents output.new) }
-    ensures trailing_bytes { Told (F.contents faults.old) (F.contents faults.new) trailing_bytes_line
+    ensures trailing_bytes { Reported (F.contents errors.old) (F.contents errors.new)
+        trailing_bytes_line
         → IfSome (R.remaining reader.old) HasTrailing
         × Keeps (W.contents output.old) (W.contents output.new) }
-    ensures out_of_memory { Told (F.contents faults.old) (F.contents faults.new) out_of_memory_line
+    ensures out_of_memory { Reported (F.contents errors.old) (F.contents errors.new)
+        out_of_memory_line
         → Keeps (W.contents output.old) (W.contents output.new) }
-    ensures input_failed { Told (F.contents faults.old) (F.contents faults.new) input_failed_line
+    ensures input_failed { Reported (F.contents errors.old) (F.contents errors.new)
+        input_failed_line
         → Keeps (W.contents output.old) (W.contents output.new) }
-    ensures output_failed { Told (F.contents faults.old) (F.contents faults.new) output_failed_line
-        → IfSome (R.remaining reader.old) (λ input.
-        IsTable input × AppendsFront (W.contents output.old) (W.contents output.new) input) }
+    ensures output_failed { Reported (F.contents errors.old) (F.contents errors.new)
+        output_failed_line
+        → HasCommand arguments.now (λ command. IfSome (R.remaining reader.old)
+        (WritesPrefix command (W.contents output.old) (W.contents output.new))) }
 {
-    let done = match command_of(words) {
-        Some(Command::Check) => check(alloc, reader, output),
+    let command = match command_of(arguments) {
+        Some(command) => command,
         None => {
-            tell(faults, USAGE);
+            report(errors, USAGE);
             return 2;
         }
     };
-    match done {
+    match perform(alloc, &command, reader, output) {
         Ok(()) => 0,
-        Err(fault) => {
-            tell(faults, fault.line());
+        Err(error) => {
+            report(errors, error.line());
             1
         }
     }

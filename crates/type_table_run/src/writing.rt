@@ -1,20 +1,22 @@
 //! Writing whole.
 ghost use Rattle.std.specs.Prelude.{OnOk};
 ghost use Rattle.std.specs.Io.KnownBytes.{Appends};
-ghost use Rattle.type_table_run.specs.Telling.{AppendsFront};
+ghost use Rattle.type_table_run.specs.Reports.{AppendsPrefix};
 
 use std::io;
 use std::io::{ErrorKind, Write};
 
 /// Writes the bytes, by as many writes as they take.
 ///
-/// A write that was interrupted is tried again. On an Err a front of the bytes was written, which may
-/// be empty.
+/// A write that was interrupted is tried again. On an Err a prefix of the bytes was written, which
+/// may be empty.
 ///
-/// Errors: that of a write that fails; `WriteZero`, where a write takes nothing.
-pub fn write_whole<W: Write>(writer: &mut W, bytes: &[u8]) -> io::Result<()>
+/// It is written out, since no clause of std's own call says which bytes were written before an error.
+///
+/// Errors: that of a write that fails; `WriteZero`, if a write takes nothing.
+pub fn write_all<W: Write>(writer: &mut W, bytes: &[u8]) -> io::Result<()>
     ensures ok { OnOk result (Appends (W.contents writer.old) (W.contents writer.new) bytes.now) }
-    ensures front { AppendsFront (W.contents writer.old) (W.contents writer.new) bytes.now }
+    ensures prefix { AppendsPrefix (W.contents writer.old) (W.contents writer.new) bytes.now }
 {
     let mut done = 0;
     for _ in 0..u64::MAX {

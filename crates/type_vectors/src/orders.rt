@@ -1,17 +1,19 @@
-//! The order of descriptions: field by field as declared, lists lexicographic, None before Some, kinds of
-//! definition as declared, texts by bytes.
+//! The orders of descriptions and of what they are made of.
+//!
+//! Fields are compared in the order of their declaration: lists lexicographically, None before
+//! Some, variants of an enum as declared, texts by their bytes. The values of each test ascend.
 use crate::parts::*;
 use scale_info::form::PortableForm;
 use scale_info::impls::Compact;
 use scale_info::{
-    Field, Path, Type, TypeDef, TypeDefArray, TypeDefBitSequence, TypeDefCompact, TypeDefComposite,
-    TypeDefPrimitive, TypeDefTuple, TypeDefVariant, TypeId,
+    TypeDef, TypeDefArray, TypeDefBitSequence, TypeDefCompact, TypeDefComposite, TypeDefPrimitive,
+    TypeDefTuple, TypeDefVariant, TypeId, Variant,
 };
 use std::alloc::Global;
 use std::process::Abort;
 use std::test::Fail;
 
-/// Wants each value above all before it, and equal to itself alone.
+/// Asserts that each value is greater than all before it, and equal to itself alone.
 fn ascends<T: Ord>(rt: &impl Abort, values: &[T]) {
     for i in 0..values.len() {
         for j in 0..values.len() {
@@ -24,116 +26,84 @@ fn ascends<T: Ord>(rt: &impl Abort, values: &[T]) {
 }
 
 #[test]
-fn fields(rt: HostRuntime) -> Result<(), Fail> {
-    let alloc = rt.alloc();
-    let mut all = Vec::new(alloc);
-    all.push(field(alloc, "-", 9, "z", &["z"])?)?;
-    all.push(field(alloc, "", 9, "z", &["z"])?)?;
-    all.push(field(alloc, "Z", 9, "z", &["z"])?)?;
-    all.push(field(alloc, "a", 0, "z", &["z"])?)?;
-    all.push(field(alloc, "a", 1, "-", &["z"])?)?;
-    all.push(field(alloc, "a", 1, "a", &[])?)?;
-    all.push(field(alloc, "a", 1, "a", &[""])?)?;
-    all.push(field(alloc, "a", 1, "a", &["", ""])?)?;
-    all.push(field(alloc, "a", 1, "a", &["a"])?)?;
-    all.push(field(alloc, "ab", 0, "-", &[])?)?;
-    ascends(&rt, &all);
-    Ok(())
-}
-
-#[test]
-fn variants(rt: HostRuntime) -> Result<(), Fail> {
-    let alloc = rt.alloc();
-    let mut all = Vec::new(alloc);
-    all.push(variant(alloc, "a", &[9], 9, &["z"])?)?;
-    all.push(variant(alloc, "b", &[], 9, &["z"])?)?;
-    all.push(variant(alloc, "b", &[0], 9, &["z"])?)?;
-    all.push(variant(alloc, "b", &[0, 0], 1, &["z"])?)?;
-    all.push(variant(alloc, "b", &[0, 0], 2, &[])?)?;
-    all.push(variant(alloc, "b", &[0, 0], 2, &["a"])?)?;
-    all.push(variant(alloc, "b", &[1], 0, &[])?)?;
-    ascends(&rt, &all);
-    Ok(())
-}
-
-#[test]
-fn parameters(rt: HostRuntime) -> Result<(), Fail> {
-    let alloc = rt.alloc();
-    let mut all = Vec::new(alloc);
-    all.push(parameter(alloc, "S", Some(9))?)?;
-    all.push(parameter(alloc, "T", None)?)?;
-    all.push(parameter(alloc, "T", Some(0))?)?;
-    all.push(parameter(alloc, "T", Some(1))?)?;
-    ascends(&rt, &all);
-    Ok(())
-}
-
-#[test]
-fn descriptions(rt: HostRuntime) -> Result<(), Fail> {
-    let alloc = rt.alloc();
-    let mut all = Vec::new(alloc);
-    all.push(described(alloc, &[], &["z"], sequence(9), &["z"])?)?;
-    all.push(described(alloc, &["p"], &[], sequence(9), &["z"])?)?;
-    all.push(described(alloc, &["p"], &["S"], sequence(1), &["z"])?)?;
-    all.push(described(alloc, &["p"], &["S"], sequence(2), &[])?)?;
-    all.push(described(alloc, &["p"], &["S"], sequence(2), &["d"])?)?;
-    all.push(described(alloc, &["p"], &["S", "T"], sequence(0), &[])?)?;
-    all.push(described(alloc, &["p", "q"], &[], sequence(0), &[])?)?;
-    ascends(&rt, &all);
-    Ok(())
-}
-
-#[test]
-fn paths(rt: HostRuntime) -> Result<(), Fail> {
-    let alloc = rt.alloc();
-    let mut all = Vec::new(alloc);
-    all.push(Path::<PortableForm>::empty(alloc))?;
-    all.push(Path::from_segments_unchecked(alloc, texts(alloc, &["a", "c"])?)?)?;
-    all.push(Path::from_segments_unchecked(alloc, texts(alloc, &["b"])?)?)?;
-    ascends(&rt, &all);
-    Ok(())
-}
-
-/// Composites and enums of no part, of one and of two.
-fn with_lists(alloc: Global, all: &mut Vec<TypeDef<PortableForm>>) -> Result<(), Fail> {
-    for count in 0..3 {
-        let mut fields: Vec<Field<PortableForm>> = Vec::new(alloc);
-        for place in 0..count {
-            fields.push(field(alloc, "-", place, "-", &[])?)?;
-        }
-        all.push(TypeDef::from(TypeDefComposite::from(fields)))?;
+fn fields_are_ordered_by_name_type_type_name_and_docs(rt: HostRuntime) -> Result<(), Fail> {
+    let rows: [(Option<&str>, u32, Option<&str>, &[&str]); 10] = [
+        (None, 9, Some("z"), &["z"]),
+        (Some(""), 9, Some("z"), &["z"]),
+        (Some("Z"), 9, Some("z"), &["z"]),
+        (Some("a"), 0, Some("z"), &["z"]),
+        (Some("a"), 1, None, &["z"]),
+        (Some("a"), 1, Some("a"), &[]),
+        (Some("a"), 1, Some("a"), &[""]),
+        (Some("a"), 1, Some("a"), &["", ""]),
+        (Some("a"), 1, Some("a"), &["a"]),
+        (Some("ab"), 0, None, &[]),
+    ];
+    let mut all = Vec::new(rt.alloc());
+    for (name, ty, type_name, docs) in rows {
+        all.push(field(rt.alloc(), name, ty, type_name, docs)?)?;
     }
-    for count in 0..3 {
-        let mut cases = Vec::new(alloc);
-        for place in 0..count {
-            cases.push(variant(alloc, "V", &[place], 0, &[])?)?;
-        }
-        all.push(TypeDef::from(TypeDefVariant::from(cases)))?;
-    }
+    ascends(&rt, &all);
     Ok(())
 }
 
 #[test]
-fn definitions(rt: HostRuntime) -> Result<(), Fail> {
-    let alloc = rt.alloc();
-    let mut all: Vec<TypeDef<PortableForm>> = Vec::new(alloc);
-    with_lists(alloc, &mut all)?;
-    all.push(sequence(0))?;
-    all.push(sequence(1))?;
-    all.push(TypeDef::from(TypeDefArray::new(0, id(1))))?;
-    all.push(TypeDef::from(TypeDefArray::new(1, id(0))))?;
-    all.push(TypeDef::from(TypeDefArray::new(1, id(1))))?;
-    all.push(TypeDef::from(TypeDefTuple::new_portable(alloc, Vec::new(alloc))?))?;
-    all.push(TypeDef::from(TypeDefTuple::new_portable(alloc, vec![in alloc; id(0), id(0)]?)?))?;
-    all.push(TypeDef::from(TypeDefTuple::new_portable(alloc, vec![in alloc; id(1)]?)?))?;
-    for primitive in PRIMITIVES {
-        all.push(TypeDef::from(primitive))?;
+fn variants_are_ordered_by_name_fields_index_and_docs(rt: HostRuntime) -> Result<(), Fail> {
+    let rows: [(&str, &[u32], u8, &[&str]); 7] = [
+        ("a", &[9], 9, &["z"]),
+        ("b", &[], 9, &["z"]),
+        ("b", &[0], 9, &["z"]),
+        ("b", &[0, 0], 1, &["z"]),
+        ("b", &[0, 0], 2, &[]),
+        ("b", &[0, 0], 2, &["a"]),
+        ("b", &[1], 0, &[]),
+    ];
+    let mut all = Vec::new(rt.alloc());
+    for (name, fields, index, docs) in rows {
+        all.push(variant(rt.alloc(), name, fields, index, docs)?)?;
     }
-    all.push(TypeDef::from(TypeDefCompact::new(id(0))))?;
-    all.push(TypeDef::from(TypeDefCompact::new(id(1))))?;
-    all.push(TypeDef::from(TypeDefBitSequence::new_portable(id(0), id(1))))?;
-    all.push(TypeDef::from(TypeDefBitSequence::new_portable(id(1), id(0))))?;
-    all.push(TypeDef::from(TypeDefBitSequence::new_portable(id(1), id(1))))?;
+    ascends(&rt, &all);
+    Ok(())
+}
+
+#[test]
+fn parameters_are_ordered_by_name_and_type(rt: HostRuntime) -> Result<(), Fail> {
+    let mut all = Vec::new(rt.alloc());
+    for (name, ty) in [("S", Some(9)), ("T", None), ("T", Some(0)), ("T", Some(1))] {
+        all.push(parameter(rt.alloc(), name, ty)?)?;
+    }
+    ascends(&rt, &all);
+    Ok(())
+}
+
+#[test]
+fn descriptions_are_ordered_by_path_parameters_definition_and_docs(
+    rt: HostRuntime,
+) -> Result<(), Fail> {
+    let rows: [(&[&str], &[&str], u32, &[&str]); 7] = [
+        (&[], &["z"], 9, &["z"]),
+        (&["p"], &[], 9, &["z"]),
+        (&["p"], &["S"], 1, &["z"]),
+        (&["p"], &["S"], 2, &[]),
+        (&["p"], &["S"], 2, &["d"]),
+        (&["p"], &["S", "T"], 0, &[]),
+        (&["p", "q"], &[], 0, &[]),
+    ];
+    let mut all = Vec::new(rt.alloc());
+    for (path, params, ty, docs) in rows {
+        all.push(description(rt.alloc(), path, params, sequence(ty), docs)?)?;
+    }
+    ascends(&rt, &all);
+    Ok(())
+}
+
+#[test]
+fn paths_are_ordered_by_their_segments(rt: HostRuntime) -> Result<(), Fail> {
+    let rows: [&[&str]; 4] = [&[], &["a", "c"], &["b"], &["b", ""]];
+    let mut all = Vec::new(rt.alloc());
+    for segments in rows {
+        all.push(path(rt.alloc(), segments)?)?;
+    }
     ascends(&rt, &all);
     Ok(())
 }
@@ -157,31 +127,104 @@ const PRIMITIVES: [TypeDefPrimitive; 15] = [
     TypeDefPrimitive::I256,
 ];
 
-#[test]
-fn identities(rt: HostRuntime) -> Result<(), Fail> {
-    let alloc = rt.alloc();
-    let small = TypeId::new("a", Vec::new(alloc), Vec::new(alloc));
+/// One variant for each of these types.
+fn variants(alloc: Global, types: &[u32]) -> Result<Vec<Variant<PortableForm>>, Fail> {
     let mut all = Vec::new(alloc);
-    all.push(TypeId::new("Vec", Vec::new(alloc), Vec::new(alloc)))?;
-    all.push(TypeId::new("array", vec![in alloc; 4]?, Vec::new(alloc)))?;
-    all.push(TypeId::new("array", vec![in alloc; 4]?, vec![in alloc; small]?))?;
-    all.push(TypeId::new("array", vec![in alloc; 4, 0]?, Vec::new(alloc)))?;
-    all.push(TypeId::new("array", vec![in alloc; 5]?, Vec::new(alloc)))?;
+    for ty in types {
+        all.push(variant(alloc, "V", &[*ty], 0, &[])?)?;
+    }
+    Ok(all)
+}
+
+/// The tuple of these types.
+fn tuple(alloc: Global, types: &[u32]) -> Result<TypeDef<PortableForm>, Fail> {
+    let mut members = Vec::new(alloc);
+    for ty in types {
+        members.push(id(*ty))?;
+    }
+    Ok(TypeDef::from(TypeDefTuple::new_portable(alloc, members)?))
+}
+
+/// How many definitions `definition` has.
+const DEFINITIONS: u32 = 34;
+
+/// The definition with this number in ascending order.
+fn definition(alloc: Global, number: u32) -> Result<TypeDef<PortableForm>, Fail> {
+    match number {
+        0 => Ok(TypeDef::from(TypeDefComposite::from(unnamed_fields(alloc, &[])?))),
+        1 => Ok(TypeDef::from(TypeDefComposite::from(unnamed_fields(alloc, &[0])?))),
+        2 => Ok(TypeDef::from(TypeDefComposite::from(unnamed_fields(alloc, &[0, 1])?))),
+        3 => Ok(TypeDef::from(TypeDefVariant::from(variants(alloc, &[])?))),
+        4 => Ok(TypeDef::from(TypeDefVariant::from(variants(alloc, &[0])?))),
+        5 => Ok(TypeDef::from(TypeDefVariant::from(variants(alloc, &[0, 1])?))),
+        6 => Ok(sequence(0)),
+        7 => Ok(sequence(1)),
+        8 => Ok(TypeDef::from(TypeDefArray::new(0, id(1)))),
+        9 => Ok(TypeDef::from(TypeDefArray::new(1, id(0)))),
+        10 => Ok(TypeDef::from(TypeDefArray::new(1, id(1)))),
+        11 => tuple(alloc, &[]),
+        12 => tuple(alloc, &[0, 0]),
+        13 => tuple(alloc, &[1]),
+        _ => after_tuples(number),
+    }
+}
+
+/// The definitions that come after composites, variants, sequences, arrays and tuples.
+fn after_tuples(number: u32) -> Result<TypeDef<PortableForm>, Fail> {
+    match number {
+        14..=28 => Ok(TypeDef::from(PRIMITIVES[(number - 14) as usize])),
+        29 => Ok(TypeDef::from(TypeDefCompact::new(id(0)))),
+        30 => Ok(TypeDef::from(TypeDefCompact::new(id(1)))),
+        31 => Ok(TypeDef::from(TypeDefBitSequence::new_portable(id(0), id(1)))),
+        32 => Ok(TypeDef::from(TypeDefBitSequence::new_portable(id(1), id(0)))),
+        33 => Ok(TypeDef::from(TypeDefBitSequence::new_portable(id(1), id(1)))),
+        _ => Err(Fail::new("no definition has this number")),
+    }
+}
+
+#[test]
+fn definitions_are_ordered_by_kind_and_then_by_their_parts(rt: HostRuntime) -> Result<(), Fail> {
+    let mut all = Vec::new(rt.alloc());
+    for number in 0..DEFINITIONS {
+        all.push(definition(rt.alloc(), number)?)?;
+    }
+    ascends(&rt, &all);
+    Ok(())
+}
+
+/// A head, numbers and the heads of arguments.
+type IdentityRow = (&'static str, &'static [usize], &'static [&'static str]);
+
+/// The identity of these parts.
+fn identity(alloc: Global, row: IdentityRow) -> Result<TypeId, Fail> {
+    let (head, nums, heads) = row;
+    let mut args = Vec::new(alloc);
+    for arg in heads {
+        args.push(TypeId::new(arg, Vec::new(alloc), Vec::new(alloc)))?;
+    }
+    Ok(TypeId::new(head, Vec::from_slice(alloc, nums)?, args))
+}
+
+#[test]
+fn identities_are_ordered_by_head_numbers_and_arguments(rt: HostRuntime) -> Result<(), Fail> {
+    let rows: [IdentityRow; 6] = [
+        ("Vec", &[], &[]),
+        ("array", &[4], &[]),
+        ("array", &[4], &["a"]),
+        ("array", &[4], &["b"]),
+        ("array", &[4, 0], &[]),
+        ("array", &[5], &[]),
+    ];
+    let mut all = Vec::new(rt.alloc());
+    for row in rows {
+        all.push(identity(rt.alloc(), row)?)?;
+    }
     ascends(&rt, &all);
     Ok(())
 }
 
 #[test]
-fn symbols_and_compact_numbers(rt: HostRuntime) {
+fn symbols_and_compact_numbers_are_ordered_by_number(rt: HostRuntime) {
     ascends(&rt, &[id(0), id(1), id(4294967295)]);
     ascends(&rt, &[Compact(0u32), Compact(1), Compact(4294967295)]);
-}
-
-#[test]
-fn copies_are_equal(rt: HostRuntime) -> Result<(), Fail> {
-    use scale_info::try_clone::TryClone;
-    let alloc = rt.alloc();
-    let whole: Type<PortableForm> = described(alloc, &["p", "q"], &["S"], sequence(2), &["d"])?;
-    assert!(rt; whole.try_clone(alloc)? == whole);
-    Ok(())
 }

@@ -1,29 +1,30 @@
-//! Parts of portable descriptions, made in few words for the tests.
+//! Parts of portable descriptions, made in few words.
 use scale_info::form::PortableForm;
-use scale_info::interner::UntrackedSymbol;
-use scale_info::text::Text;
-use scale_info::{Field, Path, Type, TypeDef, TypeDefSequence, TypeId, TypeParameter, Variant};
+use scale_info::{
+    Field, Path, Text, Type, TypeDef, TypeDefSequence, TypeId, TypeParameter, UntrackedSymbol,
+    Variant,
+};
 use std::alloc::{AllocError, Global};
 
-/// The id of a place.
-pub fn id(place: u32) -> UntrackedSymbol<TypeId> {
-    UntrackedSymbol::from(place)
+/// The reference to the type with this id.
+pub fn id(number: u32) -> UntrackedSymbol<TypeId> {
+    UntrackedSymbol::from(number)
 }
 
-/// A text of the program as a text of its own.
+/// The text with these characters.
 pub fn text(alloc: Global, chars: &str) -> Result<Text, AllocError> {
     Ok(Text::from(String::from_str(alloc, chars)?))
 }
 
-/// A text, or none for `-`.
-pub fn optional(alloc: Global, chars: &str) -> Result<Option<Text>, AllocError> {
-    if chars == "-" {
-        return Ok(None);
+/// The text with these characters, if there are some.
+fn optional_text(alloc: Global, chars: Option<&str>) -> Result<Option<Text>, AllocError> {
+    match chars {
+        None => Ok(None),
+        Some(chars) => Ok(Some(text(alloc, chars)?)),
     }
-    Ok(Some(text(alloc, chars)?))
 }
 
-/// Texts in order.
+/// The texts with these characters, in order.
 pub fn texts(alloc: Global, all: &[&str]) -> Result<Vec<Text>, AllocError> {
     let mut made = Vec::new(alloc);
     for chars in all {
@@ -32,23 +33,40 @@ pub fn texts(alloc: Global, all: &[&str]) -> Result<Vec<Text>, AllocError> {
     Ok(made)
 }
 
-/// A field; `-` stands for a name or a type name that isn't there.
+/// The path with these segments.
+pub fn path(alloc: Global, segments: &[&str]) -> Result<Path<PortableForm>, AllocError> {
+    Path::from_segments_unchecked(alloc, texts(alloc, segments)?)
+}
+
+/// The field with these parts.
 pub fn field(
     alloc: Global,
-    name: &str,
+    name: Option<&str>,
     ty: u32,
-    type_name: &str,
+    type_name: Option<&str>,
     docs: &[&str],
 ) -> Result<Field<PortableForm>, AllocError> {
     Ok(Field::new(
-        optional(alloc, name)?,
+        optional_text(alloc, name)?,
         id(ty),
-        optional(alloc, type_name)?,
+        optional_text(alloc, type_name)?,
         texts(alloc, docs)?,
     ))
 }
 
-/// A case with one unnamed field for each of these types.
+/// One field for each of these types, without name, type name and docs.
+pub fn unnamed_fields(
+    alloc: Global,
+    types: &[u32],
+) -> Result<Vec<Field<PortableForm>>, AllocError> {
+    let mut made = Vec::new(alloc);
+    for ty in types {
+        made.push(Field::new(None, id(*ty), None, Vec::new(alloc)))?;
+    }
+    Ok(made)
+}
+
+/// The variant with one unnamed field for each of these types.
 pub fn variant(
     alloc: Global,
     name: &str,
@@ -56,14 +74,15 @@ pub fn variant(
     index: u8,
     docs: &[&str],
 ) -> Result<Variant<PortableForm>, AllocError> {
-    let mut made = Vec::new(alloc);
-    for ty in fields {
-        made.push(field(alloc, "-", *ty, "-", &[])?)?;
-    }
-    Ok(Variant::new(text(alloc, name)?, made, index, texts(alloc, docs)?))
+    Ok(Variant::new(
+        text(alloc, name)?,
+        unnamed_fields(alloc, fields)?,
+        index,
+        texts(alloc, docs)?,
+    ))
 }
 
-/// A parameter that stands for a type, or is skipped.
+/// The parameter that stands for a type, or is skipped.
 pub fn parameter(
     alloc: Global,
     name: &str,
@@ -71,28 +90,28 @@ pub fn parameter(
 ) -> Result<TypeParameter<PortableForm>, AllocError> {
     let ty = match ty {
         None => None,
-        Some(place) => Some(id(place)),
+        Some(number) => Some(id(number)),
     };
     Ok(TypeParameter::new_portable(text(alloc, name)?, ty))
 }
 
-/// A sequence of a type, as a definition.
+/// A sequence of the type with this id.
 pub fn sequence(ty: u32) -> TypeDef<PortableForm> {
     TypeDef::from(TypeDefSequence::new(id(ty)))
 }
 
-/// A description with one parameter for each name.
-pub fn described(
+/// The description with one skipped parameter for each of these names.
+pub fn description(
     alloc: Global,
-    path: &[&str],
+    segments: &[&str],
     params: &[&str],
-    def: TypeDef<PortableForm>,
+    type_def: TypeDef<PortableForm>,
     docs: &[&str],
 ) -> Result<Type<PortableForm>, AllocError> {
     let mut made = Vec::new(alloc);
     for name in params {
         made.push(parameter(alloc, name, None)?)?;
     }
-    let path = Path::from_segments_unchecked(alloc, texts(alloc, path)?)?;
-    Type::new(alloc, path, made, def, texts(alloc, docs)?)
+    let path = path(alloc, segments)?;
+    Type::new(alloc, path, made, type_def, texts(alloc, docs)?)
 }

@@ -1,7 +1,8 @@
 //! The program over readers and writers in memory: statuses, lines and output.
-use crate::streams::{HaltingReader, HaltingWriter};
-use crate::tables::*;
-use scale_info_collections::text::Text;
+use crate::asserts::{holds, is};
+use crate::parts::texts;
+use crate::rows::{MALFORMED, TABLES, rows};
+use crate::streams::{HaltingReader, HaltingWriter, InterruptedReader};
 use std::alloc::Global;
 use std::io::{Read, Write};
 use std::process::Abort;
@@ -9,63 +10,82 @@ use std::test::Fail;
 
 const USAGE: &str = "usage: type_table check | prune ID .. | json\n";
 
-const OUTPUT_FAILED: &str = "type_table: output failed\n";
+/// The encoding of the table of `Vec<u32>`.
+const VEC_U32: [u8; 13] = [8, 0, 0, 0, 2, 4, 0, 4, 0, 0, 5, 5, 0];
 
-/// The words as texts.
-fn texts(alloc: Global, words: &[&str]) -> Result<Vec<Text>, Fail> {
-    let mut texts = Vec::new(alloc);
-    for word in words {
-        texts.push(Text::from(String::from_str(alloc, word)?))?;
-    }
-    Ok(texts)
-}
+/// What `json` writes for the table of `Vec<u32>`.
+const VEC_U32_JSON: &str = "{\"types\":[{\"id\":0,\"type\":{\"def\":{\"sequence\":{\"type\":1}}}},\
+    {\"id\":1,\"type\":{\"def\":{\"primitive\":\"u32\"}}}]}\n";
 
-/// Runs `check`, and answers the status and what was written for faults.
-fn check<R: Read, W: Write>(
+/// Runs a command of one argument, and returns the status and the lines of errors.
+fn run_command<R: Read, W: Write>(
     alloc: Global,
+    argument: &str,
     reader: &mut R,
     output: &mut W,
 ) -> Result<(u8, String), Fail> {
-    let words = texts(alloc, &["check"])?;
-    let mut faults = Vec::new(alloc);
-    let status = type_table_run::run(alloc, &words, reader, output, &mut faults);
-    Ok((status, String::from_utf8(faults)?))
+    let arguments = texts(alloc, &[argument])?;
+    let mut errors = Vec::new(alloc);
+    let status = type_table_run::run(alloc, &arguments, reader, output, &mut errors);
+    Ok((status, String::from_utf8(errors)?))
 }
 
-/// Wants that `check` writes the input again, with status 0 and no line.
+/// Asserts that `check` writes the input again, with status 0 and no line.
 fn comes_back<R: Read>(
     rt: &impl Abort,
     alloc: Global,
+    name: &str,
     reader: &mut R,
     input: &[u8],
 ) -> Result<(), Fail> {
     let mut output = Vec::new(alloc);
-    let (status, faults) = check(alloc, reader, &mut output)?;
-    assert_eq!(rt; status, 0, "at {input:?}: {faults}");
-    assert_eq!(rt; faults.as_str(), "");
-    assert_eq!(rt; output.as_slice(), input);
+    let (status, line) = run_command(alloc, "check", reader, &mut output)?;
+    is(rt, name, (status, line.as_str()), (0, ""));
+    holds(rt, name, output.as_slice() == input);
     Ok(())
 }
 
-/// Wants that `check` ends with status 1 and this line, and writes nothing.
-fn is_refused<R: Read>(
+/// Asserts that `check` ends with status 1 and this line, and writes nothing.
+fn is_reported<R: Read>(
     rt: &impl Abort,
     alloc: Global,
+    name: &str,
     reader: &mut R,
-    line: &str,
+    wanted: &str,
 ) -> Result<(), Fail> {
     let mut output = Vec::new(alloc);
-    let (status, faults) = check(alloc, reader, &mut output)?;
-    assert_eq!(rt; status, 1);
-    assert_eq!(rt; faults.as_str(), line);
-    assert!(rt; output.is_empty());
+    let (status, line) = run_command(alloc, "check", reader, &mut output)?;
+    is(
+        rt,
+        name,
+        (status, line.as_str(), output.len()),
+        (1, wanted, 0),
+    );
     Ok(())
 }
 
-/// A table of 30000 numbers, longer than two pieces of 64 KiB.
+#[test]
+fn check_writes_each_table_again(rt: HostRuntime) -> Result<(), Fail> {
+    for row in rows(rt.alloc(), TABLES)? {
+        let mut reader = row.bytes.as_slice();
+        comes_back(&rt, rt.alloc(), row.name, &mut reader, &row.bytes)?;
+        holds(&rt, row.name, reader.is_empty());
+    }
+    Ok(())
+}
+
+#[test]
+fn reads_may_be_short_and_interrupted(rt: HostRuntime) -> Result<(), Fail> {
+    for row in rows(rt.alloc(), TABLES)? {
+        let mut reader = HaltingReader::ending(&row.bytes, 1);
+        comes_back(&rt, rt.alloc(), row.name, &mut reader, &row.bytes)?;
+    }
+    Ok(())
+}
+
+/// A table of 30000 numbers, whose encoding is longer than two buffers of 64 KiB.
 fn large_table(alloc: Global) -> Result<Vec<u8>, Fail> {
-    let mut bytes = Vec::new(alloc);
-    bytes.extend_from_slice(&[0xc2, 0xd4, 0x01, 0x00])?;
+    let mut bytes = vec![in alloc; 0xc2, 0xd4, 0x01, 0x00]?;
     for _ in 0..30000 {
         bytes.extend_from_slice(&[0x00, 0x00, 0x00, 0x05, 0x05, 0x00])?;
     }
@@ -73,158 +93,114 @@ fn large_table(alloc: Global) -> Result<Vec<u8>, Fail> {
 }
 
 #[test]
-fn tables_come_back(rt: HostRuntime) -> Result<(), Fail> {
-    let alloc = rt.alloc();
-    let large = large_table(alloc)?;
-    let tables: [&[u8]; 6] = [&EMPTY, &U32, &VEC_U32, &RECURSIVE, &OUTSIDE, &large];
-    for input in tables {
-        let mut reader = input;
-        comes_back(&rt, alloc, &mut reader, input)?;
-        assert!(rt; reader.is_empty());
-        comes_back(&rt, alloc, &mut HaltingReader::ending(input, 1), input)?;
-        comes_back(&rt, alloc, &mut HaltingReader::ending(input, 40000), input)?;
+fn a_table_may_be_longer_than_a_buffer(rt: HostRuntime) -> Result<(), Fail> {
+    let large = large_table(rt.alloc())?;
+    comes_back(&rt, rt.alloc(), "whole", &mut large.as_slice(), &large)?;
+    for piece in [1, 40000] {
+        let mut reader = HaltingReader::ending(&large, piece);
+        comes_back(&rt, rt.alloc(), "in pieces", &mut reader, &large)?;
     }
     Ok(())
 }
 
-/// Wants that `check` gives these tables back and refuses each proper front of them.
-fn are_texts(rt: &impl Abort, alloc: Global, tables: &[&[u8]]) -> Result<(), Fail> {
-    for input in tables {
-        let mut reader = *input;
-        comes_back(rt, alloc, &mut reader, input)?;
-        for end in 0..input.len() {
-            let mut reader = &input[..end];
-            is_refused(rt, alloc, &mut reader, "type_table: malformed\n")?;
+#[test]
+fn proper_prefixes_of_tables_are_reported_as_malformed(rt: HostRuntime) -> Result<(), Fail> {
+    for row in rows(rt.alloc(), TABLES)? {
+        for end in 0..row.bytes.len() {
+            let mut reader = &row.bytes[..end];
+            is_reported(
+                &rt,
+                rt.alloc(),
+                row.name,
+                &mut reader,
+                "type_table: malformed\n",
+            )?;
         }
     }
     Ok(())
 }
 
 #[test]
-fn tables_come_back_and_no_front_of_them_does(rt: HostRuntime) -> Result<(), Fail> {
-    let alloc = rt.alloc();
-    are_texts(
-        &rt,
-        alloc,
-        &[&VEC_U32, &TUPLE, &TUPLE_ALONE, &BITS, &RECURSIVE, &OPTION],
-    )?;
-    are_texts(
-        &rt,
-        alloc,
-        &[
-            &ONE_MEMBER,
-            &COMPACT,
-            &OUTSIDE,
-            &NO_VARIANTS,
-            &SKIPPED,
-            &RANGE,
-        ],
-    )?;
-    are_texts(
-        &rt,
-        alloc,
-        &[
-            &DURATION,
-            &DOCS,
-            &DOCS_ALONE,
-            &PRIMITIVES,
-            &ESCAPES,
-            &OTHER_IDS,
-        ],
-    )
-}
-
-/// Wants that `check` refuses these inputs as no tables.
-fn are_malformed(rt: &impl Abort, alloc: Global, inputs: &[&[u8]]) -> Result<(), Fail> {
-    for input in inputs {
-        let mut reader = *input;
-        is_refused(rt, alloc, &mut reader, "type_table: malformed\n")?;
+fn malformed_inputs_are_reported(rt: HostRuntime) -> Result<(), Fail> {
+    for row in rows(rt.alloc(), MALFORMED)? {
+        let mut reader = row.bytes.as_slice();
+        is_reported(
+            &rt,
+            rt.alloc(),
+            row.name,
+            &mut reader,
+            "type_table: malformed\n",
+        )?;
     }
     Ok(())
 }
 
 #[test]
-fn malformed_tables_are_refused(rt: HostRuntime) -> Result<(), Fail> {
-    let alloc = rt.alloc();
-    are_malformed(
-        &rt,
-        alloc,
-        &[
-            &CUT,
-            &LONG_COUNT,
-            &COUNT_ALONE,
-            &GREATEST_COUNT,
-            &GREATEST_PATH,
-        ],
-    )?;
-    are_malformed(
-        &rt,
-        alloc,
-        &[&LONG_ID, &SMALL_IN_FIVE, &FIVE_OF_SEVEN, &NO_PRIMITIVE],
-    )?;
-    are_malformed(
-        &rt,
-        alloc,
-        &[&NO_DEFINITION, &NO_DEFINITION_EIGHT, &NO_OPTION, &NOT_UTF8],
-    )?;
-    are_malformed(
-        &rt,
-        alloc,
-        &[
-            &OVERLONG,
-            &SURROGATE,
-            &PAST_UNICODE,
-            &CUT_CHARACTER,
-            &CONTINUATION,
-        ],
-    )
-}
-
-#[test]
-fn bad_tables_are_refused(rt: HostRuntime) -> Result<(), Fail> {
-    let alloc = rt.alloc();
-    for end in 0..U32.len() {
-        let mut reader = &U32[..end];
-        is_refused(&rt, alloc, &mut reader, "type_table: malformed\n")?;
-    }
-    let trailing = [0x04, 0x00, 0x00, 0x00, 0x05, 0x05, 0x00, 0xff];
-    let mut reader = trailing.as_slice();
-    is_refused(&rt, alloc, &mut reader, "type_table: trailing bytes\n")
-}
-
-#[test]
-fn failed_reads_are_told(rt: HostRuntime) -> Result<(), Fail> {
-    let alloc = rt.alloc();
-    for end in 0..U32.len() + 1 {
-        let mut reader = HaltingReader::failing(&U32[..end]);
-        is_refused(&rt, alloc, &mut reader, "type_table: input failed\n")?;
+fn bytes_after_a_table_are_reported(rt: HostRuntime) -> Result<(), Fail> {
+    for row in rows(rt.alloc(), TABLES)? {
+        let mut input = row.bytes;
+        input.push(0xff)?;
+        let mut reader = input.as_slice();
+        is_reported(
+            &rt,
+            rt.alloc(),
+            row.name,
+            &mut reader,
+            "type_table: trailing bytes\n",
+        )?;
     }
     Ok(())
 }
 
 #[test]
-fn failed_writes_are_told(rt: HostRuntime) -> Result<(), Fail> {
-    let alloc = rt.alloc();
+fn a_failed_read_is_reported(rt: HostRuntime) -> Result<(), Fail> {
+    for end in 0..VEC_U32.len() + 1 {
+        let mut reader = HaltingReader::failing(&VEC_U32[..end]);
+        is_reported(
+            &rt,
+            rt.alloc(),
+            "a failed read",
+            &mut reader,
+            "type_table: input failed\n",
+        )?;
+    }
+    Ok(())
+}
+
+#[test]
+fn a_failed_write_is_reported(rt: HostRuntime) -> Result<(), Fail> {
     // A writer that is just full fails at its flush.
     for room in 0..VEC_U32.len() + 1 {
-        let mut reader = VEC_U32.as_slice();
-        let mut output = HaltingWriter::new(alloc, room);
-        let (status, faults) = check(alloc, &mut reader, &mut output)?;
-        assert_eq!(rt; status, 1);
-        assert_eq!(rt; faults.as_str(), OUTPUT_FAILED);
-        assert_eq!(rt; output.taken.as_slice(), &VEC_U32[..room]);
+        let mut output = HaltingWriter::new(rt.alloc(), room);
+        let (status, line) = run_command(
+            rt.alloc(),
+            "check",
+            &mut VEC_U32.as_slice(),
+            &mut output,
+        )?;
+        is(
+            &rt,
+            "line",
+            (status, line.as_str()),
+            (1, "type_table: output failed\n"),
+        );
+        is(&rt, "output", output.taken.as_slice(), &VEC_U32[..room]);
     }
-    let mut reader = VEC_U32.as_slice();
-    let mut output = HaltingWriter::new(alloc, VEC_U32.len() + 1);
-    let (status, _) = check(alloc, &mut reader, &mut output)?;
-    assert_eq!(rt; status, 0);
-    assert_eq!(rt; output.taken.as_slice(), VEC_U32.as_slice());
     Ok(())
 }
 
 #[test]
-fn other_words_print_the_usage(rt: HostRuntime) -> Result<(), Fail> {
-    let alloc = rt.alloc();
+fn writes_may_be_short_and_interrupted(rt: HostRuntime) -> Result<(), Fail> {
+    let mut output = HaltingWriter::new(rt.alloc(), VEC_U32.len() + 1);
+    let (status, _) = run_command(rt.alloc(), "check", &mut VEC_U32.as_slice(), &mut output)?;
+    is(&rt, "status", status, 0);
+    is(&rt, "output", output.taken.as_slice(), VEC_U32.as_slice());
+    Ok(())
+}
+
+/// The reader fails when it is asked, and that would be reported with status 1.
+#[test]
+fn other_arguments_print_the_usage_and_nothing_is_read(rt: HostRuntime) -> Result<(), Fail> {
     let lists: [&[&str]; 10] = [
         &[],
         &[""],
@@ -235,33 +211,124 @@ fn other_words_print_the_usage(rt: HostRuntime) -> Result<(), Fail> {
         &["prune"],
         &["prune", "0"],
         &["prune", "x"],
-        &["json"],
+        &["json", "0"],
     ];
     for list in lists {
-        let words = texts(alloc, list)?;
-        let (mut reader, mut output) = (U32.as_slice(), Vec::new(alloc));
-        let mut faults = HaltingWriter::new(alloc, 100);
-        let status = type_table_run::run(alloc, &words, &mut reader, &mut output, &mut faults);
-        assert_eq!(rt; status, 2, "at {list:?}");
-        assert_eq!(rt; reader, U32.as_slice());
-        assert!(rt; output.is_empty());
-        assert_eq!(rt; faults.taken.as_slice(), USAGE.as_bytes());
+        let arguments = texts(rt.alloc(), list)?;
+        let (mut reader, mut output) = (HaltingReader::failing(&[]), Vec::new(rt.alloc()));
+        let mut errors = HaltingWriter::new(rt.alloc(), 100);
+        let status = type_table_run::run(
+            rt.alloc(),
+            &arguments,
+            &mut reader,
+            &mut output,
+            &mut errors,
+        );
+        is(&rt, "line", errors.taken.as_slice(), USAGE.as_bytes());
+        is(
+            &rt,
+            "status",
+            (status, output.len(), reader.calls()),
+            (2, 0, 0),
+        );
+    }
+    Ok(())
+}
+
+/// Runs the program with one argument over malformed input, and asserts that the first bytes of
+/// this line are all that a writer with so much room has got.
+fn is_cut(
+    rt: &impl Abort,
+    alloc: Global,
+    argument: &str,
+    room: usize,
+    line: &str,
+) -> Result<u8, Fail> {
+    let arguments = texts(alloc, &[argument])?;
+    let mut output = Vec::new(alloc);
+    let mut errors = HaltingWriter::new(alloc, room);
+    let mut reader: &[u8] = &[4];
+    let status = type_table_run::run(alloc, &arguments, &mut reader, &mut output, &mut errors);
+    is(
+        rt,
+        argument,
+        errors.taken.as_slice(),
+        &line.as_bytes()[..room.min(line.len())],
+    );
+    Ok(status)
+}
+
+#[test]
+fn a_line_that_cannot_be_written_changes_no_status(rt: HostRuntime) -> Result<(), Fail> {
+    for room in 0..3 {
+        let status = is_cut(&rt, rt.alloc(), "check", room, "type_table: malformed\n")?;
+        is(&rt, "malformed", status, 1);
+        let status = is_cut(&rt, rt.alloc(), "prune", room, USAGE)?;
+        is(&rt, "usage", status, 2);
+    }
+    Ok(())
+}
+
+/// This shows only that many interruptions do not end the reading. The limit of 4294967296 reads,
+/// past which the line is `input failed`, takes too long for a test.
+#[test]
+fn a_million_interrupted_reads_are_tried_again(rt: HostRuntime) -> Result<(), Fail> {
+    let mut reader = InterruptedReader { left: 1000000 };
+    is_reported(
+        &rt,
+        rt.alloc(),
+        "interrupted",
+        &mut reader,
+        "type_table: malformed\n",
+    )
+}
+
+#[test]
+fn json_writes_the_text_and_a_line_feed(rt: HostRuntime) -> Result<(), Fail> {
+    let mut output = Vec::new(rt.alloc());
+    let mut reader = HaltingReader::ending(&VEC_U32, 1);
+    let (status, line) = run_command(rt.alloc(), "json", &mut reader, &mut output)?;
+    is(&rt, "line", (status, line.as_str()), (0, ""));
+    is(&rt, "output", output.as_slice(), VEC_U32_JSON.as_bytes());
+    Ok(())
+}
+
+#[test]
+fn json_reports_malformed_inputs(rt: HostRuntime) -> Result<(), Fail> {
+    for row in rows(rt.alloc(), MALFORMED)? {
+        let (mut reader, mut output) = (row.bytes.as_slice(), Vec::new(rt.alloc()));
+        let (status, line) = run_command(rt.alloc(), "json", &mut reader, &mut output)?;
+        is(&rt, row.name, (status, output.len()), (1, 0));
+        is(&rt, row.name, line.as_str(), "type_table: malformed\n");
     }
     Ok(())
 }
 
 #[test]
-fn lines_that_cannot_be_written_change_no_status(rt: HostRuntime) -> Result<(), Fail> {
-    let alloc = rt.alloc();
-    let (check, other) = (texts(alloc, &["check"])?, texts(alloc, &["json"])?);
-    for room in 0..3 {
-        for (words, line, wanted) in [(&check, "type_table: malformed\n", 1), (&other, USAGE, 2)] {
-            let (mut reader, mut output) = ([0x04].as_slice(), Vec::new(alloc));
-            let mut faults = HaltingWriter::new(alloc, room);
-            let status = type_table_run::run(alloc, words, &mut reader, &mut output, &mut faults);
-            assert_eq!(rt; status, wanted);
-            assert_eq!(rt; faults.taken.as_slice(), &line.as_bytes()[..room]);
-        }
+fn json_reports_trailing_bytes(rt: HostRuntime) -> Result<(), Fail> {
+    let (mut reader, mut output) = ([0, 0].as_slice(), Vec::new(rt.alloc()));
+    let (status, line) = run_command(rt.alloc(), "json", &mut reader, &mut output)?;
+    is(&rt, "status", (status, output.len()), (1, 0));
+    is(&rt, "line", line.as_str(), "type_table: trailing bytes\n");
+    Ok(())
+}
+
+#[test]
+fn json_reports_failed_writes(rt: HostRuntime) -> Result<(), Fail> {
+    for room in 0..VEC_U32_JSON.len() + 1 {
+        let mut output = HaltingWriter::new(rt.alloc(), room);
+        let (status, line) = run_command(rt.alloc(), "json", &mut VEC_U32.as_slice(), &mut output)?;
+        is(
+            &rt,
+            "line",
+            (status, line.as_str()),
+            (1, "type_table: output failed\n"),
+        );
+        holds(
+            &rt,
+            "output",
+            output.taken.as_slice() == &VEC_U32_JSON.as_bytes()[..room],
+        );
     }
     Ok(())
 }

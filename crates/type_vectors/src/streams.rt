@@ -3,13 +3,14 @@ use std::alloc::Global;
 use std::io;
 use std::io::{ErrorKind, Read, Write};
 
-/// A reader whose every second read is interrupted.
+/// A reader that is interrupted before each read that it serves.
 #[derive(Drop)]
 pub struct HaltingReader<'a> {
     left: &'a [u8],
     piece: usize,
     fails: bool,
     is_interrupted: bool,
+    calls: u64,
 }
 
 impl<'a> HaltingReader<'a> {
@@ -20,6 +21,7 @@ impl<'a> HaltingReader<'a> {
             piece,
             fails: false,
             is_interrupted: false,
+            calls: 0,
         }
     }
 
@@ -30,12 +32,19 @@ impl<'a> HaltingReader<'a> {
             piece: 3,
             fails: true,
             is_interrupted: false,
+            calls: 0,
         }
+    }
+
+    /// How often it was asked.
+    pub fn calls(&self) -> u64 {
+        self.calls
     }
 }
 
 impl Read for HaltingReader<'_> {
     fn read(&mut self, buf: &mut [u8]) -> io::Result<usize> {
+        self.calls = self.calls.saturating_add(1);
         self.is_interrupted = !self.is_interrupted;
         if self.is_interrupted {
             return Err(io::Error::from(ErrorKind::Interrupted));
@@ -48,8 +57,25 @@ impl Read for HaltingReader<'_> {
     }
 }
 
-/// A writer that takes at most 3 bytes at a write. Every second write is interrupted, and writes and
-/// flushes fail once it is full.
+/// A reader that is interrupted so often, and then ends.
+#[derive(Drop)]
+pub struct InterruptedReader {
+    /// How many reads are still interrupted.
+    pub left: u32,
+}
+
+impl Read for InterruptedReader {
+    fn read(&mut self, _buf: &mut [u8]) -> io::Result<usize> {
+        if self.left == 0 {
+            return Ok(0);
+        }
+        self.left -= 1;
+        Err(io::Error::from(ErrorKind::Interrupted))
+    }
+}
+
+/// A writer that takes at most 3 bytes at a write. Every second write is interrupted, and writes
+/// and flushes fail once it is full.
 #[derive(Drop)]
 pub struct HaltingWriter {
     /// What was written.

@@ -6,6 +6,7 @@ ghost use Rattle.scale_info_types.specs.Iterators.{GivesAll};
 use super::fields::Field;
 use crate::form::{Form, MetaForm};
 use scale_info_collections::items::Items;
+use scale_info_collections::try_clone::TryClone;
 use std::alloc::{AllocError, Global};
 
 /// A composite: a struct with named fields, a tuple struct, or a unit struct.
@@ -19,14 +20,16 @@ pub struct TypeDefComposite<T: Form = MetaForm> {
 impl<T: Form> TypeDefComposite<T> {
     /// The composite of these fields, in order.
     ///
-    /// Errors: `AllocError`, where memory for the list is refused.
+    /// Errors: `AllocError`, if an allocation failed.
     pub fn new<I: IntoIterator<Item = Field<T>>>(
         alloc: Global,
         fields: I,
     ) -> Result<TypeDefComposite<T>, AllocError>
         requires can { (it : I.IntoIter) → I.into_iter_gives fields it → I.IntoIter.can_next it }
-        requires ends { (it : I.IntoIter) → I.into_iter_gives fields it → IsFinite (I.IntoIter.remaining it) }
-        ensures { IfOk result (λ d. GivesAll I.into_iter_gives I.IntoIter.next_gives fields d.fields) }
+        requires ends { (it : I.IntoIter) → I.into_iter_gives fields it
+            → IsFinite (I.IntoIter.remaining it) }
+        ensures { IfOk result
+            (λ d. GivesAll I.into_iter_gives I.IntoIter.next_gives fields d.fields) }
     {
         Ok(TypeDefComposite {
             fields: Items::from_iter(alloc, fields)?,
@@ -48,5 +51,13 @@ impl<T: Form> From<Vec<Field<T>>> for TypeDefComposite<T> {
         TypeDefComposite {
             fields: Items::from(fields),
         }
+    }
+}
+
+impl<T: Form> TryClone for TypeDefComposite<T> {
+    fn try_clone(&self, alloc: Global) -> Result<TypeDefComposite<T>, AllocError> {
+        Ok(TypeDefComposite {
+            fields: self.fields.try_clone(alloc)?,
+        })
     }
 }

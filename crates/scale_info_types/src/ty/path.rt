@@ -1,37 +1,42 @@
 //! Paths: where a type is declared, and its name.
-ghost use Rattle.std.specs.Prelude.{◌≡◌, ◌≢◌, ◌↔◌, ◌-◌, ℕ, List, [], Some, map, length, take, slice_get, IfOk, IfSome, IsNone, IsTrue};
+ghost use Rattle.std.specs.Prelude.{◌≡◌, ◌≢◌, ◌↔◌, ◌-◌, ℕ, List, [], Some, map, length, take};
+ghost use Rattle.std.specs.Prelude.{slice_get, IfOk, IfSome, IsNone, IsTrue};
 ghost use Rattle.std.specs.Iterator.{IsFinite};
 ghost use Rattle.std.specs.List.{All};
-ghost use Rattle.scale_info_types.specs.Identifiers.{IsIdentifier};
+ghost use Rattle.scale_info_identities.specs.Identifiers.{IsIdentifier};
 ghost use Rattle.scale_info_types.specs.Iterators.{GivesAll};
-ghost use Rattle.scale_info_types.specs.Paths.{AreDeclared, ArePathSegments, Held, IsFirstBadPlace, IsPieces, joined, replaced, text_pairs, texts};
+ghost use Rattle.scale_info_types.specs.TypePaths.{AreDeclared, ArePathSegments, StaticTexts};
+ghost use Rattle.scale_info_types.specs.TypePaths.{IsFirstInvalidIndex, IsPieces, joined, replaced};
+ghost use Rattle.scale_info_types.specs.TypePaths.{text_pairs, texts};
 ghost use Rattle.scale_info_types.specs.declared.ty.path.PathError.TheVariants.{Memory as memory};
 
-use crate::form::{Form, MetaForm, PortableForm};
-use crate::utils::is_rust_identifier;
+use crate::form::{Form, MetaForm, PortableForm, copy_strings};
 use scale_info_collections::items::Items;
-use scale_info_collections::mark::Mark;
+use scale_info_collections::marker::Marker;
+use scale_info_collections::try_clone::TryClone;
+use scale_info_identities::utils::is_rust_identifier;
 use std::alloc::{AllocError, AllocFailed, Global};
 use std::fmt;
 use thiserror::Error;
 
-/// Why no path could be made. It is displayed as the name of the case alone.
+/// Why no path could be made. It is displayed as the name of the variant alone.
 ///
 /// ```text
-/// Path::from_segments(alloc, ["Earth", "::world"]) == Err(PathError::InvalidIdentifier { segment: 1 })
+/// Path::from_segments(alloc, ["Earth", "::world"])
+///     == Err(PathError::InvalidIdentifier { segment: 1 })
 /// ```
 #[derive(Debug, Drop, PartialEq, Eq, Error)]
 pub enum PathError {
     /// There is no segment.
     #[error("MissingSegments")]
     MissingSegments,
-    /// A segment is no identifier of Rust.
+    /// A segment is not an identifier of Rust.
     #[error("InvalidIdentifier")]
     InvalidIdentifier {
-        /// The place of the first such segment, counted from 0.
+        /// The index of the first such segment.
         segment: usize,
     },
-    /// Memory was wanted and refused.
+    /// An allocation failed.
     #[error("Memory")]
     Memory,
 }
@@ -59,20 +64,22 @@ pub struct Path<T: Form = MetaForm> {
     /// The segments, in order.
     pub segments: Items<T::String>,
     #[derive_where(skip(EqHashOrd))]
-    form: Mark<T::Ty>,
+    form: Marker<T::Ty>,
 }
 
 impl<T: Form> Path<T> {
     /// The path of these segments, in order, whether or not they are identifiers.
     ///
-    /// Errors: `AllocError`, where memory for the list is refused.
+    /// Errors: `AllocError`, if an allocation failed.
     pub fn from_segments_unchecked<I: IntoIterator<Item = T::String>>(
         alloc: Global,
         segments: I,
     ) -> Result<Path<T>, AllocError>
         requires can { (it : I.IntoIter) → I.into_iter_gives segments it → I.IntoIter.can_next it }
-        requires ends { (it : I.IntoIter) → I.into_iter_gives segments it → IsFinite (I.IntoIter.remaining it) }
-        ensures { IfOk result (λ p. GivesAll I.into_iter_gives I.IntoIter.next_gives segments p.segments) }
+        requires ends { (it : I.IntoIter) → I.into_iter_gives segments it
+            → IsFinite (I.IntoIter.remaining it) }
+        ensures { IfOk result
+            (λ p. GivesAll I.into_iter_gives I.IntoIter.next_gives segments p.segments) }
     {
         Ok(Path::from(Items::from_iter(alloc, segments)?))
     }
@@ -100,13 +107,14 @@ impl<T: Form> Path<T> {
 
     /// A copy of the last segment, the type's name; `None` for a path without segments.
     ///
-    /// Errors: `AllocError`, where memory for the copy is wanted and refused.
+    /// Errors: `AllocError`, if an allocation failed.
     ///
     /// ```text
     /// Path::new(alloc, "Planet", "hello::world")?.ident(alloc) == Ok(Some("Planet"))
     /// ```
     pub fn ident(&self, alloc: Global) -> Result<Option<T::String>, AllocError>
-        ensures { IfOk result (λ name. name ≡ slice_get self.now.segments (length self.now.segments - 1)) }
+        ensures { IfOk result
+            (λ name. name ≡ slice_get self.now.segments (length self.now.segments - 1)) }
     {
         match self.segments.as_slice().last() {
             None => Ok(None),
@@ -114,7 +122,8 @@ impl<T: Form> Path<T> {
         }
     }
 
-    /// All segments but the last: the modules around the type. A path without segments has none. Takes no memory.
+    /// All segments but the last: the modules around the type. It is empty if the path is. Does not
+    /// allocate.
     ///
     /// ```text
     /// Path::new(alloc, "Planet", "hello::world")?.namespace() == ["hello", "world"]
@@ -133,11 +142,12 @@ impl<T: Form> Path<T> {
 impl Path<MetaForm> {
     /// The path of a type: the pieces of its module path around `::`, and then its name.
     ///
-    /// It takes what `module_path!` gives in the module of the type. The empty text has one piece, which is empty. The
-    /// Rust crate `scale-info` makes the same path, and panics where this answers an `Err`.
+    /// The module path is what `module_path!` returns in the module of the type. The empty string
+    /// has one piece, which is empty. The Rust crate `scale-info` makes the same path, and panics
+    /// where this returns an `Err`.
     ///
-    /// Errors: `InvalidIdentifier` with the first place whose segment is no identifier, `Memory` where memory for the
-    /// list is refused. It never answers `MissingSegments`.
+    /// Errors: `InvalidIdentifier` with the index of the first segment that is not an identifier;
+    /// `Memory`, if an allocation failed. Never `MissingSegments`.
     ///
     /// ```text
     /// Path::new(alloc, "Planet", "hello::world")  // hello, world, Planet
@@ -148,24 +158,28 @@ impl Path<MetaForm> {
         ident: &'static str,
         module_path: &'static str,
     ) -> Result<Path, PathError>
-        ensures ok { IfOk result (λ path. AreDeclared ident.now module_path.now (texts path.segments)
+        ensures ok { IfOk result
+            (λ path. AreDeclared ident.now module_path.now (texts path.segments)
             × ArePathSegments (texts path.segments)) }
         ensures invalid { (segment : ℕ) → result ≡ Err (PathError.InvalidIdentifier segment)
-            → (declared : List (List ℕ)) × AreDeclared ident.now module_path.now declared × IsFirstBadPlace declared segment }
+            → (declared : List (List ℕ)) × AreDeclared ident.now module_path.now declared
+            × IsFirstInvalidIndex declared segment }
         ensures never_missing { result ≢ Err PathError.MissingSegments }
     {
         Path::new_with_replace(alloc, ident, module_path, &[])
     }
 
-    /// The path that `new` makes, after each segment, the name too, is replaced: by the second text of the first pair
-    /// whose first text equals it, once. A segment without such a pair stays.
+    /// The path that `new` makes, with each segment, the name too, replaced once: by the second
+    /// string of the first pair whose first string equals it. A segment without such a pair stays.
     ///
-    /// Replacing comes before the test: what a pair brings in must be an identifier, and what it takes out need not.
+    /// Segments are tested after they are replaced: a new segment must be an identifier, and a
+    /// replaced one need not be.
     ///
     /// Errors: as for `new`.
     ///
     /// ```text
-    /// Path::new_with_replace(alloc, "Planet", "hello::world", &[("hello", "goodbye")])  // goodbye, world, Planet
+    /// let pairs = [("hello", "goodbye")];
+    /// Path::new_with_replace(alloc, "Planet", "hello::world", &pairs)  // goodbye, world, Planet
     /// ```
     pub fn new_with_replace(
         alloc: Global,
@@ -173,11 +187,13 @@ impl Path<MetaForm> {
         module_path: &'static str,
         pairs: &[(&'static str, &'static str)],
     ) -> Result<Path, PathError>
-        ensures ok { IfOk result (λ path. (declared : List (List ℕ)) × AreDeclared ident.now module_path.now declared
-            × (texts path.segments ≡ map (replaced (text_pairs pairs.now)) declared) × ArePathSegments (texts path.segments)) }
+        ensures ok { IfOk result
+            (λ path. (declared : List (List ℕ)) × AreDeclared ident.now module_path.now declared
+            × (texts path.segments ≡ map (replaced (text_pairs pairs.now)) declared)
+            × ArePathSegments (texts path.segments)) }
         ensures invalid { (segment : ℕ) → result ≡ Err (PathError.InvalidIdentifier segment)
             → (declared : List (List ℕ)) × AreDeclared ident.now module_path.now declared
-            × IsFirstBadPlace (map (replaced (text_pairs pairs.now)) declared) segment }
+            × IsFirstInvalidIndex (map (replaced (text_pairs pairs.now)) declared) segment }
         ensures never_missing { result ≢ Err PathError.MissingSegments }
     {
         let mut segments = replaced_pieces(alloc, module_path, pairs)?;
@@ -187,52 +203,59 @@ impl Path<MetaForm> {
 
     /// The path of these segments, in order.
     ///
-    /// Errors: `MissingSegments` where there is none, `InvalidIdentifier` with the first place whose segment is no
-    /// identifier, counted from 0, `Memory` where memory for the list is refused.
+    /// Errors: `MissingSegments`, if there is none; `InvalidIdentifier` with the index of the first
+    /// segment that is not an identifier; `Memory`, if an allocation failed.
     ///
     /// ```text
     /// Path::from_segments(alloc, ["hello", "World"])  // hello, World
-    /// Path::from_segments(alloc, ["Hello", ", World!"]) == Err(PathError::InvalidIdentifier { segment: 1 })
+    /// Path::from_segments(alloc, ["Hello", ", World!"])
+    ///     == Err(PathError::InvalidIdentifier { segment: 1 })
     /// ```
     pub fn from_segments<I: IntoIterator<Item = &'static str>>(
         alloc: Global,
         segments: I,
     ) -> Result<Path, PathError>
         requires can { (it : I.IntoIter) → I.into_iter_gives segments it → I.IntoIter.can_next it }
-        requires ends { (it : I.IntoIter) → I.into_iter_gives segments it → IsFinite (I.IntoIter.remaining it) }
-        ensures ok { IfOk result (λ path. GivesAll I.into_iter_gives I.IntoIter.next_gives segments path.segments
+        requires ends { (it : I.IntoIter) → I.into_iter_gives segments it
+            → IsFinite (I.IntoIter.remaining it) }
+        ensures ok { IfOk result
+            (λ path. GivesAll I.into_iter_gives I.IntoIter.next_gives segments path.segments
             × ArePathSegments (texts path.segments)) }
-        ensures missing { result ≡ Err PathError.MissingSegments → GivesAll I.into_iter_gives I.IntoIter.next_gives segments [] }
+        ensures missing { result ≡ Err PathError.MissingSegments
+            → GivesAll I.into_iter_gives I.IntoIter.next_gives segments [] }
         ensures invalid { (segment : ℕ) → result ≡ Err (PathError.InvalidIdentifier segment)
-            → (items : Held) × GivesAll I.into_iter_gives I.IntoIter.next_gives segments items × IsFirstBadPlace (texts items) segment }
+            → (items : StaticTexts)
+            × GivesAll I.into_iter_gives I.IntoIter.next_gives segments items
+            × IsFirstInvalidIndex (texts items) segment }
     {
         checked(Vec::from_iter(alloc, segments)?)
     }
 }
 
-/// The path of these segments, where there is one and all are identifiers.
+/// The path of these segments, if there is one and all are identifiers.
 fn checked(segments: Vec<&'static str>) -> Result<Path, PathError>
-    ensures ok { IfOk result (λ path. (path.segments ≡ segments.entry.items) × ArePathSegments (texts path.segments)) }
+    ensures ok { IfOk result
+        (λ path. (path.segments ≡ segments.entry.items) × ArePathSegments (texts path.segments)) }
     ensures missing { result ≡ Err PathError.MissingSegments → segments.entry.items ≡ [] }
     ensures invalid { (segment : ℕ) → result ≡ Err (PathError.InvalidIdentifier segment)
-        → IsFirstBadPlace (texts segments.entry.items) segment }
-    ensures takes_no_memory { result ≢ Err PathError.Memory }
+        → IsFirstInvalidIndex (texts segments.entry.items) segment }
+    ensures never_memory { result ≢ Err PathError.Memory }
 {
     if segments.is_empty() {
         return Err(PathError::MissingSegments);
     }
-    if let Some(segment) = first_bad_place(segments.as_slice()) {
+    if let Some(segment) = first_invalid_index(segments.as_slice()) {
         return Err(PathError::InvalidIdentifier { segment });
     }
     Ok(Path::from(Items::from(segments)))
 }
 
-/// The place of the first text that is no identifier, counted from 0.
-fn first_bad_place(held: &[&'static str]) -> Option<usize>
-    ensures good { IsNone result → All IsIdentifier (texts held.now) }
-    ensures bad { IfSome result (IsFirstBadPlace (texts held.now)) }
+/// The index of the first string that is not an identifier.
+fn first_invalid_index(strings: &[&'static str]) -> Option<usize>
+    ensures good { IsNone result → All IsIdentifier (texts strings.now) }
+    ensures bad { IfSome result (IsFirstInvalidIndex (texts strings.now)) }
 {
-    for (place, text) in held.iter().enumerate() {
+    for (place, text) in strings.iter().enumerate() {
         if !is_rust_identifier(text) {
             return Some(place);
         }
@@ -240,7 +263,7 @@ fn first_bad_place(held: &[&'static str]) -> Option<usize>
     None
 }
 
-/// The pieces of a text around `::`, each after the pairs have replaced it.
+/// The pieces of a string around `::`, each after the pairs have replaced it.
 fn replaced_pieces(
     alloc: Global,
     text: &'static str,
@@ -249,7 +272,7 @@ fn replaced_pieces(
     ensures { IfOk result (λ all. (pieces : List (List ℕ)) × IsPieces text.now pieces
         × (texts all.items ≡ map (replaced (text_pairs pairs.now)) pieces)) }
 {
-    // The pieces, and room for the name behind them.
+    // The pieces, and room for the name after them.
     let mut all = Vec::with_capacity(alloc, text.matches("::").count().saturating_add(2))?;
     let mut rest = text;
     'pieces: while let Some((before, after)) = rest.split_once("::") {
@@ -260,7 +283,8 @@ fn replaced_pieces(
     Ok(all)
 }
 
-/// The second text of the first pair whose first text is this one; without such a pair the text itself.
+/// The second string of the first pair whose first string is this one; without such a pair the
+/// string itself.
 fn replacement(text: &'static str, pairs: &[(&'static str, &'static str)]) -> &'static str
     ensures { result.now ≡ replaced (text_pairs pairs.now) text.now }
 {
@@ -272,8 +296,8 @@ fn replacement(text: &'static str, pairs: &[(&'static str, &'static str)]) -> &'
     text
 }
 
-/// The segments with `::` between them; a path without segments writes nothing. Width, fill and precision of the format
-/// change nothing, as in the Rust crate `scale-info`.
+/// Prints the segments with `::` between them, and nothing for a path without segments. Width, fill
+/// and precision of the format are ignored, as in the Rust crate `scale-info`.
 ///
 /// ```text
 /// format!(in alloc; "{path}")? == "hello::world::Planet"
@@ -295,14 +319,20 @@ impl fmt::Display for Path<PortableForm> {
     }
 }
 
-/// The path of these segments, whether or not they are identifiers; takes no memory.
+/// The path of these segments, whether or not they are identifiers. Does not allocate.
 impl<T: Form> From<Items<T::String>> for Path<T> {
     ghost from_gives = { λ segments path. path.segments ≡ segments };
 
     fn from(segments: Items<T::String>) -> Path<T> {
         Path {
             segments,
-            form: Mark::new(),
+            form: Marker::new(),
         }
+    }
+}
+
+impl<T: Form> TryClone for Path<T> {
+    fn try_clone(&self, alloc: Global) -> Result<Path<T>, AllocError> {
+        Ok(Path::from(copy_strings::<T>(alloc, &self.segments)?))
     }
 }

@@ -1,5 +1,6 @@
 use Rattle.std.proofs.Common.{ap}
-use Rattle.scale_info_types.proofs.Contents.{through, and_same, same_list, same_path, same_parameter}
+use Rattle.scale_info_types.proofs.Contents.{through, and_same, same_list, same_path}
+use Rattle.scale_info_types.proofs.Contents.{same_parameter}
 use Rattle.scale_info_types.proofs.laws.equal_contents.Goals as goal
 
 pub returns : goal.returns

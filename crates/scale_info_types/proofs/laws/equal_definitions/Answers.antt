@@ -1,9 +1,12 @@
 use Rattle.std.proofs.Common.{ap, rules}
 use denote.Enum.Bare.{same_true, true_same}
 use Rattle.scale_info_types.specs.contracts.ty.TypeDefPrimitive.{the_type}
-use Rattle.scale_info_types.proofs.Injective.{composite_parts, variant_parts, sequence_parts, array_parts, tuple_parts, primitive_parts, compact_parts, bit_sequence_parts}
+use Rattle.scale_info_types.proofs.Injective.{composite_parts, variant_parts, sequence_parts}
+use Rattle.scale_info_types.proofs.Injective.{array_parts, tuple_parts, primitive_parts}
+use Rattle.scale_info_types.proofs.Injective.{compact_parts, bit_sequence_parts, map_parts}
 use Rattle.scale_info_types.specs.declared.ty.TypeDef.TheVariants as def
-use Rattle.scale_info_types.proofs.Contents.{through, and_same, same_list, same_number, same_field, same_variant}
+use Rattle.scale_info_types.proofs.Contents.{through, and_same, same_list, same_number, same_field}
+use Rattle.scale_info_types.proofs.Contents.{same_variant}
 use Rattle.scale_info_types.proofs.laws.equal_definitions.Goals as goal
 
 -- definitions of two kinds are unequal
@@ -19,4 +22,5 @@ returns g c =
       | def.Primitive a ↦ elim [ def.Primitive b ↦ ((λ h. ap def.Primitive (same_true the_type (search rules) a b h)), (λ e. true_same the_type a b (primitive_parts a b e))) | _ ↦ ((λ h. cc), (λ h. cc)) ]
       | def.Compact a ↦ elim [ def.Compact b ↦ through (type_law a.type_param b.type_param) (λ e. λ i. def.Compact (record { type_param = e i })) (λ e. ap (λ d. d.type_param) (compact_parts _ _ e)) | _ ↦ ((λ h. cc), (λ h. cc)) ]
       | def.BitSequence a ↦ elim [ def.BitSequence b ↦ through (and_same _ _ (type_law a.bit_store_type b.bit_store_type) (type_law a.bit_order_type b.bit_order_type)) (λ e. λ i. def.BitSequence (record { bit_store_type = e.0 i; bit_order_type = e.1 i })) (λ e. let same = bit_sequence_parts _ _ e in (ap (λ d. d.bit_store_type) same, ap (λ d. d.bit_order_type) same)) | _ ↦ ((λ h. cc), (λ h. cc)) ]
+      | def.Map a ↦ elim [ def.Map b ↦ through (and_same _ _ (type_law a.key b.key) (type_law a.value b.value)) (λ e. λ i. def.Map (record { key = e.0 i; value = e.1 i })) (λ e. let same = map_parts _ _ e in (ap (λ d. d.key) same, ap (λ d. d.value) same)) | _ ↦ ((λ h. cc), (λ h. cc)) ]
     ]

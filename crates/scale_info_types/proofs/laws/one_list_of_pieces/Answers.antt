@@ -1,4 +1,4 @@
-use Rattle.scale_info_types.proofs.Paths.{same_pieces}
+use Rattle.scale_info_types.proofs.TypePaths.{same_pieces}
 use Rattle.scale_info_types.proofs.laws.one_list_of_pieces.Goals as goal
 
 pub returns : goal.returns

@@ -1,4 +1,4 @@
-use Rattle.scale_info_types.proofs.Agreement as agreement
+use Rattle.scale_info_types.proofs.ShapeAndReferences as agreement
 use Rattle.scale_info_types.proofs.laws.shape_and_references_of.Goals as goal
 
 pub returns : goal.returns

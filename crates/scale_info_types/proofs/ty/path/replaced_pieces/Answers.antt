@@ -1,11 +1,13 @@
 use Rattle.std.proofs.Common.{rules}
-use Rattle.scale_info_types.specs.Paths.{text_pairs}
-use Rattle.scale_info_types.proofs.Paths.{after_is_shorter, cut_all, cut_more, split_at_separator}
+use Rattle.scale_info_types.specs.TypePaths.{text_pairs}
+use Rattle.scale_info_types.proofs.TypePaths.{after_is_shorter, cut_all, cut_more}
+use Rattle.scale_info_types.proofs.TypePaths.{split_at_separator}
 use Rattle.scale_info_types.proofs.ty.path.replaced_pieces.Goals as goal
 
 pub pieces-preserved : goal.pieces-preserved
 pieces-preserved c =
-    let around = rw c.in-Some.is at (split_at_separator c.pieces.rest.now c.split_once.result c.split_once.ensures.cases) in (
+    let around =
+    rw c.in-Some.is at (split_at_separator c.pieces.rest.now c.split_once.result c.split_once.ensures.cases) in (
       search rules,
       cut_more (text_pairs c.args.pairs.now) c.args.text.now c.pieces.rest.now _ _ c.pieces.all.items c.replacement.result _
           c.pieces.invariant.1 around c.replacement.ensures c.in_ok-push.ensures.items,
@@ -13,11 +15,16 @@ pieces-preserved c =
 
 pub pieces-smaller : goal.pieces-smaller
 pieces-smaller c =
-    let around = rw c.in-Some.is at (split_at_separator c.pieces.rest.now c.split_once.result c.split_once.ensures.cases) in
+    let around =
+    rw c.in-Some.is at
+    (split_at_separator c.pieces.rest.now c.split_once.result c.split_once.ensures.cases) in
     after_is_shorter c.pieces.rest.now _ _ around
 
 pub returns : goal.returns
 returns c =
-    let lacks = rw c.in_default.is at (split_at_separator c.pieces.rest.now c.split_once.result c.split_once.ensures.cases) in
-    cut_all (text_pairs c.args.pairs.now) c.args.text.now c.pieces.rest.now c.pieces.all.items c.replacement-2.result _
+    let lacks =
+    rw c.in_default.is at
+    (split_at_separator c.pieces.rest.now c.split_once.result c.split_once.ensures.cases) in
+    cut_all
+    (text_pairs c.args.pairs.now) c.args.text.now c.pieces.rest.now c.pieces.all.items c.replacement-2.result _
     c.pieces.invariant.1 lacks c.replacement-2.ensures c.in_ok-push-2.ensures.items

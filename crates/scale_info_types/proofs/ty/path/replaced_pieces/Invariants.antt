@@ -1,6 +1,6 @@
 use Rattle.std.proofs.Common.{length}
-use Rattle.scale_info_types.specs.Paths.{text_pairs}
-use Rattle.scale_info_types.proofs.Paths.{IsCutTo}
+use Rattle.scale_info_types.specs.TypePaths.{text_pairs}
+use Rattle.scale_info_types.proofs.TypePaths.{IsCutTo}
 use Rattle.scale_info_types.proofs.ty.path.replaced_pieces.Given as goal
 use denote.Shadow.{shadow}
 use denote.Text.{Utf8}

@@ -1,5 +1,5 @@
 use Rattle.std.proofs.Common.{refl, sym, ◌∙◌}
-use Rattle.scale_info_types.proofs.Paths.{replaced_here, replaced_later, replaced_never}
+use Rattle.scale_info_types.proofs.TypePaths.{replaced_here, replaced_later, replaced_never}
 use Rattle.scale_info_types.proofs.ty.path.replacement.Goals as goal
 
 pub loop-from-init : goal.loop-from-init
@@ -16,4 +16,5 @@ loop-from-preserved c =
     (sym c.eq.ensures ∙ c.if-eq.false)
 
 pub returns : goal.returns
-returns c = replaced_never c.args.pairs.now c.loop-from.from-index c.args.text.now c.loop-from-test.false c.loop-from.invariant
+returns c =
+    replaced_never c.args.pairs.now c.loop-from.from-index c.args.text.now c.loop-from-test.false c.loop-from.invariant

@@ -1,7 +1,7 @@
 use Rattle.std.proofs.Common.{List, ℕ, subst, sym, ◌∙◌}
 use Rattle.std.proofs.lemmas.Result.{IfOk-weaker}
-use Rattle.scale_info_types.specs.Paths.{AreDeclared, IsFirstBadPlace}
-use Rattle.scale_info_types.proofs.Paths.{replaced_by_none}
+use Rattle.scale_info_types.specs.TypePaths.{AreDeclared, IsFirstInvalidIndex}
+use Rattle.scale_info_types.proofs.TypePaths.{replaced_by_none}
 use Rattle.scale_info_types.proofs.ty.path.Path+MetaForm.new.Goals as goal
 
 pub returns-clause-ok : goal.returns-clause-ok
@@ -18,4 +18,4 @@ pub returns-clause-invalid : goal.returns-clause-invalid
 returns-clause-invalid c =
     λ segment is.
     let known = c.new_with_replace.ensures.invalid segment is in
-    (known.0, known.1, subst (λ (all : List (List ℕ)). IsFirstBadPlace all segment) (replaced_by_none known.0) known.2)
+    (known.0, known.1, subst (λ (all : List (List ℕ)). IsFirstInvalidIndex all segment) (replaced_by_none known.0) known.2)

@@ -1,5 +1,0 @@
-use Rattle.scale_info.proofs.FirstReference.{extension_unfolds}
-use Rattle.scale_info.proofs.laws.extension_unfolds.Goals as goal
-
-pub returns : goal.returns
-returns g c = extension_unfolds

@@ -1,8 +1,0 @@
-use Rattle.scale_info.proofs.Extensions.{numbering_grows, extension_grows}
-use Rattle.scale_info.proofs.laws.growth_keeps.Goals as goal
-
-pub returns-clause-numbering : goal.returns-clause-numbering
-returns-clause-numbering g c = numbering_grows
-
-pub returns-clause-extension : goal.returns-clause-extension
-returns-clause-extension g c = extension_grows

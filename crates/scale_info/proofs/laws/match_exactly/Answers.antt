@@ -1,5 +1,0 @@
-use Rattle.scale_info.proofs.Matches.{match_exactly}
-use Rattle.scale_info.proofs.laws.match_exactly.Goals as goal
-
-pub returns : goal.returns
-returns g c = match_exactly

@@ -1,5 +1,0 @@
-use Rattle.scale_info.proofs.Tables.{old_entries_stay}
-use Rattle.scale_info.proofs.laws.old_entries_stay.Goals as goal
-
-pub returns : goal.returns
-returns g c = old_entries_stay

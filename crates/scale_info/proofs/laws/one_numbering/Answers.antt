@@ -1,5 +1,0 @@
-use Rattle.scale_info.proofs.Extensions.{one_numbering}
-use Rattle.scale_info.proofs.laws.one_numbering.Goals as goal
-
-pub returns : goal.returns
-returns g c = one_numbering

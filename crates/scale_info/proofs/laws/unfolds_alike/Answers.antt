@@ -1,5 +1,0 @@
-use Rattle.scale_info.proofs.Tables.{unfolds_alike}
-use Rattle.scale_info.proofs.laws.unfolds_alike.Goals as goal
-
-pub returns : goal.returns
-returns g c = unfolds_alike

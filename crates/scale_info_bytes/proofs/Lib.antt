@@ -1,0 +1,6 @@
+pub mod CompactAt
+pub mod Errors
+pub mod Index
+pub mod Lists
+pub mod Steps
+pub mod StringAt

@@ -1,0 +1,9 @@
+//! Numbers and strings as SCALE bytes, and what an encoding is.
+//!
+//! The functions here know nothing of descriptions. The trait `Scale` of the crate above is built
+//! on them: a value's parts are numbers, strings, and lists and options of values.
+#![tactic(auto)]
+
+pub mod error;
+pub mod number;
+pub mod text;

@@ -1,0 +1,110 @@
+//! Compact numbers as bytes.
+ghost use Rattle.std.specs.Prelude.{◌≡◌, ◌%◌, ◌∷◌, IfSome, IfNone, OnOk, OnErr};
+ghost use Rattle.scale_info_bytes.specs.Encodings.{AppendsEncoding, HasPrefix, HasNoPrefix};
+ghost use Rattle.scale_info_bytes.specs.Numbers.{EncodesCompact};
+
+use std::alloc::AllocError;
+
+/// Two bytes, of which the first is there.
+fn compact_of_two(first: u8, rest: &[u8]) -> Option<(u32, &[u8])>
+    requires { first % 4 ≡ 1 }
+    ensures some { IfSome result
+        (λ found. HasPrefix (EncodesCompact found.0) (first ∷ rest.now) found.1.now) }
+    ensures none { IfNone result (HasNoPrefix EncodesCompact (first ∷ rest.now)) }
+{
+    match rest {
+        [second, rest @ ..] => {
+            let number = u16::from_le_bytes([first, *second]) / 4;
+            if number < 64 {
+                None
+            } else {
+                Some((number as u32, rest))
+            }
+        }
+        [] => None,
+    }
+}
+
+/// Four bytes, of which the first is there.
+fn compact_of_four(first: u8, rest: &[u8]) -> Option<(u32, &[u8])>
+    requires { first % 4 ≡ 2 }
+    ensures some { IfSome result
+        (λ found. HasPrefix (EncodesCompact found.0) (first ∷ rest.now) found.1.now) }
+    ensures none { IfNone result (HasNoPrefix EncodesCompact (first ∷ rest.now)) }
+{
+    match rest {
+        [second, third, fourth, rest @ ..] => {
+            let number = u32::from_le_bytes([first, *second, *third, *fourth]) / 4;
+            if number < 16384 {
+                None
+            } else {
+                Some((number, rest))
+            }
+        }
+        _ => None,
+    }
+}
+
+/// Five bytes, of which the first is there.
+fn compact_of_five(first: u8, rest: &[u8]) -> Option<(u32, &[u8])>
+    requires { first % 4 ≡ 3 }
+    ensures some { IfSome result
+        (λ found. HasPrefix (EncodesCompact found.0) (first ∷ rest.now) found.1.now) }
+    ensures none { IfNone result (HasNoPrefix EncodesCompact (first ∷ rest.now)) }
+{
+    if first != 3 {
+        return None;
+    }
+    match rest {
+        [a, b, c, d, rest @ ..] => {
+            let number = u32::from_le_bytes([*a, *b, *c, *d]);
+            if number < 1073741824 {
+                None
+            } else {
+                Some((number, rest))
+            }
+        }
+        _ => None,
+    }
+}
+
+/// The compact number at the start of the input, and the rest; None, if no prefix of the input
+/// encodes a number.
+pub fn decode_compact(input: &[u8]) -> Option<(u32, &[u8])>
+    ensures some { IfSome result
+        (λ found. HasPrefix (EncodesCompact found.0) input.now found.1.now) }
+    ensures none { IfNone result (HasNoPrefix EncodesCompact input.now) }
+{
+    match input {
+        [] => None,
+        [first, rest @ ..] => {
+            let first = *first;
+            match first % 4 {
+                0 => Some((first as u32 / 4, rest)),
+                1 => compact_of_two(first, rest),
+                2 => compact_of_four(first, rest),
+                _ => compact_of_five(first, rest),
+            }
+        }
+    }
+}
+
+/// Appends a number in as few bytes as it needs.
+///
+/// Errors: `AllocError`, if an allocation failed; then the output is as before.
+pub fn encode_compact(out: &mut Vec<u8>, number: u32) -> Result<(), AllocError>
+    ensures ok { OnOk result (AppendsEncoding (EncodesCompact number) out.old.items out.new.items) }
+    ensures err { OnErr result (out.new.items ≡ out.old.items) }
+{
+    if number < 64 {
+        out.push(4 * number as u8)?;
+    } else if number < 16384 {
+        out.extend_from_slice(&(4 * number as u16 + 1).to_le_bytes())?;
+    } else if number < 1073741824 {
+        out.extend_from_slice(&(4 * number + 2).to_le_bytes())?;
+    } else {
+        let [a, b, c, d] = number.to_le_bytes();
+        out.extend_from_slice(&[3, a, b, c, d])?;
+    }
+    Ok(())
+}

@@ -1,0 +1,63 @@
+//! Strings as bytes.
+ghost use Rattle.std.specs.Prelude.{◌≡◌, IfOk, IfErr, OnOk, OnErr};
+ghost use Rattle.scale_info_bytes.specs.Encodings.{AppendsEncoding, HasPrefix, IsPrefix};
+ghost use Rattle.scale_info_bytes.specs.Encodings.{HasNoPrefix, HasNoEncoding, IfTooLong};
+ghost use Rattle.scale_info_bytes.specs.Encodings.{IfMalformed};
+ghost use Rattle.scale_info_bytes.specs.Strings.{EncodesText};
+
+use crate::error::{DecodeError, EncodeError, truncate_on_err};
+use crate::number::{decode_compact, encode_compact};
+use scale_info_collections::text::Text;
+use std::alloc::Global;
+
+/// Appends the count of bytes and the bytes. Where that fails, the count may stand at the end.
+fn append_text(text: &str, out: &mut Vec<u8>) -> Result<(), EncodeError>
+    ensures ok { OnOk result (AppendsEncoding (EncodesText text.now) out.old.items out.new.items) }
+    ensures err { OnErr result (IsPrefix out.old.items out.new.items) }
+    ensures too_long { IfErr result (IfTooLong (HasNoEncoding (EncodesText text.now))) }
+{
+    if text.len() > 4294967295 {
+        return Err(EncodeError::TooLong);
+    }
+    encode_compact(out, text.len() as u32)?;
+    out.extend_from_slice(text.as_bytes())?;
+    Ok(())
+}
+
+/// Appends a string: the count of its bytes as a compact number, then the bytes.
+///
+/// Errors: `TooLong`, if the string has more than 4294967295 bytes; `Memory`, if an allocation
+/// failed. On an Err the output is as before.
+pub fn encode_text(out: &mut Vec<u8>, text: &str) -> Result<(), EncodeError>
+    ensures ok { OnOk result (AppendsEncoding (EncodesText text.now) out.old.items out.new.items) }
+    ensures err { OnErr result (out.new.items ≡ out.old.items) }
+    ensures too_long { IfErr result (IfTooLong (HasNoEncoding (EncodesText text.now))) }
+{
+    let start = out.len();
+    let written = append_text(text, out);
+    truncate_on_err(out, start, written)
+}
+
+/// The string at the start of the input, and the rest.
+///
+/// Errors: `Malformed`, if no prefix of the input encodes a string; `Memory`, if an allocation
+/// failed.
+pub fn decode_text(alloc: Global, input: &[u8]) -> Result<(Text, &[u8]), DecodeError>
+    ensures ok { IfOk result (λ found. HasPrefix (EncodesText found.0) input.now found.1.now) }
+    ensures malformed { IfErr result (IfMalformed (HasNoPrefix EncodesText input.now)) }
+{
+    match decode_compact(input) {
+        None => Err(DecodeError::Malformed),
+        Some((count, rest)) => {
+            let count = count as usize;
+            if rest.len() < count {
+                return Err(DecodeError::Malformed);
+            }
+            let (bytes, rest) = rest.split_at(count);
+            match str::from_utf8(bytes) {
+                Ok(text) => Ok((Text::from(String::from_str(alloc, text)?), rest)),
+                Err(_) => Err(DecodeError::Malformed),
+            }
+        }
+    }
+}

@@ -1,7 +1,0 @@
-use Rattle.scale_info_codec.specs.Described.{description_parts}
-use Rattle.scale_info_codec.proofs.Errors.{passed_malformed}
-use Rattle.scale_info_codec.proofs.Steps.{no_front_through}
-use Rattle.scale_info_codec.proofs.described.DescriptionPortableFormScale.decode_from.Goals as goal
-
-pub returns-in_err-path-clause-malformed : goal.returns-in_err-path-clause-malformed
-returns-in_err-path-clause-malformed c = passed_malformed c.from_residual.result c.in_err-path.field-0.0 c.from_residual.ensures.1 (λ n. no_front_through description_parts n) c.in_err-path.ensures.malformed

@@ -1,6 +1,0 @@
-use Rattle.scale_info_codec.proofs.Errors.{passed_malformed}
-use Rattle.scale_info_codec.proofs.Steps.{no_front_through}
-use Rattle.scale_info_codec.proofs.described.PathPortableFormScale.decode_from.Goals as goal
-
-pub returns-in_err-segments-clause-malformed : goal.returns-in_err-segments-clause-malformed
-returns-in_err-segments-clause-malformed c = passed_malformed c.from_residual.result c.in_err-segments.field-0.0 c.from_residual.ensures.1 (λ n. no_front_through (λ v. v.segments) n) c.in_err-segments.ensures.malformed

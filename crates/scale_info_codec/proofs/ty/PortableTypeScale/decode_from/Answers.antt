@@ -1,0 +1,9 @@
+use Rattle.scale_info_codec.specs.Ty.{portable_type_parts}
+use Rattle.scale_info_bytes.proofs.Errors.{passed_malformed}
+use Rattle.scale_info_bytes.proofs.Steps.{no_prefix_through}
+use Rattle.scale_info_codec.proofs.ty.PortableTypeScale.decode_from.Goals as goal
+
+pub returns-in_err-number-clause-malformed : goal.returns-in_err-number-clause-malformed
+returns-in_err-number-clause-malformed c =
+    passed_malformed c.from_residual.result c.in_err-number.field-0.0 c.from_residual.ensures.1
+    (λ n. no_prefix_through portable_type_parts n) c.in_err-number.ensures.malformed

@@ -1,0 +1,376 @@
+//! Descriptions as bytes.
+ghost use Rattle.std.specs.Prelude.{IfOk, IfErr, IfSome, IfNone};
+ghost use Rattle.scale_info_types.specs.declared.ty.TypeDefPrimitive.{TypeDefPrimitive};
+ghost use Rattle.scale_info_bytes.specs.Encodings.{HasPrefix, HasNoPrefix, IfMalformed};
+ghost use Rattle.scale_info_bytes.specs.Parts.{EncodesPair, EncodesList};
+ghost use Rattle.scale_info_bytes.specs.Numbers.{EncodesU32};
+ghost use Rattle.scale_info_bytes.specs.NumberLaws.{u32_law};
+ghost use Rattle.scale_info_bytes.specs.PartLaws.{through_law, pair_law, list_law};
+ghost use Rattle.scale_info_codec.specs.Ty.{EncodesId, EncodesParameter, IsPrimitiveByte};
+ghost use Rattle.scale_info_codec.specs.Ty.{EncodesPrimitive, EncodesTypeDefWithIndex};
+ghost use Rattle.scale_info_codec.specs.Ty.{EncodesTypeDef, EncodesDescription};
+ghost use Rattle.scale_info_codec.specs.Ty.{EncodesPortableType, array_parts, bit_sequence_parts};
+ghost use Rattle.scale_info_codec.specs.Ty.{map_parts};
+ghost use Rattle.scale_info_codec.specs.TyLaws.{id_law, parameter_law, primitive_law, type_def_law};
+ghost use Rattle.scale_info_codec.specs.TyLaws.{description_law, portable_type_law};
+
+use crate::scale::Scale;
+use crate::tuple::{encode_four, encode_two, encode_with_index};
+use scale_info_bytes::error::{DecodeError, EncodeError};
+use scale_info_types::form::PortableForm;
+use scale_info_types::impls::Compact;
+use scale_info_types::ty::composite::TypeDefComposite;
+use scale_info_types::ty::variant::TypeDefVariant;
+use scale_info_types::ty::{
+    Description, PortableType, TypeDef, TypeDefArray, TypeDefBitSequence, TypeDefCompact,
+    TypeDefMap, TypeDefPrimitive, TypeDefSequence, TypeDefTuple, TypeParameter,
+};
+use std::alloc::Global;
+
+mod composite;
+mod fields;
+mod path;
+mod variant;
+
+impl Scale for Description<PortableForm> {
+    ghost encodes = { EncodesDescription };
+
+    fn encode_to(&self, out: &mut Vec<u8>) -> Result<(), EncodeError> {
+        encode_four(
+            &self.path,
+            &self.type_params,
+            &self.type_def,
+            &self.docs,
+            out,
+        )
+    }
+
+    fn decode_from(
+        alloc: Global,
+        input: &[u8],
+    ) -> Result<(Description<PortableForm>, &[u8]), DecodeError> {
+        let ((path, (type_params, (type_def, docs))), rest) = Scale::decode_from(alloc, input)?;
+        let description = Description {
+            path,
+            type_params,
+            type_def,
+            docs,
+        };
+        Ok((description, rest))
+    }
+
+    ghost law = { description_law };
+}
+
+impl Scale for TypeParameter<PortableForm> {
+    ghost encodes = { EncodesParameter };
+
+    fn encode_to(&self, out: &mut Vec<u8>) -> Result<(), EncodeError> {
+        encode_two(&self.name, &self.ty, out)
+    }
+
+    fn decode_from(
+        alloc: Global,
+        input: &[u8],
+    ) -> Result<(TypeParameter<PortableForm>, &[u8]), DecodeError> {
+        let ((name, ty), rest) = Scale::decode_from(alloc, input)?;
+        Ok((TypeParameter { name, ty }, rest))
+    }
+
+    ghost law = { parameter_law };
+}
+
+impl Scale for TypeDefSequence<PortableForm> {
+    ghost encodes = { λ v b. EncodesId v.type_param b };
+
+    fn encode_to(&self, out: &mut Vec<u8>) -> Result<(), EncodeError> {
+        let TypeDefSequence { type_param } = self;
+        type_param.encode_to(out)
+    }
+
+    fn decode_from(
+        alloc: Global,
+        input: &[u8],
+    ) -> Result<(TypeDefSequence<PortableForm>, &[u8]), DecodeError> {
+        let (type_param, rest) = Scale::decode_from(alloc, input)?;
+        Ok((TypeDefSequence { type_param }, rest))
+    }
+
+    ghost law = { through_law (λ v. v.type_param) (λ v w e i. record { type_param = e i }) id_law };
+}
+
+impl Scale for TypeDefArray<PortableForm> {
+    ghost encodes = { λ v b. EncodesPair EncodesU32 EncodesId (array_parts v) b };
+
+    fn encode_to(&self, out: &mut Vec<u8>) -> Result<(), EncodeError> {
+        encode_two(&self.len, &self.type_param, out)
+    }
+
+    fn decode_from(
+        alloc: Global,
+        input: &[u8],
+    ) -> Result<(TypeDefArray<PortableForm>, &[u8]), DecodeError> {
+        let ((len, type_param), rest) = Scale::decode_from(alloc, input)?;
+        Ok((TypeDefArray { len, type_param }, rest))
+    }
+
+    ghost law = { through_law array_parts
+        (λ v w e i. record { len = (e i).0; type_param = (e i).1 }) (pair_law u32_law id_law) };
+}
+
+impl Scale for TypeDefTuple<PortableForm> {
+    ghost encodes = { λ v b. EncodesList EncodesId v.fields b };
+
+    fn encode_to(&self, out: &mut Vec<u8>) -> Result<(), EncodeError> {
+        let TypeDefTuple { fields } = self;
+        fields.encode_to(out)
+    }
+
+    fn decode_from(
+        alloc: Global,
+        input: &[u8],
+    ) -> Result<(TypeDefTuple<PortableForm>, &[u8]), DecodeError> {
+        let (fields, rest) = Scale::decode_from(alloc, input)?;
+        Ok((TypeDefTuple { fields }, rest))
+    }
+
+    ghost law = { through_law (λ v. v.fields) (λ v w e i. record { fields = e i })
+        (list_law id_law) };
+}
+
+/// The byte of a primitive.
+#[tactic(auto, using(crate::specs::Ty::primitive_bytes))]
+fn byte_of(primitive: TypeDefPrimitive) -> u8
+    ensures { IsPrimitiveByte result primitive }
+{
+    match primitive {
+        TypeDefPrimitive::Bool => 0,
+        TypeDefPrimitive::Char => 1,
+        TypeDefPrimitive::Str => 2,
+        TypeDefPrimitive::U8 => 3,
+        TypeDefPrimitive::U16 => 4,
+        TypeDefPrimitive::U32 => 5,
+        TypeDefPrimitive::U64 => 6,
+        TypeDefPrimitive::U128 => 7,
+        TypeDefPrimitive::U256 => 8,
+        TypeDefPrimitive::I8 => 9,
+        TypeDefPrimitive::I16 => 10,
+        TypeDefPrimitive::I32 => 11,
+        TypeDefPrimitive::I64 => 12,
+        TypeDefPrimitive::I128 => 13,
+        TypeDefPrimitive::I256 => 14,
+    }
+}
+
+/// The primitive of a byte.
+#[tactic(auto, using(crate::specs::Ty::primitive_bytes))]
+pub fn primitive_of(byte: u8) -> Option<TypeDefPrimitive>
+    ensures some { IfSome result (λ primitive. IsPrimitiveByte byte primitive) }
+    ensures none { IfNone result
+        ((primitive : TypeDefPrimitive) → IsPrimitiveByte byte primitive → ⊥) }
+{
+    match byte {
+        0 => Some(TypeDefPrimitive::Bool),
+        1 => Some(TypeDefPrimitive::Char),
+        2 => Some(TypeDefPrimitive::Str),
+        3 => Some(TypeDefPrimitive::U8),
+        4 => Some(TypeDefPrimitive::U16),
+        5 => Some(TypeDefPrimitive::U32),
+        6 => Some(TypeDefPrimitive::U64),
+        7 => Some(TypeDefPrimitive::U128),
+        8 => Some(TypeDefPrimitive::U256),
+        9 => Some(TypeDefPrimitive::I8),
+        10 => Some(TypeDefPrimitive::I16),
+        11 => Some(TypeDefPrimitive::I32),
+        12 => Some(TypeDefPrimitive::I64),
+        13 => Some(TypeDefPrimitive::I128),
+        14 => Some(TypeDefPrimitive::I256),
+        _ => None,
+    }
+}
+
+impl Scale for TypeDefPrimitive {
+    ghost encodes = { EncodesPrimitive };
+
+    fn encode_to(&self, out: &mut Vec<u8>) -> Result<(), EncodeError> {
+        out.push(byte_of(*self))?;
+        Ok(())
+    }
+
+    fn decode_from(_alloc: Global, input: &[u8]) -> Result<(TypeDefPrimitive, &[u8]), DecodeError> {
+        match input {
+            [] => Err(DecodeError::Malformed),
+            [byte, rest @ ..] => match primitive_of(*byte) {
+                Some(primitive) => Ok((primitive, rest)),
+                None => Err(DecodeError::Malformed),
+            },
+        }
+    }
+
+    ghost law = { primitive_law };
+}
+
+impl Scale for TypeDefCompact<PortableForm> {
+    ghost encodes = { λ v b. EncodesId v.type_param b };
+
+    fn encode_to(&self, out: &mut Vec<u8>) -> Result<(), EncodeError> {
+        let TypeDefCompact { type_param } = self;
+        type_param.encode_to(out)
+    }
+
+    fn decode_from(
+        alloc: Global,
+        input: &[u8],
+    ) -> Result<(TypeDefCompact<PortableForm>, &[u8]), DecodeError> {
+        let (type_param, rest) = Scale::decode_from(alloc, input)?;
+        Ok((TypeDefCompact { type_param }, rest))
+    }
+
+    ghost law = { through_law (λ v. v.type_param) (λ v w e i. record { type_param = e i }) id_law };
+}
+
+impl Scale for TypeDefBitSequence<PortableForm> {
+    ghost encodes = { λ v b. EncodesPair EncodesId EncodesId (bit_sequence_parts v) b };
+
+    fn encode_to(&self, out: &mut Vec<u8>) -> Result<(), EncodeError> {
+        encode_two(&self.bit_store_type, &self.bit_order_type, out)
+    }
+
+    fn decode_from(
+        alloc: Global,
+        input: &[u8],
+    ) -> Result<(TypeDefBitSequence<PortableForm>, &[u8]), DecodeError> {
+        let ((bit_store_type, bit_order_type), rest) = Scale::decode_from(alloc, input)?;
+        let def = TypeDefBitSequence {
+            bit_store_type,
+            bit_order_type,
+        };
+        Ok((def, rest))
+    }
+
+    ghost law = { through_law bit_sequence_parts
+        (λ v w e i. record { bit_store_type = (e i).0; bit_order_type = (e i).1 })
+        (pair_law id_law id_law) };
+}
+
+impl Scale for TypeDefMap<PortableForm> {
+    ghost encodes = { λ v b. EncodesPair EncodesId EncodesId (map_parts v) b };
+
+    fn encode_to(&self, out: &mut Vec<u8>) -> Result<(), EncodeError> {
+        encode_two(&self.key, &self.value, out)
+    }
+
+    fn decode_from(
+        alloc: Global,
+        input: &[u8],
+    ) -> Result<(TypeDefMap<PortableForm>, &[u8]), DecodeError> {
+        let ((key, value), rest) = Scale::decode_from(alloc, input)?;
+        Ok((TypeDefMap { key, value }, rest))
+    }
+
+    ghost law = { through_law map_parts (λ v w e i. record { key = (e i).0; value = (e i).1 })
+        (pair_law id_law id_law) };
+}
+
+/// Reads the parts of the definition with this index.
+fn decode_parts(
+    alloc: Global,
+    index: u8,
+    input: &[u8],
+) -> Result<(TypeDef<PortableForm>, &[u8]), DecodeError>
+    ensures ok { IfOk result
+        (λ found. HasPrefix (EncodesTypeDefWithIndex index found.0) input.now found.1.now) }
+    ensures malformed { IfErr result
+        (IfMalformed (HasNoPrefix (EncodesTypeDefWithIndex index) input.now)) }
+{
+    match index {
+        0 => {
+            let (def, rest) = TypeDefComposite::decode_from(alloc, input)?;
+            Ok((TypeDef::Composite(def), rest))
+        }
+        1 => {
+            let (def, rest) = TypeDefVariant::decode_from(alloc, input)?;
+            Ok((TypeDef::Variant(def), rest))
+        }
+        2 => {
+            let (def, rest) = TypeDefSequence::decode_from(alloc, input)?;
+            Ok((TypeDef::Sequence(def), rest))
+        }
+        3 => {
+            let (def, rest) = TypeDefArray::decode_from(alloc, input)?;
+            Ok((TypeDef::Array(def), rest))
+        }
+        4 => {
+            let (def, rest) = TypeDefTuple::decode_from(alloc, input)?;
+            Ok((TypeDef::Tuple(def), rest))
+        }
+        5 => {
+            let (def, rest) = TypeDefPrimitive::decode_from(alloc, input)?;
+            Ok((TypeDef::Primitive(def), rest))
+        }
+        6 => {
+            let (def, rest) = TypeDefCompact::decode_from(alloc, input)?;
+            Ok((TypeDef::Compact(def), rest))
+        }
+        7 => {
+            let (def, rest) = TypeDefBitSequence::decode_from(alloc, input)?;
+            Ok((TypeDef::BitSequence(def), rest))
+        }
+        8 => {
+            let (def, rest) = TypeDefMap::decode_from(alloc, input)?;
+            Ok((TypeDef::Map(def), rest))
+        }
+        _ => Err(DecodeError::Malformed),
+    }
+}
+
+impl Scale for TypeDef<PortableForm> {
+    ghost encodes = { EncodesTypeDef };
+
+    fn encode_to(&self, out: &mut Vec<u8>) -> Result<(), EncodeError> {
+        match self {
+            TypeDef::Composite(def) => encode_with_index(0, def, out),
+            TypeDef::Variant(def) => encode_with_index(1, def, out),
+            TypeDef::Sequence(def) => encode_with_index(2, def, out),
+            TypeDef::Array(def) => encode_with_index(3, def, out),
+            TypeDef::Tuple(def) => encode_with_index(4, def, out),
+            TypeDef::Primitive(def) => encode_with_index(5, def, out),
+            TypeDef::Compact(def) => encode_with_index(6, def, out),
+            TypeDef::BitSequence(def) => encode_with_index(7, def, out),
+            TypeDef::Map(def) => encode_with_index(8, def, out),
+        }
+    }
+
+    fn decode_from(
+        alloc: Global,
+        input: &[u8],
+    ) -> Result<(TypeDef<PortableForm>, &[u8]), DecodeError> {
+        match input {
+            [] => Err(DecodeError::Malformed),
+            [index, rest @ ..] => {
+                let (def, rest) = decode_parts(alloc, *index, rest)?;
+                Ok((def, rest))
+            }
+        }
+    }
+
+    ghost law = { type_def_law };
+}
+
+impl Scale for PortableType {
+    ghost encodes = { EncodesPortableType };
+
+    fn encode_to(&self, out: &mut Vec<u8>) -> Result<(), EncodeError> {
+        encode_two(&Compact(self.id), &self.ty, out)
+    }
+
+    fn decode_from(alloc: Global, input: &[u8]) -> Result<(PortableType, &[u8]), DecodeError> {
+        let ((number, ty), rest) = <(Compact<u32>, Description<PortableForm>)>::decode_from(
+            alloc, input,
+        )?;
+        let Compact(id) = number;
+        Ok((PortableType { id, ty }, rest))
+    }
+
+    ghost law = { portable_type_law };
+}

@@ -1,0 +1,56 @@
+//! Variants, and definitions by variants, as bytes.
+ghost use Rattle.scale_info_bytes.specs.Parts.{EncodesList};
+ghost use Rattle.scale_info_bytes.specs.PartLaws.{through_law, list_law};
+ghost use Rattle.scale_info_codec.specs.Ty.{EncodesVariant};
+ghost use Rattle.scale_info_codec.specs.TyLaws.{variant_law};
+
+use crate::scale::Scale;
+use crate::tuple::encode_four;
+use scale_info_bytes::error::{DecodeError, EncodeError};
+use scale_info_types::form::PortableForm;
+use scale_info_types::ty::variant::{TypeDefVariant, Variant};
+use std::alloc::Global;
+
+impl Scale for TypeDefVariant<PortableForm> {
+    ghost encodes = { λ v b. EncodesList EncodesVariant v.variants b };
+
+    fn encode_to(&self, out: &mut Vec<u8>) -> Result<(), EncodeError> {
+        let TypeDefVariant { variants } = self;
+        variants.encode_to(out)
+    }
+
+    fn decode_from(
+        alloc: Global,
+        input: &[u8],
+    ) -> Result<(TypeDefVariant<PortableForm>, &[u8]), DecodeError> {
+        let (variants, rest) = Scale::decode_from(alloc, input)?;
+        Ok((TypeDefVariant { variants }, rest))
+    }
+
+    ghost law = { through_law (λ v. v.variants) (λ v w e i. record { variants = e i })
+        (list_law variant_law) };
+}
+
+impl Scale for Variant<PortableForm> {
+    ghost encodes = { EncodesVariant };
+
+    fn encode_to(&self, out: &mut Vec<u8>) -> Result<(), EncodeError> {
+        encode_four(&self.name, &self.fields, &self.index, &self.docs, out)
+    }
+
+    fn decode_from(
+        alloc: Global,
+        input: &[u8],
+    ) -> Result<(Variant<PortableForm>, &[u8]), DecodeError> {
+        let ((name, (fields, (index, docs))), rest) = Scale::decode_from(alloc, input)?;
+        let variant = Variant {
+            name,
+            fields,
+            index,
+            docs,
+        };
+        Ok((variant, rest))
+    }
+
+    ghost law = { variant_law };
+}

@@ -1,0 +1,3 @@
+pub mod LastElement
+pub mod Identifiers
+pub mod Indices

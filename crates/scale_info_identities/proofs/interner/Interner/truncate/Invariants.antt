@@ -1,0 +1,12 @@
+use Rattle.std.proofs.Common.{◌≡◌, ◌≤◌, length, take}
+use Rattle.scale_info_identities.specs.Interned.{HasIndices}
+use Rattle.scale_info_identities.proofs.interner.Interner.truncate.Given as goal
+
+abbrev pub invariant-loop-self : goal.invariant-loop-self
+invariant-loop-self g l =
+    HasIndices g.T.Ord.cmp l.self-inside.elements.items l.self-inside.indices
+    × (length l.self-inside.elements.items ≤ 4294967295)
+    × (take l.len l.self-inside.elements.items ≡ take l.len l.fn.self)
+
+abbrev pub decreases-loop-self : goal.decreases-loop-self
+decreases-loop-self g l = length l.self-inside.elements.items

@@ -1,0 +1,4 @@
+pub mod Identifiers
+pub mod Interned
+pub mod TypeIds
+pub mod TypeIdLaws

@@ -1,0 +1,7 @@
+//! Identities of types, lists of distinct values, and questions about texts.
+#![tactic(auto)]
+
+pub mod interner;
+pub mod laws;
+pub mod type_id;
+pub mod utils;

@@ -1,0 +1,11 @@
+pub mod Meaning
+pub mod Written
+pub mod Steps
+pub mod Laws
+pub mod Described
+pub mod DescribedLaws
+pub mod Definitions
+pub mod DefinitionLaws
+pub mod Tables
+pub mod TableLaws
+pub mod Examples

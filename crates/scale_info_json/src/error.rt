@@ -1,0 +1,33 @@
+//! Why no value is read from a tree.
+ghost use Rattle.std.specs.Prelude.{◌≡◌};
+ghost use Rattle.scale_info_json.specs.declared.error.JsonError.TheVariants as error;
+
+use std::alloc::{AllocError, AllocFailed};
+use thiserror::Error;
+
+/// Why no value is read from a tree.
+#[derive(Debug, Drop, PartialEq, Eq, Error)]
+pub enum JsonError {
+    /// The tree means no value.
+    #[error("Shape")]
+    Shape,
+    /// An allocation failed.
+    #[error("Memory")]
+    Memory,
+}
+
+impl From<AllocError> for JsonError {
+    ghost from_gives = { λ _ e. e ≡ error.Memory };
+
+    fn from(_e: AllocError) -> JsonError {
+        JsonError::Memory
+    }
+}
+
+impl<T: Drop> From<AllocFailed<T>> for JsonError {
+    ghost from_gives = { λ _ e. e ≡ error.Memory };
+
+    fn from(_e: AllocFailed<T>) -> JsonError {
+        JsonError::Memory
+    }
+}

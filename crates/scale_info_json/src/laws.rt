@@ -1,0 +1,20 @@
+//! Laws. Each is the contract of a function without work.
+ghost use Rattle.std.specs.Prelude.{◌≡◌, codes};
+ghost use Rattle.serde_json.specs.Data.{Data};
+ghost use Rattle.serde_json.specs.Written.{compact_text};
+ghost use Rattle.scale_info_json.specs.Tables.{table_tree, MeansTable};
+ghost use Rattle.scale_info_json.specs.Examples.{vec_u32};
+
+use scale_info_tables::portable::PortableRegistry;
+
+/// A tree means at most one table.
+pub fn one_meaning()
+    ensures { (tree : Data) (table other : PortableRegistry)
+        → MeansTable tree table → MeansTable tree other → table ≡ other }
+{}
+
+/// The text of the table of `Vec<u32>`, which has two entries.
+pub fn example_text()
+    ensures { compact_text (table_tree vec_u32)
+        ≡ codes "{\"types\":[{\"id\":0,\"type\":{\"def\":{\"sequence\":{\"type\":1}}}},{\"id\":1,\"type\":{\"def\":{\"primitive\":\"u32\"}}}]}" }
+{}

@@ -1,0 +1,21 @@
+//! Tables of descriptions as JSON trees and as JSON text.
+//!
+//! [`to_json`] and [`from_json`] go between a table and a tree of `serde_json`; [`append_json`]
+//! writes the text of that tree without making it.
+#![tactic(auto)]
+
+mod definition;
+mod described;
+mod error;
+pub mod laws;
+mod list;
+mod members;
+mod number;
+mod reading;
+mod registry;
+mod table;
+mod text;
+mod tree;
+
+pub use error::JsonError;
+pub use registry::{append_json, from_json, to_json};

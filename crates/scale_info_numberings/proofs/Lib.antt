@@ -1,0 +1,17 @@
+pub mod Transfer
+pub mod ExtensionOfExtension
+pub mod FourComposites
+pub mod Extensions
+pub mod FirstReference
+pub mod ByEnumeration
+pub mod Loops
+pub mod Matches
+pub mod Paths
+pub mod Places
+pub mod PlacesOf
+pub mod Pruned
+pub mod Reached
+pub mod Zip
+pub mod Tables
+pub mod Tours
+pub mod Walking

@@ -1,0 +1,7 @@
+use Rattle.scale_info_bytes.proofs.Steps.{no_prefix_through}
+use Rattle.scale_info_passes.proofs.Passes.{none_is}
+use Rattle.scale_info_passes.proofs.interner.UntrackedSymbolTypeIdPass.pass.Goals as goal
+
+pub returns-in_err-id-clause-none : goal.returns-in_err-id-clause-none
+returns-in_err-id-clause-none g c =
+    none_is c.from_residual.result (no_prefix_through (λ v. v.id) c.in_err-id.ensures.none)

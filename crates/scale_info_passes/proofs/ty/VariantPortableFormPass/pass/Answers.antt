@@ -1,0 +1,16 @@
+use Rattle.std.proofs.Common.{refl, ◌∙◌}
+use Rattle.std.proofs.lemmas.List.{append-nil}
+use Rattle.std.proofs.lemmas.List.Concat.{flat_map_single}
+use Rattle.scale_info_codec.specs.Ty.{variant_parts}
+use Rattle.scale_info_bytes.proofs.Steps.{no_prefix_through}
+use Rattle.scale_info_passes.proofs.Passes.{visited_into, some_on, none_on, no_references}
+use Rattle.scale_info_passes.proofs.ty.VariantPortableFormPass.pass.Goals as goal
+
+pub returns-clause-some : goal.returns-clause-some
+returns-clause-some g c =
+    some_on c.pass.result
+    (λ rest p. visited_into (λ q. record { name = q.0; fields = q.1.0; index = q.1.1.0; docs = q.1.1.1 }) (λ q x s. s) (λ q. rw (no_references q.1.1.1) (append-nil _ ∙ flat_map_single (λ f. f.ty) q.1.0)) (λ f q. refl) p) c.pass.ensures.some
+
+pub returns-clause-none : goal.returns-clause-none
+returns-clause-none g c =
+    none_on c.pass.result (λ n. no_prefix_through variant_parts n) c.pass.ensures.none

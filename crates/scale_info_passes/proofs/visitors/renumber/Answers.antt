@@ -1,0 +1,8 @@
+use Rattle.scale_info_passes.proofs.Passes.{some_unless}
+use Rattle.scale_info_passes.proofs.visitors.renumber.Goals as goal
+
+pub unwrap-rest-requires : goal.unwrap-rest-requires
+unwrap-rest-requires g c =
+    let there = c.requires.1 in
+    some_unless c.pass.result
+    (λ no_prefix. no_prefix.none there.value c.requires.0 there.prefix) c.pass.ensures.none

@@ -1,0 +1,5 @@
+pub mod Pieces
+pub mod PieceLaws
+pub mod Visits
+pub mod VisitLaws
+pub mod Entries

@@ -1,0 +1,15 @@
+//! Passes over pairs.
+ghost use Rattle.std.specs.Prelude.{◌++◌};
+
+use crate::pass::{Pass, Visitor};
+
+impl<A: Pass, B: Pass> Pass for (A, B) {
+    ghost references_of = { λ v. A.references_of v.0 ++ B.references_of v.1 };
+
+    ghost map_references = { λ f v. (A.map_references f v.0, B.map_references f v.1) };
+
+    fn pass<'a, V: Visitor>(input: &'a [u8], visitor: &mut V) -> Option<&'a [u8]> {
+        let rest = A::pass(input, visitor)?;
+        B::pass(rest, visitor)
+    }
+}

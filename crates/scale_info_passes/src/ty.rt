@@ -1,0 +1,155 @@
+//! Passes over descriptions.
+ghost use Rattle.std.specs.Prelude.{[], ◌∷◌, IfSome, IfNone, option_to_list};
+ghost use Rattle.scale_info_types.specs.Shapes.{map_path, map_parameter, map_field, map_variant};
+ghost use Rattle.scale_info_types.specs.Shapes.{map_definition, map_description};
+ghost use Rattle.scale_info_types.specs.References.{references, definition_references};
+ghost use Rattle.scale_info_types.specs.References.{field_references};
+ghost use Rattle.scale_info_bytes.specs.Encodings.{HasPrefix, HasNoPrefix};
+ghost use Rattle.scale_info_codec.specs.Ty.{EncodesTypeDefWithIndex, EncodesPrimitive};
+ghost use Rattle.scale_info_passes.specs.Pieces.{HasVisitedSome};
+
+use crate::pass::{Pass, Visitor, visit_verbatim};
+use scale_info_codec::primitive_of;
+use scale_info_collections::items::Items;
+use scale_info_collections::text::Text;
+use scale_info_identities::interner::UntrackedSymbol;
+use scale_info_identities::type_id::TypeId;
+use scale_info_types::form::PortableForm;
+use scale_info_types::impls::Compact;
+use scale_info_types::ty::fields::Field;
+use scale_info_types::ty::path::Path;
+use scale_info_types::ty::variant::Variant;
+use scale_info_types::ty::{Description, PortableType, TypeDef, TypeDefPrimitive, TypeParameter};
+
+type Id = UntrackedSymbol<TypeId>;
+
+impl Pass for Path<PortableForm> {
+    ghost references_of = { λ _. [] };
+
+    ghost map_references = { λ f v. map_path f (λ s. s) v };
+
+    fn pass<'a, V: Visitor>(input: &'a [u8], visitor: &mut V) -> Option<&'a [u8]> {
+        Items::<Text>::pass(input, visitor)
+    }
+}
+
+impl Pass for TypeParameter<PortableForm> {
+    ghost references_of = { λ v. option_to_list v.ty };
+
+    ghost map_references = { λ f v. map_parameter f (λ s. s) v };
+
+    fn pass<'a, V: Visitor>(input: &'a [u8], visitor: &mut V) -> Option<&'a [u8]> {
+        <(Text, Option<Id>)>::pass(input, visitor)
+    }
+}
+
+impl Pass for Field<PortableForm> {
+    ghost references_of = { λ v. v.ty ∷ [] };
+
+    ghost map_references = { λ f v. map_field f (λ s. s) v };
+
+    fn pass<'a, V: Visitor>(input: &'a [u8], visitor: &mut V) -> Option<&'a [u8]> {
+        <(Option<Text>, (Id, (Option<Text>, Items<Text>)))>::pass(input, visitor)
+    }
+}
+
+impl Pass for Variant<PortableForm> {
+    ghost references_of = { λ v. field_references v.fields };
+
+    ghost map_references = { λ f v. map_variant f (λ s. s) v };
+
+    fn pass<'a, V: Visitor>(input: &'a [u8], visitor: &mut V) -> Option<&'a [u8]> {
+        <(Text, (Items<Field<PortableForm>>, (u8, Items<Text>)))>::pass(input, visitor)
+    }
+}
+
+/// The primitive at the start of the input, and the rest.
+fn decode_primitive(input: &[u8]) -> Option<(TypeDefPrimitive, &[u8])>
+    ensures some { IfSome result (λ found.
+        HasPrefix (EncodesPrimitive found.0) input.now found.1.now) }
+    ensures none { IfNone result (HasNoPrefix EncodesPrimitive input.now) }
+{
+    match input {
+        [] => None,
+        [byte, rest @ ..] => match primitive_of(*byte) {
+            Some(primitive) => Some((primitive, rest)),
+            None => None,
+        },
+    }
+}
+
+impl Pass for TypeDefPrimitive {
+    ghost references_of = { λ _. [] };
+
+    ghost map_references = { λ _ v. v };
+
+    fn pass<'a, V: Visitor>(input: &'a [u8], visitor: &mut V) -> Option<&'a [u8]> {
+        let (_, rest) = decode_primitive(input)?;
+        visit_verbatim(input, rest, visitor);
+        Some(rest)
+    }
+}
+
+/// Goes over the parts of the definition with this index.
+fn pass_parts<'a, V: Visitor>(index: u8, input: &'a [u8], visitor: &mut V) -> Option<&'a [u8]>
+    ensures some { IfSome result (λ rest.
+        HasVisitedSome (EncodesTypeDefWithIndex index)
+        definition_references (λ f v. map_definition f (λ s. s) v) V.visited
+        input.now rest.now visitor.old visitor.new) }
+    ensures none { IfNone result (HasNoPrefix (EncodesTypeDefWithIndex index) input.now) }
+{
+    match index {
+        0 => Items::<Field<PortableForm>>::pass(input, visitor),
+        1 => Items::<Variant<PortableForm>>::pass(input, visitor),
+        2 => Id::pass(input, visitor),
+        3 => <(u32, Id)>::pass(input, visitor),
+        4 => Items::<Id>::pass(input, visitor),
+        5 => TypeDefPrimitive::pass(input, visitor),
+        6 => Id::pass(input, visitor),
+        7 => <(Id, Id)>::pass(input, visitor),
+        8 => <(Id, Id)>::pass(input, visitor),
+        _ => None,
+    }
+}
+
+impl Pass for TypeDef<PortableForm> {
+    ghost references_of = { definition_references };
+
+    ghost map_references = { λ f v. map_definition f (λ s. s) v };
+
+    fn pass<'a, V: Visitor>(input: &'a [u8], visitor: &mut V) -> Option<&'a [u8]> {
+        match input {
+            [] => None,
+            [index, rest @ ..] => {
+                visit_verbatim(input, rest, visitor);
+                pass_parts(*index, rest, visitor)
+            }
+        }
+    }
+}
+
+impl Pass for Description<PortableForm> {
+    ghost references_of = { references };
+
+    ghost map_references = { λ f v. map_description f (λ s. s) v };
+
+    fn pass<'a, V: Visitor>(input: &'a [u8], visitor: &mut V) -> Option<&'a [u8]> {
+        <(
+            Path<PortableForm>,
+            (
+                Items<TypeParameter<PortableForm>>,
+                (TypeDef<PortableForm>, Items<Text>),
+            ),
+        )>::pass(input, visitor)
+    }
+}
+
+impl Pass for PortableType {
+    ghost references_of = { λ v. references v.ty };
+
+    ghost map_references = { λ f v. record { id = v.id; ty = map_description f (λ s. s) v.ty } };
+
+    fn pass<'a, V: Visitor>(input: &'a [u8], visitor: &mut V) -> Option<&'a [u8]> {
+        <(Compact<u32>, Description<PortableForm>)>::pass(input, visitor)
+    }
+}

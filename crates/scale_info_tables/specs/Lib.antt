@@ -1,0 +1,7 @@
+pub mod BuiltTables
+pub mod ClosedTables
+pub mod Entries
+pub mod TableEncoding
+pub mod TableEncodingLaws
+pub mod TableExamples
+pub mod TableSystems

@@ -1,0 +1,5 @@
+//! Portable registries: tables of types that are read from bytes, put together and written.
+#![tactic(auto)]
+
+pub mod laws;
+pub mod portable;

@@ -1,0 +1,273 @@
+-- Shape and references together fix the contents of a description.
+use Rattle.std.proofs.Common.{◌≡◌, ◌↔◌, ℕ, List, [], ◌∷◌, ◌++◌, map, Option, Some, None, option_map}
+use Rattle.std.proofs.Common.{refl, ap, append_assoc}
+use Rattle.std.proofs.lemmas.List.{append-nil, map-append}
+use Rattle.std.specs.List.{flat_map}
+use Rattle.std.specs.Option.{option_to_list}
+use Rattle.scale_info_types.specs.declared.ty.TypeDef.TheVariants as def
+use Rattle.scale_info_types.specs.declared.ty.Description.{Description}
+use Rattle.scale_info_types.specs.References.{field_references, definition_references}
+use Rattle.scale_info_types.specs.References.{parameter_references, references}
+use Rattle.scale_info_types.specs.Shapes.{map_parameter, map_field, map_variant, map_definition}
+use Rattle.scale_info_types.specs.Shapes.{shape, content}
+use Rattle.scale_info_types.proofs.Injective.{composite_parts, variant_parts, sequence_parts}
+use Rattle.scale_info_types.proofs.Injective.{array_parts, tuple_parts, primitive_parts}
+use Rattle.scale_info_types.proofs.Injective.{compact_parts, bit_sequence_parts, map_parts}
+
+-- two values of one shape agree: their references, with anything after them, are equal exactly
+-- where the values' contents and what comes after are
+abbrev pub Agree : {A B C R : Type 0} → (A → B) → (A → C) → (A → List R) → Type 0
+Agree {A} {B} {C} {R} short full refs =
+    (a b : A) (x y : List R)
+    → ((short a ≡ short b) × (refs a ++ x ≡ refs b ++ y)) ↔ ((full a ≡ full b) × (x ≡ y))
+
+-- lists, whose references are those of the items, joined
+module _ {A B C R : Type 0} (short : A → B) (full : A → C) (refs : A → List R) (all : List A → List R)
+    (none : all [] ≡ []) (more : (p : A) (ps : List A) → all (p ∷ ps) ≡ refs p ++ all ps)
+    (law : Agree short full refs) where
+  -- if the elements agree, so do lists of them
+  pub agree_list : Agree (map short) (map full) all
+  agree_list [] [] x y = rw none ((λ h. (refl, h.1)), (λ h. (refl, h.1)))
+  agree_list [] (q ∷ qs) x y = ((λ h. cc), (λ h. cc))
+  agree_list (p ∷ ps) [] x y = ((λ h. cc), (λ h. cc))
+  agree_list (p ∷ ps) (q ∷ qs) x y =
+      let rest = agree_list ps qs x y in
+      let first = law p q (all ps ++ x) (all qs ++ y) in
+      rw (more p ps, more q qs, append_assoc (refs p) (all ps) x, append_assoc (refs q) (all qs) y) (
+        (λ h.
+            let e : short p ≡ short q = cc in
+            let es : map short ps ≡ map short qs = cc in
+            let f = first.0 (e, h.1) in
+            let r = rest.0 (es, f.1) in
+            (λ i. f.0 i ∷ r.0 i, r.1)),
+        (λ h.
+            let e : full p ≡ full q = cc in
+            let es : map full ps ≡ map full qs = cc in
+            let r = rest.1 (es, h.1) in
+            let f = first.1 (e, r.1) in
+            (λ i. f.0 i ∷ r.0 i, f.1)),
+      )
+
+-- a larger value with one part that has references
+agree_inside :
+    {P Q B C X Y : Type 0} {p p' : P} {q q' : Q} (short : P → B) (full : Q → C)
+    → (short p ≡ short p' → p ≡ p')
+    → (full q ≡ full q' → q ≡ q')
+    → ((p ≡ p') × X) ↔ ((q ≡ q') × Y)
+    → ((short p ≡ short p') × X) ↔ ((full q ≡ full q') × Y)
+agree_inside short full open_short open_full law = (
+  (λ h. let e = law.0 (open_short h.0, h.1) in (ap full e.0, e.1)),
+  (λ h. let e = law.1 (open_full h.0, h.1) in (ap short e.0, e.1)),
+)
+
+-- where nothing comes after
+pub agree_whole :
+    {A B C R : Type 0} (short : A → B) (full : A → C) (refs : A → List R) → Agree short full refs
+    → (a b : A) → ((short a ≡ short b) × (refs a ≡ refs b)) ↔ (full a ≡ full b)
+agree_whole short full refs law a b =
+    let h = rw (append-nil (refs a), append-nil (refs b)) at (law a b [] []) in
+    ((λ e. (h.0 e).0), (λ e. h.1 (e, refl)))
+
+module _ {T R : Type 0} (reference : T → R) where
+  agree_type : Agree {B = Unit {0}} (λ t. tt) reference (λ t. reference t ∷ [])
+  agree_type a b x y =
+      ((λ h. let e : reference a ≡ reference b = cc in let es : x ≡ y = cc in (e, es)), (λ h. (refl, λ i. h.0 i ∷ h.1 i)))
+
+  agree_option :
+      Agree {B = Option (Unit {0})} (option_map (λ t. tt)) (option_map reference) (λ t. map reference (option_to_list t))
+  agree_option None None x y = ((λ h. (refl, h.1)), (λ h. (refl, h.1)))
+  agree_option None (Some b) x y = ((λ h. cc), (λ h. cc))
+  agree_option (Some a) None x y = ((λ h. cc), (λ h. cc))
+  agree_option (Some a) (Some b) x y = (
+    (λ h. let e : reference a ≡ reference b = cc in let es : x ≡ y = cc in (ap Some e, es)),
+    (λ h. let e : reference a ≡ reference b = cc in (refl, λ i. e i ∷ h.1 i)),
+  )
+
+  agree_types : Agree {B = List (Unit {0})} (map (λ t. tt)) (map reference) (map reference)
+  agree_types = agree_list _ _ (λ t. reference t ∷ []) _ refl (λ t ts. refl) agree_type
+
+module _ {F T S R : Type 0} (reference : T → R) (text : S → List ℕ) where
+  agree_parameter :
+      Agree (map_parameter {F = F} {G = Unit {0}} {U = Unit {0}} (λ t. tt) text) (map_parameter {G = Unit {0}} reference text)
+      (λ p. map reference (option_to_list p.ty))
+  agree_parameter a b x y =
+      let law = agree_option reference a.ty b.ty x y in (
+        (λ h.
+            let e = law.0 (ap (λ p. p.ty) h.0, h.1) in
+            (λ i. record { name = (h.0 i).name; ty = e.0 i }, e.1)),
+        (λ h.
+            let e = law.1 (ap (λ p. p.ty) h.0, h.1) in
+            (λ i. record { name = (h.0 i).name; ty = e.0 i }, e.1)),
+      )
+
+  agree_field :
+      Agree (map_field {F = F} {G = Unit {0}} {U = Unit {0}} (λ t. tt) text) (map_field {G = Unit {0}} reference text)
+      (λ f. reference f.ty ∷ [])
+  agree_field a b x y =
+      let law = agree_type reference a.ty b.ty x y in (
+        (λ h.
+            let e = law.0 (refl, h.1) in
+            (λ i. record { name = (h.0 i).name; ty = e.0 i; type_name = (h.0 i).type_name; docs = (h.0 i).docs }, e.1)),
+        (λ h.
+            (λ i. record { name = (h.0 i).name; ty = tt; type_name = (h.0 i).type_name; docs = (h.0 i).docs }, (law.1 (ap (λ f. f.ty) h.0, h.1)).1)),
+      )
+
+  agree_fields :
+      Agree (map (map_field {F = F} {G = Unit {0}} {U = Unit {0}} (λ t. tt) text)) (map (map_field {G = Unit {0}} reference text))
+      (λ fs. map reference (field_references fs))
+  agree_fields = agree_list _ _ (λ f. reference f.ty ∷ []) _ refl (λ f fs. refl) agree_field
+
+  agree_variant :
+      Agree (map_variant {F = F} {G = Unit {0}} {U = Unit {0}} (λ t. tt) text) (map_variant {G = Unit {0}} reference text)
+      (λ v. map reference (field_references v.fields))
+  agree_variant a b x y =
+      let law = agree_fields a.fields b.fields x y in (
+        (λ h.
+            let e = law.0 (ap (λ v. v.fields) h.0, h.1) in
+            (λ i. record { name = (h.0 i).name; fields = e.0 i; index = (h.0 i).index; docs = (h.0 i).docs }, e.1)),
+        (λ h.
+            let e = law.1 (ap (λ v. v.fields) h.0, h.1) in
+            (λ i. record { name = (h.0 i).name; fields = e.0 i; index = (h.0 i).index; docs = (h.0 i).docs }, e.1)),
+      )
+
+  agree_variants :
+      Agree (map (map_variant {F = F} {G = Unit {0}} {U = Unit {0}} (λ t. tt) text)) (map (map_variant {G = Unit {0}} reference text))
+      (λ vs. map reference (flat_map (λ v. field_references v.fields) vs))
+  agree_variants =
+      agree_list _ _ (λ v. map reference (field_references v.fields)) _ refl
+      (λ v vs. map-append reference (field_references v.fields) _) agree_variant
+
+  agree_parameters :
+      Agree (map (map_parameter {F = F} {G = Unit {0}} {U = Unit {0}} (λ t. tt) text)) (map (map_parameter {G = Unit {0}} reference text))
+      (λ ps. map reference (parameter_references ps))
+  agree_parameters =
+      agree_list _ _ (λ p. map reference (option_to_list p.ty)) _ refl
+      (λ p ps. map-append reference (option_to_list p.ty) _) agree_parameter
+
+  agree_definition :
+      Agree (map_definition {F = F} {G = Unit {0}} {U = Unit {0}} (λ t. tt) text) (map_definition {G = Unit {0}} reference text)
+      (λ d. map reference (definition_references d))
+  agree_definition =
+      elim [
+        | def.Composite a ↦ elim [
+          | def.Composite b ↦ λ x y.
+              agree_inside (λ p. def.Composite (record { fields = p }))
+              (λ p. def.Composite (record { fields = p }))
+              (λ e. ap (λ d. d.fields) (composite_parts _ _ e)) (λ e. ap (λ d. d.fields) (composite_parts _ _ e))
+              (agree_fields a.fields b.fields x y)
+          | _ ↦ λ x y. ((λ h. cc), (λ h. cc))
+        ]
+        | def.Variant a ↦ elim [
+          | def.Variant b ↦ λ x y.
+              agree_inside (λ p. def.Variant (record { variants = p }))
+              (λ p. def.Variant (record { variants = p }))
+              (λ e. ap (λ d. d.variants) (variant_parts _ _ e)) (λ e. ap (λ d. d.variants) (variant_parts _ _ e))
+              (agree_variants a.variants b.variants x y)
+          | _ ↦ λ x y. ((λ h. cc), (λ h. cc))
+        ]
+        | def.Sequence a ↦ elim [
+          | def.Sequence b ↦ λ x y.
+              agree_inside (λ p. def.Sequence (record { type_param = p }))
+              (λ p. def.Sequence (record { type_param = p }))
+              (λ e. ap (λ d. d.type_param) (sequence_parts _ _ e)) (λ e. ap (λ d. d.type_param) (sequence_parts _ _ e))
+              (agree_type reference a.type_param b.type_param x y)
+          | _ ↦ λ x y. ((λ h. cc), (λ h. cc))
+        ]
+        | def.Array a ↦ elim [
+          | def.Array b ↦ λ x y.
+              let law = agree_type reference a.type_param b.type_param x y in (
+                (λ h.
+                    let same = array_parts _ _ h.0 in
+                    let e = law.0 (refl, h.1) in
+                    (λ i. def.Array (record { len = (same i).len; type_param = e.0 i }), e.1)),
+                (λ h.
+                    let same = array_parts _ _ h.0 in
+                    (λ i. def.Array (record { len = (same i).len; type_param = tt }), (law.1 (ap (λ d. d.type_param) same, h.1)).1)),
+              )
+          | _ ↦ λ x y. ((λ h. cc), (λ h. cc))
+        ]
+        | def.Tuple a ↦ elim [
+          | def.Tuple b ↦ λ x y.
+              agree_inside (λ p. def.Tuple (record { fields = p }))
+              (λ p. def.Tuple (record { fields = p }))
+              (λ e. ap (λ d. d.fields) (tuple_parts _ _ e)) (λ e. ap (λ d. d.fields) (tuple_parts _ _ e))
+              (agree_types reference a.fields b.fields x y)
+          | _ ↦ λ x y. ((λ h. cc), (λ h. cc))
+        ]
+        | def.Primitive a ↦ elim [
+          | def.Primitive b ↦ λ x y.
+              ((λ h. (ap def.Primitive (primitive_parts _ _ h.0), h.1)), (λ h. (ap def.Primitive (primitive_parts _ _ h.0), h.1)))
+          | _ ↦ λ x y. ((λ h. cc), (λ h. cc))
+        ]
+        | def.Compact a ↦ elim [
+          | def.Compact b ↦ λ x y.
+              agree_inside (λ p. def.Compact (record { type_param = p }))
+              (λ p. def.Compact (record { type_param = p }))
+              (λ e. ap (λ d. d.type_param) (compact_parts _ _ e)) (λ e. ap (λ d. d.type_param) (compact_parts _ _ e))
+              (agree_type reference a.type_param b.type_param x y)
+          | _ ↦ λ x y. ((λ h. cc), (λ h. cc))
+        ]
+        | def.BitSequence a ↦ elim [
+          | def.BitSequence b ↦ λ x y.
+              let order = agree_type reference a.bit_order_type b.bit_order_type x y in
+              let store =
+              agree_type reference a.bit_store_type b.bit_store_type
+              (reference a.bit_order_type ∷ x) (reference b.bit_order_type ∷ y)
+              in (
+                (λ h.
+                    let e = store.0 (refl, h.1) in
+                    let f = order.0 (refl, e.1) in
+                    (λ i. def.BitSequence (record { bit_store_type = e.0 i; bit_order_type = f.0 i }), f.1)),
+                (λ h.
+                    let same = bit_sequence_parts _ _ h.0 in
+                    (refl, (store.1 (ap (λ d. d.bit_store_type) same, (order.1 (ap (λ d. d.bit_order_type) same, h.1)).1)).1)),
+              )
+          | _ ↦ λ x y. ((λ h. cc), (λ h. cc))
+        ]
+        | def.Map a ↦ elim [
+          | def.Map b ↦ λ x y.
+              let values = agree_type reference a.value b.value x y in
+              let keys =
+              agree_type reference a.key b.key (reference a.value ∷ x) (reference b.value ∷ y)
+              in (
+                (λ h.
+                    let e = keys.0 (refl, h.1) in
+                    let f = values.0 (refl, e.1) in
+                    (λ i. def.Map (record { key = e.0 i; value = f.0 i }), f.1)),
+                (λ h.
+                    let same = map_parts _ _ h.0 in
+                    let rest = (values.1 (ap (λ d. d.value) same, h.1)).1 in
+                    (refl, (keys.1 (ap (λ d. d.key) same, rest)).1)),
+              )
+          | _ ↦ λ x y. ((λ h. cc), (λ h. cc))
+        ]
+      ]
+
+  -- the shape of a description and the readings of its references give its content, and come from
+  -- it
+  pub shape_and_references :
+      (a b : Description F T S)
+      → (content reference text a ≡ content reference text b)
+      ↔ ((shape text a ≡ shape text b) × (map reference (references a) ≡ map reference (references b)))
+  shape_and_references a b =
+      let params =
+      agree_parameters a.type_params b.type_params
+      (map reference (definition_references a.type_def))
+      (map reference (definition_references b.type_def)) in
+      let definitions =
+      agree_whole (map_definition (λ t. tt) text) (map_definition reference text)
+      (λ d. map reference (definition_references d)) agree_definition a.type_def b.type_def
+      in
+      rw (
+        map-append reference (parameter_references a.type_params) (definition_references a.type_def),
+        map-append reference (parameter_references b.type_params) (definition_references b.type_def),
+      ) (
+        (λ e.
+            let d = definitions.1 (ap (λ t. t.type_def) e) in
+            let p = params.1 (ap (λ t. t.type_params) e, d.1) in
+            (λ i. record { path = record { segments = (e i).path.segments; form = tt }; type_params = p.0 i; type_def = d.0 i; docs = (e i).docs }, p.1)),
+        (λ h.
+            let p = params.0 (ap (λ t. t.type_params) h.0, h.1) in
+            let d = definitions.0 (ap (λ t. t.type_def) h.0, p.1) in
+            λ i. record { path = record { segments = (h.0 i).path.segments; form = tt }; type_params = p.0 i; type_def = d i; docs = (h.0 i).docs }),
+      )

@@ -1,0 +1,39 @@
+-- What each command writes for its input.
+use Rattle.std.specs.Prelude.{◌≡◌, ℕ, List, ◌++◌, codes}
+use Rattle.std.specs.declared.option.Option.{Option}
+use Rattle.std.specs.Io.KnownBytes.{Appends}
+use Rattle.serde_json.specs.Written.{compact_text}
+use Rattle.scale_info_json.specs.Tables.{table_tree}
+use Rattle.scale_info_tables.specs.TableEncoding.{EncodesRegistry}
+use Rattle.scale_info_tables.specs.declared.portable.PortableRegistry.{PortableRegistry}
+use Rattle.type_table_run.specs.declared.command.Command.{Command}
+use Rattle.type_table_run.specs.declared.command.Command.TheVariants.{Check, Json}
+use Rattle.type_table_run.specs.Tables.{IsTable}
+use Rattle.type_table_run.specs.Reports.{AppendsPrefix}
+
+-- the compact text of the table's JSON tree, and a line feed
+abbrev pub json_line : PortableRegistry → List ℕ
+json_line table = compact_text (table_tree table) ++ codes "\n"
+
+-- the input is one table, and the output its JSON line
+pub record IsJsonOf (input output : List ℕ) : Type 0 where
+  pub table : PortableRegistry
+  pub encodes : EncodesRegistry table input
+  pub text : output ≡ json_line table
+
+-- for the whole input the command has this output
+abbrev pub Outputs : Command → List ℕ → List ℕ → Type 0
+Outputs Check input output = IsTable input × (output ≡ input)
+Outputs Json input output = IsJsonOf input output
+
+-- known bytes grow by the command's output for the input
+pub record Writes (command : Command) (old new : Option (List ℕ)) (input : List ℕ) : Type 0 where
+  pub output : List ℕ
+  pub outputs : Outputs command input output
+  pub appends : Appends old new output
+
+-- the command has an output for the input, and known bytes grow by a prefix of it
+pub record WritesPrefix (command : Command) (old new : Option (List ℕ)) (input : List ℕ) : Type 0 where
+  pub output : List ℕ
+  pub outputs : Outputs command input output
+  pub appends : AppendsPrefix old new output

@@ -1,0 +1,31 @@
+-- Why a command is refused, and what is reported of it.
+use Rattle.std.specs.Prelude.{ℕ, List, IfSome}
+use Rattle.std.specs.declared.option.Option.{Option}
+use Rattle.std.specs.Io.KnownBytes.{Keeps}
+use Rattle.scale_info_tables.specs.TableEncoding.{EncodesRegistry}
+use Rattle.scale_info_bytes.specs.Encodings.{HasNoPrefix}
+use Rattle.type_table_run.specs.declared.command.Command.{Command}
+use Rattle.type_table_run.specs.declared.error.RunError.{RunError}
+use Rattle.type_table_run.specs.declared.error.RunError.TheVariants.{Malformed, TrailingBytes}
+use Rattle.type_table_run.specs.declared.error.RunError.TheVariants.{Memory, Input, Output}
+use Rattle.type_table_run.specs.Lines.{line_of}
+use Rattle.type_table_run.specs.Outputs.{WritesPrefix}
+use Rattle.type_table_run.specs.Tables.{HasTrailing}
+use Rattle.type_table_run.specs.Reports.{AppendsPrefix}
+
+-- what an error of a command says of the known input, and of the output's known bytes before and
+-- after
+abbrev pub Explains : Command → (input old new : Option (List ℕ)) → RunError → Type 0
+Explains command input old new Malformed =
+    IfSome input (HasNoPrefix EncodesRegistry) × Keeps old new
+Explains command input old new TrailingBytes = IfSome input HasTrailing × Keeps old new
+Explains command input old new Memory = Keeps old new
+Explains command input old new Input = Keeps old new
+Explains command input old new Output = IfSome input (WritesPrefix command old new)
+
+-- one error holds, and known bytes of the writer for errors grow by a prefix of its line
+pub record Refuses (command : Command)
+    (input output_old output_new errors_old errors_new : Option (List ℕ)) : Type 0 where
+  pub error : RunError
+  pub explains : Explains command input output_old output_new error
+  pub reports : AppendsPrefix errors_old errors_new (line_of error)

@@ -1,0 +1,107 @@
+//! Definitions in the portable form: constructors, conversions and getters.
+use crate::asserts::is;
+use crate::parts::{id, sequence, unnamed_fields, variant};
+use crate::rows::rows;
+use scale_info::form::PortableForm;
+use scale_info::{
+    Scale, TypeDef, TypeDefArray, TypeDefBitSequence, TypeDefCompact, TypeDefComposite,
+    TypeDefPrimitive, TypeDefSequence, TypeDefTuple, TypeDefVariant,
+};
+use std::alloc::Global;
+use std::test::Fail;
+
+/// What `definition` makes, with its encoding.
+const ENCODINGS: &str = "\
+composite: 00 04 00 04 00 00
+composite of a list: 00 08 00 04 00 00 00 08 00 00
+variant: 01 04 04 56 00 00 00
+variant of a list: 01 04 04 57 04 00 04 00 00 02 00
+sequence: 02 04
+array: 03 20 00 00 00 04
+tuple: 04 0c 04 04 00
+primitive: 05 03
+compact: 06 04
+bit sequence: 07 04 08
+";
+
+/// The definition with this name.
+fn definition(alloc: Global, name: &str) -> Result<TypeDef<PortableForm>, Fail> {
+    match name {
+        "composite" => {
+            let fields = unnamed_fields(alloc, &[1])?;
+            Ok(TypeDef::from(TypeDefComposite::new(alloc, fields)?))
+        }
+        "composite of a list" => {
+            Ok(TypeDef::from(TypeDefComposite::from(unnamed_fields(alloc, &[1, 2])?)))
+        }
+        "variant" => {
+            let variants = vec![in alloc; variant(alloc, "V", &[], 0, &[])?]?;
+            Ok(TypeDef::from(TypeDefVariant::new(alloc, variants)?))
+        }
+        "variant of a list" => {
+            let variants = vec![in alloc; variant(alloc, "W", &[1], 2, &[])?]?;
+            Ok(TypeDef::from(TypeDefVariant::from(variants)))
+        }
+        "sequence" => Ok(sequence(1)),
+        "array" => Ok(TypeDef::from(TypeDefArray::new(32, id(1)))),
+        "tuple" => {
+            let members = vec![in alloc; id(1), id(1), id(0)]?;
+            Ok(TypeDef::from(TypeDefTuple::new_portable(alloc, members)?))
+        }
+        "primitive" => Ok(TypeDef::from(TypeDefPrimitive::U8)),
+        "compact" => Ok(TypeDef::from(TypeDefCompact::new(id(1)))),
+        "bit sequence" => Ok(TypeDef::from(TypeDefBitSequence::new_portable(id(1), id(2)))),
+        _ => Err(Fail::new("no definition has this name")),
+    }
+}
+
+#[test]
+fn each_constructor_makes_its_kind_with_its_parts(rt: HostRuntime) -> Result<(), Fail> {
+    for row in rows(rt.alloc(), ENCODINGS)? {
+        let mut output = Vec::new(rt.alloc());
+        definition(rt.alloc(), row.name)?.encode_to(&mut output)?;
+        is(&rt, row.name, output.as_slice(), row.bytes.as_slice());
+    }
+    Ok(())
+}
+
+#[test]
+fn composites_return_their_fields(rt: HostRuntime) -> Result<(), Fail> {
+    let composite = TypeDefComposite::from(unnamed_fields(rt.alloc(), &[1, 2])?);
+    is(&rt, "fields", composite.fields().len(), 2);
+    Ok(())
+}
+
+#[test]
+fn enums_return_their_variants(rt: HostRuntime) -> Result<(), Fail> {
+    let variants = vec![in rt.alloc(); variant(rt.alloc(), "V", &[], 0, &[])?]?;
+    let made = TypeDefVariant::from(variants);
+    is(&rt, "variants", made.variants().len(), 1);
+    Ok(())
+}
+
+#[test]
+fn sequences_compacts_and_arrays_return_their_parts(rt: HostRuntime) {
+    let sequence: TypeDefSequence<PortableForm> = TypeDefSequence::new(id(1));
+    let compact: TypeDefCompact<PortableForm> = TypeDefCompact::new(id(2));
+    let array: TypeDefArray<PortableForm> = TypeDefArray::new(32, id(3));
+    let types = (sequence.type_param().id(), compact.type_param().id());
+    is(&rt, "types", types, (1, 2));
+    is(
+        &rt,
+        "array",
+        (array.len(), array.type_param().id()),
+        (32, 3),
+    );
+}
+
+#[test]
+fn tuples_and_bit_sequences_return_their_parts(rt: HostRuntime) -> Result<(), Fail> {
+    let tuple = TypeDefTuple::new_portable(rt.alloc(), [id(3), id(0)])?;
+    let first = tuple.fields().first().map(|member| member.id());
+    is(&rt, "members", (tuple.fields().len(), first), (2, Some(3)));
+    let bits = TypeDefBitSequence::new_portable(id(1), id(2));
+    let parts = (bits.bit_store_type().id(), bits.bit_order_type().id());
+    is(&rt, "parts", parts, (1, 2));
+    Ok(())
+}
