@@ -60,7 +60,7 @@ fn proper_prefixes_of_tables_are_malformed(rt: HostRuntime) -> Result<(), Fail> 
 #[test]
 fn other_bytes_are_malformed(rt: HostRuntime) -> Result<(), Fail> {
     let inputs = rows(rt.alloc(), MALFORMED)?;
-    is(&rt, "inputs", inputs.len(), 19);
+    is(&rt, "inputs", inputs.len(), 20);
     for row in &inputs {
         is_malformed(&rt, rt.alloc(), row.name, &row.bytes);
     }

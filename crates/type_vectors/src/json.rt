@@ -1,6 +1,6 @@
 //! Tables as JSON trees and as JSON text.
 use crate::asserts::is;
-use crate::rows::{TABLES, row_named};
+use crate::rows::{TABLES, row_bytes, row_named};
 use scale_info::{JsonError, PortableRegistry, append_json, from_json, to_json};
 use serde_json::Value;
 use std::alloc::Global;
@@ -12,6 +12,101 @@ const ESCAPES: &str = "control characters, quotes and characters of two to four 
 
 const ESCAPED: &str = "{\"types\":[{\"id\":0,\"type\":{\"def\":{\"tuple\":[]},\"path\":[\
     \"\\u0000\\b\\t\\n\\u000b\\f\\r\\u001f\\\"\\\\/\u{7f}é\u{2028}🦀\"]}}]}";
+
+/// Rows of `TABLES` with their texts: the name, and the text on the lines up to an empty one.
+const TEXTS: &str = r#"empty
+{"types":[]}
+
+Vec<u32>
+{"types":[{"id":0,"type":{"def":{"sequence":{"type":1}}}},
+{"id":1,"type":{"def":{"primitive":"u32"}}}]}
+
+bool, (u32, [u8; 32], bool), String
+{"types":[{"id":0,"type":{"def":{"primitive":"bool"}}},{"id":1,"type":{"def":{"tuple":[2,3,0]}}},
+{"id":2,"type":{"def":{"primitive":"u32"}}},{"id":3,"type":{"def":{"array":{"len":32,"type":4}}}},
+{"id":4,"type":{"def":{"primitive":"u8"}}},{"id":5,"type":{"def":{"primitive":"str"}}}]}
+
+bit sequence
+{"types":[{"id":0,"type":{"def":{"bitsequence":{"bit_order_type":2,"bit_store_type":1}}}},
+{"id":1,"type":{"def":{"primitive":"u32"}}},{"id":2,"type":{"def":{"primitive":"u64"}}}]}
+
+recursive enum
+{"types":[{"id":0,"type":{"def":{"variant":{"variants":[{"fields":[{"type":0}],"index":0,
+"name":"Value"},{"index":1,"name":"Empty"}]}},"path":["demo","Recursive"]}}]}
+
+u32, bool, Option<(u32, bool)>
+{"types":[{"id":0,"type":{"def":{"primitive":"u32"}}},
+{"id":1,"type":{"def":{"primitive":"bool"}}},
+{"id":2,"type":{"def":{"variant":{"variants":[{"index":0,"name":"None"},{"fields":[{"type":3}],
+"index":1,"name":"Some"}]}},"params":[{"name":"T","type":3}],"path":["Option"]}},
+{"id":3,"type":{"def":{"tuple":[0,1]}}}]}
+
+Compact<u32>
+{"types":[{"id":0,"type":{"def":{"compact":{"type":1}}}},
+{"id":1,"type":{"def":{"primitive":"u32"}}}]}
+
+enum without variants
+{"types":[{"id":0,"type":{"def":{"variant":{}}}}]}
+
+skipped parameter
+{"types":[{"id":0,"type":{"def":{"primitive":"u32"},"params":[{"name":"T","type":null}]}}]}
+
+Range<u8>
+{"types":[{"id":0,"type":{"def":{"composite":{"fields":[{"name":"start","type":1,
+"typeName":"Idx"},{"name":"end","type":1,"typeName":"Idx"}]}},"params":[{"name":"Idx","type":1}],
+"path":["Range"]}},{"id":1,"type":{"def":{"primitive":"u8"}}}]}
+
+docs of a type, a variant and a field
+{"types":[{"id":0,"type":{"def":{"primitive":"bool"}}},
+{"id":1,"type":{"def":{"variant":{"variants":[{"docs":["v"],"fields":[{"docs":["f","g"],
+"name":"n","type":0,"typeName":"N"}],"index":7,"name":"V"}]}},"docs":["d",""],"params":[
+{"name":"S","type":null},{"name":"T","type":0}],"path":["p"]}}]}
+
+the fifteen primitives in order
+{"types":[{"id":0,"type":{"def":{"primitive":"bool"}}},
+{"id":1,"type":{"def":{"primitive":"char"}}},{"id":2,"type":{"def":{"primitive":"str"}}},
+{"id":3,"type":{"def":{"primitive":"u8"}}},{"id":4,"type":{"def":{"primitive":"u16"}}},
+{"id":5,"type":{"def":{"primitive":"u32"}}},{"id":6,"type":{"def":{"primitive":"u64"}}},
+{"id":7,"type":{"def":{"primitive":"u128"}}},{"id":8,"type":{"def":{"primitive":"u256"}}},
+{"id":9,"type":{"def":{"primitive":"i8"}}},{"id":10,"type":{"def":{"primitive":"i16"}}},
+{"id":11,"type":{"def":{"primitive":"i32"}}},{"id":12,"type":{"def":{"primitive":"i64"}}},
+{"id":13,"type":{"def":{"primitive":"i128"}}},{"id":14,"type":{"def":{"primitive":"i256"}}}]}
+
+ids that are not indices
+{"types":[{"id":9,"type":{"def":{"primitive":"bool"}}},
+{"id":0,"type":{"def":{"sequence":{"type":0}}}}]}
+
+map(1, 2), u32, bool
+{"types":[{"id":0,"type":{"def":{"map":{"key":1,"value":2}}}},
+{"id":1,"type":{"def":{"primitive":"u32"}}},{"id":2,"type":{"def":{"primitive":"bool"}}}]}"#;
+
+/// Trees in another form than the written one: the text, and the bytes of the table that it means.
+const OTHER_TREES: &str = r#"{"types":[],"x":[true]}
+00
+
+{"types":[{"id":0,"type":{"def":{"primitive":"u32"},"params":[{"name":"T"}]}}]}
+04 000004045400050500
+
+{"x":1,"types":[{"y":[],"type":{"z":{},"docs":[],"def":{"primitive":"u32"},"path":[]},"id":0}]}
+04 000000050500
+
+{"types":[{"id":0,"type":{"def":{"composite":{}}}}]}
+04 000000000000
+
+{"types":[{"id":0,"type":{"def":{"composite":{"fields":[]}}}}]}
+04 000000000000
+
+{"types":[{"id":0,"type":{"def":{"composite":{"fields":[{"name":null,"type":0}]}}}}]}
+04 00000000 0400000000 00
+
+{"types":[{"id":0,"type":{"def":{"composite":{"fields":[{"typeName":null,"type":0}]}}}}]}
+04 00000000 0400000000 00
+
+{"types":[{"id":0,"type":{"def":{"variant":{"variants":[],"w":null}}}}]}
+04 000000010000
+
+{"types":[{"id":0,"type":{"def":{"array":{"type":0,"len":4294967295,"len2":0}}}}]}
+04 00000003ffffffff0000"#;
 
 /// Trees that are no table.
 const NO_TABLES: &str = r#"null
@@ -108,6 +203,15 @@ fn is_text_of(rt: &impl Abort, alloc: Global, name: &str, text: &str) -> Result<
     is_read(rt, alloc, text, &row.bytes)
 }
 
+/// The lines of a text, joined.
+fn joined(alloc: Global, lines: &str) -> Result<String, Fail> {
+    let mut text = String::new(alloc);
+    for line in lines.lines() {
+        text.push_str(line)?;
+    }
+    Ok(text)
+}
+
 /// Asserts that the tree of this text means no table.
 fn has_no_meaning(rt: &impl Abort, alloc: Global, text: &str) -> Result<(), Fail> {
     let tree = Value::from_str(alloc, text)?;
@@ -119,6 +223,32 @@ fn has_no_meaning(rt: &impl Abort, alloc: Global, text: &str) -> Result<(), Fail
 #[test]
 fn strings_are_escaped_as_serde_json_escapes_them(rt: HostRuntime) -> Result<(), Fail> {
     is_text_of(&rt, rt.alloc(), ESCAPES, ESCAPED)
+}
+
+#[test]
+fn tables_are_written_as_these_texts_and_read_from_them(rt: HostRuntime) -> Result<(), Fail> {
+    let alloc = rt.alloc();
+    for block in TEXTS.split("\n\n") {
+        let Some((name, lines)) = block.split_once('\n') else {
+            return Err(Fail::new("a block has one line"));
+        };
+        let text = joined(alloc, lines)?;
+        is_text_of(&rt, alloc, name, text.as_str())?;
+    }
+    Ok(())
+}
+
+#[test]
+fn trees_in_another_form_are_read(rt: HostRuntime) -> Result<(), Fail> {
+    let alloc = rt.alloc();
+    for block in OTHER_TREES.split("\n\n") {
+        let Some((text, digits)) = block.split_once('\n') else {
+            return Err(Fail::new("a block has one line"));
+        };
+        let bytes = row_bytes(alloc, digits)?;
+        is_read(&rt, alloc, text, &bytes)?;
+    }
+    Ok(())
 }
 
 #[test]

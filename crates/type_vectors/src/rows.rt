@@ -92,7 +92,7 @@ pub struct Row<'a> {
 }
 
 /// The bytes of a line; spaces between the digits do not count.
-fn row_bytes(alloc: Global, digits: &str) -> Result<Vec<u8>, Fail> {
+pub fn row_bytes(alloc: Global, digits: &str) -> Result<Vec<u8>, Fail> {
     let mut bytes = Vec::new(alloc);
     for group in digits.split_whitespace() {
         bytes.extend_from_slice(&hex::decode(alloc, group)?)?;
