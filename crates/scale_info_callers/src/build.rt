@@ -16,8 +16,8 @@ pub fn write_point<W: Write>(alloc: Global, output: &mut W) -> anyhow::Result<()
     Ok(())
 }
 
-/// The table of `struct shapes::Point { x: u32, tags: Vec<u32> }`: `u32`, `Vec<u32>` and `Point`, at
-/// the indices 0, 1 and 2.
+/// The table of `struct shapes::Point { x: u32, tags: Vec<u32> }`: `u32`, `Vec<u32>` and `Point`,
+/// at the indices 0, 1 and 2.
 fn point_table(alloc: Global) -> Result<PortableRegistry, InternError> {
     let mut builder = PortableRegistryBuilder::new(alloc);
     let number = builder.register_type(Type::from_def(alloc, TypeDefPrimitive::U32.into()))?;

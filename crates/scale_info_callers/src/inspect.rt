@@ -8,8 +8,8 @@ use std::io::{Read, Write};
 /// How many types deep a printed name goes.
 const NAME_DEPTH: u32 = 8;
 
-/// Reads a table, which is all of the input, and prints its types: a line for each, and below it its
-/// fields or variants.
+/// Reads a table, which is all of the input, and prints its types: a line for each, and below it
+/// its fields or variants.
 pub fn inspect<R: Read, W: Write>(
     alloc: Global,
     input: &mut R,

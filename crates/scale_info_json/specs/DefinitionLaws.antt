@@ -182,10 +182,12 @@ under_unique k t v w (map p) (map q) = ap def.Map (map_law.unique t _ _ p q)
 
 type_def_unique : (d : Data) (v w : portable.TypeDef) → MeansTypeDef d v → MeansTypeDef d w → v ≡ w
 type_def_unique d v w p q =
-    let e : object (member p.key p.tree no_members) ≡ object (member q.key q.tree no_members) = sym p.only ∙ q.only in
+    let e : object (member p.key p.tree no_members) ≡ object (member q.key q.tree no_members)
+    = sym p.only ∙ q.only in
     let k : p.key ≡ q.key = cc in
     let t : p.tree ≡ q.tree = cc in
-    under_unique q.key q.tree v w (subst (λ x. MeansUnder q.key x v) t (subst (λ x. MeansUnder x p.tree v) k p.means)) q.means
+    let first : MeansUnder q.key p.tree v = subst (λ x. MeansUnder x p.tree v) k p.means in
+    under_unique q.key q.tree v w (subst (λ x. MeansUnder q.key x v) t first) q.means
 
 -- a tree means at most one definition
 pub type_def_law : IsMeaning MeansTypeDef

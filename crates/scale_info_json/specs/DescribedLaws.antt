@@ -7,7 +7,8 @@ use Rattle.scale_info_json.specs.Described.{MeansId, MeansParameter, MeansField,
 
 -- a tree means at most one id
 pub id_law : IsMeaning MeansId
-id_law = through_law (λ v. v.id) (λ v w e i. record { id = e i; marker = v.marker }) (number_law (2 ^ 32))
+id_law =
+    through_law (λ v. v.id) (λ v w e i. record { id = e i; marker = v.marker }) (number_law (2 ^ 32))
 
 -- a tree means at most one parameter
 pub parameter_law : IsMeaning MeansParameter

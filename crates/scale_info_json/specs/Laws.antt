@@ -47,7 +47,8 @@ module _ {A : Type 0} {M : Data → A → Type 0} (law : IsMeaning M) where
   each_unique [] (v ∷ vs) ws p q = absurd p
   each_unique (d ∷ ds) [] ws p q = absurd p
   each_unique (d ∷ ds) (v ∷ vs) [] p q = absurd q
-  each_unique (d ∷ ds) (v ∷ vs) (w ∷ ws) p q = ap₂ ◌∷◌ (law.unique d v w p.0 q.0) (each_unique ds vs ws p.1 q.1)
+  each_unique (d ∷ ds) (v ∷ vs) (w ∷ ws) p q =
+      ap₂ ◌∷◌ (law.unique d v w p.0 q.0) (each_unique ds vs ws p.1 q.1)
 
   pub list_law : IsMeaning (MeansList M)
   list_law = record {

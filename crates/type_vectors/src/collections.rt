@@ -1,6 +1,6 @@
 //! Lists and texts.
 use crate::asserts::{holds, is};
-use crate::parts::text;
+use type_vectors_common::parts::text;
 use scale_info::{Items, TryClone};
 use std::alloc::Global;
 use std::test::Fail;

@@ -2,8 +2,8 @@
 use crate::asserts::holds;
 use crate::descriptions::meta_description;
 use crate::identities::bytes_identity;
-use crate::parts::{id, text};
-use crate::rows::{TABLES, decoded, rows};
+use type_vectors_common::parts::{id, text};
+use type_vectors_common::rows::{TABLES, decoded, rows};
 use scale_info::{Items, PortableType, TryClone};
 use std::alloc::Global;
 use std::process::Abort;

@@ -1,7 +1,7 @@
 //! Definitions in the portable form: constructors, conversions and getters.
 use crate::asserts::is;
-use crate::parts::{id, sequence, unnamed_fields, variant};
-use crate::rows::rows;
+use type_vectors_common::parts::{id, sequence, unnamed_fields, variant};
+use type_vectors_common::rows::rows;
 use scale_info::form::PortableForm;
 use scale_info::{
     Scale, TypeDef, TypeDefArray, TypeDefBitSequence, TypeDefCompact, TypeDefComposite,

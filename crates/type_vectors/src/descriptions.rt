@@ -1,6 +1,6 @@
 //! Descriptions and their parts but definitions: constructors, conversions and getters.
 use crate::asserts::{holds, is};
-use crate::parts::{description, field, id, parameter, path, sequence, text, texts, variant};
+use type_vectors_common::parts::{description, field, id, parameter, path, sequence, text, texts, variant};
 use scale_info::form::{MetaForm, PortableForm};
 use scale_info::{Field, Path, PortableType, Type, TypeDef, TypeDefComposite, TypeParameter};
 use std::alloc::{AllocError, Global};

@@ -2,7 +2,7 @@
 //!
 //! Fields are compared in the order of their declaration: lists lexicographically, None before
 //! Some, variants of an enum as declared, texts by their bytes. The values of each test ascend.
-use crate::parts::*;
+use type_vectors_common::parts::*;
 use scale_info::form::PortableForm;
 use scale_info::impls::Compact;
 use scale_info::{

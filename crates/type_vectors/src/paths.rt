@@ -1,6 +1,6 @@
 //! Paths and identifiers.
 use crate::asserts::{holds, is};
-use crate::parts::path;
+use type_vectors_common::parts::path;
 use scale_info::form::MetaForm;
 use scale_info::utils::is_rust_identifier;
 use scale_info::{Path, PathError};

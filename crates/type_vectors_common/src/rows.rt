@@ -91,7 +91,7 @@ pub struct Row<'a> {
     pub bytes: Vec<u8>,
 }
 
-/// The bytes of a line; spaces between the digits do not count.
+/// The bytes of digits; spaces between them do not count.
 pub fn row_bytes(alloc: Global, digits: &str) -> Result<Vec<u8>, Fail> {
     let mut bytes = Vec::new(alloc);
     for group in digits.split_whitespace() {

@@ -1,11 +1,11 @@
 //! Tables and numbers as bytes: what is decoded is encoded again, and all else is malformed.
 use crate::asserts::is;
-use crate::rows::{COMPACT_NUMBERS, MALFORMED, TABLES, rows};
 use scale_info::impls::Compact;
 use scale_info::{DecodeError, PortableRegistry, Scale};
 use std::alloc::Global;
 use std::process::Abort;
 use std::test::Fail;
+use type_vectors_common::rows::{COMPACT_NUMBERS, MALFORMED, TABLES, rows};
 
 /// Asserts that the bytes before `after` decode to a table, that `after` is left, and that
 /// encoding the table appends the bytes.

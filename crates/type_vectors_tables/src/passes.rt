@@ -1,6 +1,5 @@
 //! Passes: each instance under each visitor, and tables through `skip` as through `decode`.
 use crate::asserts::is;
-use crate::rows::{MALFORMED, TABLES, rows};
 use scale_info::form::PortableForm;
 use scale_info::impls::Compact;
 use scale_info::{
@@ -13,6 +12,7 @@ use scale_info_passes::visitors::{gather, renumber, skip};
 use std::alloc::Global;
 use std::process::Abort;
 use std::test::Fail;
+use type_vectors_common::rows::{MALFORMED, TABLES, row_bytes, rows};
 
 /// The new numbers of the references 0, 1 and 2; a reference 3 stays.
 const NUMBERS: [u32; 3] = [7, 6, 300];
@@ -93,15 +93,6 @@ fn visits_of(
     }
 }
 
-/// The bytes of digits; spaces between them do not count.
-fn bytes(alloc: Global, digits: &str) -> Result<Vec<u8>, Fail> {
-    let mut all = Vec::new(alloc);
-    for group in digits.split_whitespace() {
-        all.extend_from_slice(&hex::decode(alloc, group)?)?;
-    }
-    Ok(all)
-}
-
 /// A row of values: its name, the encoding, the references, and the renumbered encoding.
 fn value_row(line: &str) -> Option<(&str, &str, &str, &str)> {
     let (name, groups) = line.split_once(':')?;
@@ -115,10 +106,10 @@ fn is_visited(rt: &impl Abort, alloc: Global, line: &str) -> Result<(), Fail> {
     let Some((name, encoding, ids, renumbered)) = value_row(line) else {
         return Err(Fail::new("a row is cut"));
     };
-    let mut input = bytes(alloc, encoding)?;
+    let mut input = row_bytes(alloc, encoding)?;
     input.push(0xff)?;
     let mut wanted = Vec::new(alloc);
-    for id in &bytes(alloc, ids)? {
+    for id in &row_bytes(alloc, ids)? {
         wanted.push(*id as u32)?;
     }
     let (kind, _) = name.split_once(';').unwrap_or((name, ""));
@@ -127,7 +118,7 @@ fn is_visited(rt: &impl Abort, alloc: Global, line: &str) -> Result<(), Fail> {
         rt,
         name,
         visited,
-        Some((1, wanted, bytes(alloc, renumbered)?)),
+        Some((1, wanted, row_bytes(alloc, renumbered)?)),
     );
     Ok(())
 }
@@ -146,7 +137,7 @@ fn prefixes_are_refused(rt: &impl Abort, alloc: Global, line: &str) -> Result<()
         return Err(Fail::new("a row is cut"));
     };
     let (kind, _) = name.split_once(';').unwrap_or((name, ""));
-    let input = bytes(alloc, encoding)?;
+    let input = row_bytes(alloc, encoding)?;
     for end in 0..input.len() {
         is(rt, name, visits_of(alloc, kind, &input[..end])?, None);
     }
@@ -210,7 +201,7 @@ fn changed(alloc: Global, table: &[u8], index: usize, byte: u8) -> Result<Vec<u8
 
 #[test]
 fn each_change_of_a_byte_is_skipped_as_it_is_decoded(rt: HostRuntime) -> Result<(), Fail> {
-    let table = bytes(rt.alloc(), MIXED)?;
+    let table = row_bytes(rt.alloc(), MIXED)?;
     is(&rt, "bytes", table.len(), 312);
     is(&rt, "rest", decoded_rest(rt.alloc(), &table)?, Some(0));
     for index in 0..table.len() {
@@ -232,7 +223,7 @@ const KEPT: &str = "\
 
 #[test]
 fn entries_are_indexed(rt: HostRuntime) -> Result<(), Fail> {
-    let input = bytes(rt.alloc(), ENTRIES)?;
+    let input = row_bytes(rt.alloc(), ENTRIES)?;
     let Some((index, rest)) = index_entries(rt.alloc(), 6, &input)? else {
         return Err(Fail::new("no entries"));
     };
@@ -255,7 +246,7 @@ fn entries_are_indexed(rt: HostRuntime) -> Result<(), Fail> {
 
 #[test]
 fn further_entries_are_missed(rt: HostRuntime) -> Result<(), Fail> {
-    let input = bytes(rt.alloc(), ENTRIES)?;
+    let input = row_bytes(rt.alloc(), ENTRIES)?;
     is(
         &rt,
         "seven",
@@ -288,8 +279,8 @@ fn kept(alloc: Global, input: &[u8], numbers: &[u32]) -> Result<Vec<u8>, Fail> {
 
 #[test]
 fn entries_are_renumbered(rt: HostRuntime) -> Result<(), Fail> {
-    let input = bytes(rt.alloc(), ENTRIES)?;
+    let input = row_bytes(rt.alloc(), ENTRIES)?;
     let output = kept(rt.alloc(), &input, &[4, 0, 1, 2, 3])?;
-    is(&rt, "kept", output, bytes(rt.alloc(), KEPT)?);
+    is(&rt, "kept", output, row_bytes(rt.alloc(), KEPT)?);
     Ok(())
 }

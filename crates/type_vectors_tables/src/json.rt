@@ -1,11 +1,11 @@
 //! Tables as JSON trees and as JSON text.
 use crate::asserts::is;
-use crate::rows::{TABLES, row_bytes, row_named};
 use scale_info::{JsonError, PortableRegistry, append_json, from_json, to_json};
 use serde_json::Value;
 use std::alloc::Global;
 use std::process::Abort;
 use std::test::Fail;
+use type_vectors_common::rows::{TABLES, row_bytes, row_named};
 
 /// The row with characters that are escaped, and its text.
 const ESCAPES: &str = "control characters, quotes and characters of two to four bytes";

@@ -1,12 +1,12 @@
 //! The program over readers and writers in memory: statuses, lines and output.
 use crate::asserts::{holds, is};
-use crate::parts::texts;
-use crate::rows::{MALFORMED, TABLES, rows};
-use crate::streams::{HaltingReader, HaltingWriter, InterruptedReader};
 use std::alloc::Global;
 use std::io::{Read, Write};
 use std::process::Abort;
 use std::test::Fail;
+use type_vectors_common::parts::texts;
+use type_vectors_common::rows::{MALFORMED, TABLES, rows};
+use type_vectors_common::streams::{HaltingReader, HaltingWriter, InterruptedReader};
 
 const USAGE: &str = "usage: type_table check | prune ID .. | json\n";
 

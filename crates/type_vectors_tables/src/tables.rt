@@ -1,13 +1,13 @@
 //! Tables: what an id resolves to, and tables that are built at run time.
 use crate::asserts::{holds, is};
-use crate::parts::{sequence, unnamed_fields};
-use crate::rows::{TABLES, decoded, rows};
 use scale_info::form::PortableForm;
 use scale_info::{
     PortableRegistry, PortableRegistryBuilder, Type, TypeDef, TypeDefComposite, TypeDefPrimitive,
 };
 use std::alloc::Global;
 use std::test::Fail;
+use type_vectors_common::parts::{sequence, unnamed_fields};
+use type_vectors_common::rows::{TABLES, decoded, rows};
 
 /// Whether the ids of a table are its indices: each resolves to the description there, and no
 /// greater one to any.

@@ -1,9 +1,9 @@
 //! Maps as values: their parts, copies, order, and their ids in a builder.
-use crate::parts::{description, id};
 use scale_info::form::PortableForm;
 use scale_info::{PortableRegistryBuilder, TryClone, TypeDef, TypeDefBitSequence, TypeDefMap};
 use std::process::Abort;
 use std::test::Fail;
+use type_vectors_common::parts::{description, id};
 
 #[test]
 fn a_map_returns_its_key_and_its_value(rt: HostRuntime) -> Result<(), Fail> {

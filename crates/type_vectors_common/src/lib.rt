@@ -1,0 +1,6 @@
+//! What the crates of tests share: rows of bytes, parts of descriptions, readers and writers.
+#![tactic(auto)]
+
+pub mod parts;
+pub mod rows;
+pub mod streams;
