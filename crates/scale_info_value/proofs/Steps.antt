@@ -135,7 +135,7 @@ variant_by :
     → byte input ≡ decoded index rest
     → variant_within left table vs input
     ≡ fields_of index
-      (option_map (map_variant {G = Unit {0}} (part_within left table) (λ t. t)) (find (λ v. v.index == index) vs)) rest
+    (option_map (map_variant {G = Unit {0}} (part_within left table) (λ t. t)) (find (λ v. v.index == index) vs)) rest
 variant_by left table vs input rest index f =
     ap (λ o. and_then o (λ i after.
     fields_of i

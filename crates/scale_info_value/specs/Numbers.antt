@@ -42,8 +42,8 @@ compact_after mode high input =
     else if mode == 1 then and_then (number 1 input) (λ more rest. at_least 64 (high + 64 * more) rest)
     else if mode == 2 then and_then (number 3 input) (λ more rest. at_least 16384 (high + 64 * more) rest)
     else if nat_le high 12 then
-        and_then (number (high + 4) input)
-        (λ n rest. at_least (max 1073741824 (256 ^ (high + 3))) n rest)
+    and_then (number (high + 4) input)
+    (λ n rest. at_least (max 1073741824 (256 ^ (high + 3))) n rest)
     else failed malformed
 
 -- a compact number

@@ -2,12 +2,11 @@
 ghost use Rattle.std.specs.Prelude.{◌≡◌};
 ghost use Rattle.scale_info_value.specs.declared.value.ValueError.TheVariants as error;
 
+pub use crate::decode::decode_value;
 use scale_info_collections::items::Items;
 use scale_info_collections::text::Text;
 use std::alloc::{AllocError, AllocFailed};
 use thiserror::Error;
-
-pub use crate::decode::decode_value;
 
 /// A value of some type, without the type.
 #[derive(Drop, PartialEq, Eq)]

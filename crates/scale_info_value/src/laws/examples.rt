@@ -32,8 +32,8 @@ pub fn depths()
     ensures past { reading list_of_u32 0 129 (0 ∷ []) ≡ failed too_deep }
 {}
 
-/// Compact numbers, numbers with a sign and texts.
-pub fn primitives()
+/// Compact numbers and numbers with a sign.
+pub fn numbers()
     ensures one { reading (compact_of kind.U64) 0 1 (4 ∷ []) ≡ decoded (dyn.Unsigned 1) [] }
     ensures four_bytes { reading (compact_of kind.U64) 0 1 (3 ∷ 0 ∷ 0 ∷ 0 ∷ 64 ∷ [])
         ≡ decoded (dyn.Unsigned 1073741824) [] }
@@ -48,8 +48,6 @@ pub fn primitives()
         ≡ decoded (dyn.Signed (negsuc 0)) [] }
     ensures least { reading (table_of (def.Primitive kind.I16 ∷ [])) 0 1 (0 ∷ 128 ∷ [])
         ≡ decoded (dyn.Signed (negsuc 32767)) [] }
-    ensures text { reading (table_of (def.Primitive kind.Str ∷ [])) 0 1 (8 ∷ 104 ∷ 105 ∷ [])
-        ≡ decoded (dyn.Text (codes "hi")) [] }
 {}
 
 /// Fields stand under their names, and of two variants with one index the first is taken.

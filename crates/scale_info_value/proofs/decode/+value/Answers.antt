@@ -37,7 +37,7 @@ items-returns-in_err-value-clause-err t c =
     (λ why e.
     c.loop.invariant
     ∙ ap (λ rs. preceded c.loop.values (in_order rs c.loop.rest.now))
-      (take_next c.args.count c.loop.counter read (omega arith))
+    (take_next c.args.count c.loop.counter read (omega arith))
     ∙ first_fails c.loop.values read (replicate (c.args.count - (c.loop.counter + 1)) read) c.loop.rest.now why e)
     c.in_err-value.ensures.err
 
@@ -47,9 +47,9 @@ items-loop-preserved t c =
     let more = replicate (c.args.count - (c.loop.counter + 1)) read in
     c.loop.invariant
     ∙ ap (λ rs. preceded c.loop.values (in_order rs c.loop.rest.now))
-      (take_next c.args.count c.loop.counter read (omega arith))
+    (take_next c.args.count c.loop.counter read (omega arith))
     ∙ reads_one c.loop.values read more c.loop.rest.now c.in_ok-value.value c.in_ok-value.after.now
-      c.in_ok-value.ensures.ok
+    c.in_ok-value.ensures.ok
     ∙ ap (λ vs. preceded vs (in_order more c.in_ok-value.after.now)) (sym c.in_ok-push_towards.ensures.list)
 
 pub pairs-returns-in_err-pair-clause-err : goal.pairs-returns-in_err-pair-clause-err
@@ -59,7 +59,7 @@ pairs-returns-in_err-pair-clause-err t c =
     (λ why e.
     c.loop.invariant
     ∙ ap (λ rs. preceded c.loop.values (in_order rs c.loop.rest.now))
-      (take_next c.args.count c.loop.counter read (omega arith))
+    (take_next c.args.count c.loop.counter read (omega arith))
     ∙ first_fails c.loop.values read (replicate (c.args.count - (c.loop.counter + 1)) read) c.loop.rest.now why e)
     c.in_err-pair.ensures.err
 
@@ -69,9 +69,9 @@ pairs-loop-preserved t c =
     let more = replicate (c.args.count - (c.loop.counter + 1)) read in
     c.loop.invariant
     ∙ ap (λ rs. preceded c.loop.values (in_order rs c.loop.rest.now))
-      (take_next c.args.count c.loop.counter read (omega arith))
+    (take_next c.args.count c.loop.counter read (omega arith))
     ∙ reads_one c.loop.values read more c.loop.rest.now c.in_ok-pair.pair c.in_ok-pair.after.now
-      c.in_ok-pair.ensures.ok
+    c.in_ok-pair.ensures.ok
     ∙ ap (λ vs. preceded vs (in_order more c.in_ok-pair.after.now)) (sym c.in_ok-push_towards.ensures.list)
 
 pub value_by-returns-in_err-values-in-Composite-clause-err : goal.value_by-returns-in_err-values-in-Composite-clause-err
@@ -89,3 +89,42 @@ value_by-returns-in_ok-values-in-Composite-clause-ok t c =
     composite_is c.args.left c.args.table.now c.args.definition.now c.in-Composite.composite c.as_slice.result.now
     c.args.input.now c.in-Composite.is c.as_slice.ensures
     ∙ ap (λ o. outcome_map dyn.Record o) c.in_ok-values-in-Composite.ensures.ok
+
+pub value_by-returns-in-Variant-clause-err : goal.value_by-returns-in-Variant-clause-err
+value_by-returns-in-Variant-clause-err t c =
+    let by_variants =
+    variant_is c.args.left c.args.table.now c.args.definition.now c.in-Variant.choice
+    c.as_slice-in-Variant.result.now c.args.input.now c.in-Variant.is c.as_slice-in-Variant.ensures
+    in
+    rw by_variants c.variant.ensures.err
+
+pub variant-returns-in-None-clause-err : goal.variant-returns-in-None-clause-err
+variant-returns-in-None-clause-err t c =
+    let none : find (λ v. v.index == c.in_ok-index.index) c.args.variants.now ≡ None = grind (arith, common_steps) in
+    variant_missing c.args.left c.args.table.now c.args.variants.now c.args.input.now c.in_ok-index.rest.now
+    c.in_ok-index.index c.in_ok-index.ensures.ok none
+
+pub variant-returns-in_err-fields-in-Some-clause-err : goal.variant-returns-in_err-fields-in-Some-clause-err
+variant-returns-in_err-fields-in-Some-clause-err t c =
+    let some : find (λ v. v.index == c.in_ok-index.index) c.args.variants.now ≡ Some c.in-Some.variant.now =
+    grind (arith, common_steps) in
+    passed c.from_residual-in_err-fields-in-Some.result c.in_err-fields-in-Some.field-0.0
+    c.from_residual-in_err-fields-in-Some.ensures.1
+    (fields_within c.args.left c.args.table.now c.as_slice.result.now c.in_ok-index.rest.now) _
+    (λ why e.
+    variant_found c.args.left c.args.table.now c.args.variants.now c.args.input.now c.in_ok-index.rest.now
+    c.in_ok-index.index c.in-Some.variant.now c.as_slice.result.now c.in_ok-index.ensures.ok some c.as_slice.ensures
+    ∙ ap (λ o. outcome_map (λ values. dyn.Variant c.in-Some.variant.now.name c.in_ok-index.index values) o) e)
+    c.in_err-fields-in-Some.ensures.err
+
+pub variant-returns-in_ok-name-in-Some-clause-ok : goal.variant-returns-in_ok-name-in-Some-clause-ok
+variant-returns-in_ok-name-in-Some-clause-ok t c =
+    let some : find (λ v. v.index == c.in_ok-index.index) c.args.variants.now ≡ Some c.in-Some.variant.now =
+    grind (arith, common_steps) in
+    variant_found c.args.left c.args.table.now c.args.variants.now c.args.input.now c.in_ok-index.rest.now
+    c.in_ok-index.index c.in-Some.variant.now c.as_slice.result.now c.in_ok-index.ensures.ok some c.as_slice.ensures
+    ∙ ap (λ o. outcome_map (λ values. dyn.Variant c.in-Some.variant.now.name c.in_ok-index.index values) o)
+    c.in_ok-fields-in-Some.ensures.ok
+    ∙ ap (λ name.
+    decoded (dyn.Variant name c.in_ok-index.index c.in_ok-fields-in-Some.fields) c.in_ok-fields-in-Some.rest.now)
+    (sym c.in_ok-name-in-Some.ensures)

@@ -1,6 +1,6 @@
 use Rattle.std.proofs.Common.{refl}
 use Rattle.scale_info_value.specs.Readings.{value_within, compact_within}
-use Rattle.scale_info_value.proofs.laws.examples.primitives.Goals as goal
+use Rattle.scale_info_value.proofs.laws.examples.numbers.Goals as goal
 
 pub returns-clause-one : goal.returns-clause-one
 unfolding value_within compact_within
@@ -33,7 +33,3 @@ returns-clause-minus_one c = refl
 pub returns-clause-least : goal.returns-clause-least
 unfolding value_within compact_within
 returns-clause-least c = refl
-
-pub returns-clause-text : goal.returns-clause-text
-unfolding value_within compact_within
-returns-clause-text c = refl
