@@ -1,8 +1,7 @@
 //! Values as deep as a value may be, and deeper.
 use crate::rows::print_outcome;
-use scale_info::PortableRegistry;
 use scale_info::impls::Compact;
-use scale_info::Scale;
+use scale_info::{PortableRegistry, Scale};
 use std::alloc::Global;
 use std::test::Fail;
 
@@ -50,7 +49,7 @@ fn a_value_is_at_most_128_deep(rt: HostRuntime) -> Result<(), Fail> {
     assert_eq!(rt; deepest.as_slice(), printed(alloc, 127)?.as_slice());
     let deeper = chain(alloc, 128)?;
     let too_deep = print_outcome(alloc, &deeper, 0, &nested(alloc, 128)?)?;
-    assert_eq!(rt; too_deep.as_slice(), b"TooDeep");
+    assert_eq!(rt; too_deep.as_slice(), b"TooDeep".as_slice());
     Ok(())
 }
 
@@ -58,6 +57,6 @@ fn a_value_is_at_most_128_deep(rt: HostRuntime) -> Result<(), Fail> {
 fn an_empty_list_of_the_same_chain_is_decoded(rt: HostRuntime) -> Result<(), Fail> {
     let alloc = rt.alloc();
     let empty = print_outcome(alloc, &chain(alloc, 128)?, 0, &[0])?;
-    assert_eq!(rt; empty.as_slice(), b"[]");
+    assert_eq!(rt; empty.as_slice(), b"[]".as_slice());
     Ok(())
 }

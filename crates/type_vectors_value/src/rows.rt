@@ -3,6 +3,7 @@ use scale_info::PortableRegistry;
 use scale_info::value::decode_value;
 use scale_info_value_callers::print::print_decoded;
 use std::alloc::Global;
+use std::io::Write;
 use std::process::Abort;
 use std::test::Fail;
 

@@ -24,7 +24,7 @@ fn a_variant_has_its_name_its_index_and_its_fields(rt: HostRuntime) -> Result<()
     };
     let (value, rest) = decode_value(alloc, &table, 2, &[1, 5, 0, 0, 0, 1, 9])?;
     assert!(rt; value == wanted);
-    assert_eq!(rt; rest, &[9]);
+    assert_eq!(rt; rest, [9u8].as_slice());
     Ok(())
 }
 
@@ -33,6 +33,9 @@ fn an_error_is_returned(rt: HostRuntime) -> Result<(), Fail> {
     let alloc = rt.alloc();
     let table_bytes = bytes(alloc, OPTION)?;
     let (table, _) = PortableRegistry::decode(alloc, &table_bytes)?;
-    assert_eq!(rt; decode_value(alloc, &table, 2, &[2]).err(), Some(ValueError::Malformed));
+    assert_eq!(rt;
+        decode_value(alloc, &table, 2, &[2]).err(),
+        Some(ValueError::Malformed)
+    );
     Ok(())
 }
