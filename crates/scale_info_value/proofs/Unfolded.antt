@@ -1,5 +1,6 @@
--- What unfolds alike reads alike.
-use Rattle.std.proofs.Common.{◌≡◌, ℕ, zero, suc, ◌-◌, List, [], ◌∷◌, map, Option, Some, None, option_map, slice_get, refl, ap, sym, subst, ◌∙◌, arith}
+-- What unfolds alike is decoded alike.
+use Rattle.std.proofs.Common.{◌≡◌, ℕ, zero, suc, ◌-◌, List, [], ◌∷◌, map, Option, Some, None}
+use Rattle.std.proofs.Common.{option_map, slice_get, refl, ap, sym, subst, ◌∙◌, arith}
 use Rattle.scale_info_numberings.specs.Tables.{IsTable, table_system}
 use Rattle.scale_info_numberings.proofs.Tables.{unfolds_alike}
 use Rattle.std.proofs.lemmas.Option.{slice_get-map}
@@ -16,7 +17,7 @@ use Rattle.scale_info_value.specs.Definitions.{Part, value_by, compact_by}
 use Rattle.scale_info_value.specs.Readings.{compact_by_type, value_by_type, compact_within, value_within, reading}
 use Rattle.scale_info_types.proofs.ShapeAndReferences.{shape_and_references}
 
--- references that unfold alike read alike, one by one
+-- references that unfold alike are decoded alike, one by one
 same_references :
     {X : Type 0} (f g : ℕ → Tree Shape) (read other : ℕ → X) → ((m n : ℕ) → f m ≡ g n → read m ≡ other n)
     → (ms ns : List Id) → trees f (map (λ r. r.id) ms) ≡ trees g (map (λ r. r.id) ns)
@@ -34,7 +35,8 @@ same_references f g read other law (m ∷ ms) (n ∷ ns) e =
 same_entries :
     {X : Type 0} (f g : ℕ → Tree Shape) (read other : ℕ → X) → ((m n : ℕ) → f m ≡ g n → read m ≡ other n)
     → (d e : PortableType) → tree_of f (Some (entry_of d)) ≡ tree_of g (Some (entry_of e))
-    → map_definition {G = Unit {0}} (λ r. read r.id) (λ t. t) d.ty.type_def ≡ map_definition {G = Unit {0}} (λ r. other r.id) (λ t. t) e.ty.type_def
+    → map_definition {G = Unit {0}} (λ r. read r.id) (λ t. t) d.ty.type_def
+    ≡ map_definition {G = Unit {0}} (λ r. other r.id) (λ t. t) e.ty.type_def
 same_entries f g read other law d e h =
     let shapes : shape (λ t. t) d.ty ≡ shape (λ t. t) e.ty = cc in
     let kids : trees f (map (λ r. r.id) (references d.ty)) ≡ trees g (map (λ r. r.id) (references e.ty)) = cc in
@@ -46,22 +48,27 @@ compact_step :
     (f g : ℕ → Tree Shape) (read other : ℕ → Decoder ℕ) → ((m n : ℕ) → f m ≡ g n → read m ≡ other n)
     → (o p : Option PortableType) → tree_of f (option_map entry_of o) ≡ tree_of g (option_map entry_of p)
     → (input : List ℕ)
-    → compact_by_type read (option_map (λ entry. entry.ty) o) input ≡ compact_by_type other (option_map (λ entry. entry.ty) p) input
+    → compact_by_type read (option_map (λ entry. entry.ty) o) input
+    ≡ compact_by_type other (option_map (λ entry. entry.ty) p) input
 compact_step f g read other law None None h input = refl
 compact_step f g read other law None (Some e) h input = cc
 compact_step f g read other law (Some d) None h input = cc
-compact_step f g read other law (Some d) (Some e) h input = ap (λ t. compact_by t input) (same_entries f g read other law d e h)
+compact_step f g read other law (Some d) (Some e) h input = ap (λ t. compact_by t input)
+    (same_entries f g read other law d e h)
 
 value_step :
     (f g : ℕ → Tree Shape) (read other : ℕ → Part) → ((m n : ℕ) → f m ≡ g n → read m ≡ other n)
     → (o p : Option PortableType) → tree_of f (option_map entry_of o) ≡ tree_of g (option_map entry_of p)
     → (input : List ℕ)
-    → value_by_type read (option_map (λ entry. entry.ty) o) input ≡ value_by_type other (option_map (λ entry. entry.ty) p) input
+    → value_by_type read (option_map (λ entry. entry.ty) o) input
+    ≡ value_by_type other (option_map (λ entry. entry.ty) p) input
 value_step f g read other law None None h input = refl
 value_step f g read other law None (Some e) h input = cc
 value_step f g read other law (Some d) None h input = cc
-value_step f g read other law (Some d) (Some e) h input = ap (λ t. value_by t input) (same_entries f g read other law d e h)
+value_step f g read other law (Some d) (Some e) h input = ap (λ t. value_by t input)
+    (same_entries f g read other law d e h)
 
+-- where two ids unfold alike, compact numbers are decoded alike
 pub compact_unfolded :
     (left : ℕ) (table other : PortableRegistry) (m n : ℕ)
     → unfold_to left (system_of table) m ≡ unfold_to left (system_of other) n
@@ -69,11 +76,14 @@ pub compact_unfolded :
 unfolding compact_within
 compact_unfolded zero table other m n h = refl
 compact_unfolded (suc left) table other m n h =
-    let e = compact_step (unfold_to left (system_of table)) (unfold_to left (system_of other)) (compact_within left table) (compact_within left other)
+    let e = compact_step (unfold_to left (system_of table)) (unfold_to left (system_of other))
+    (compact_within left table) (compact_within left other)
     (compact_unfolded left table other) (slice_get table.types m) (slice_get other.types n) h in
     λ i input. e input i
 
-same_kids : (f g f' g' : ℕ → Tree Shape) → ((m n : ℕ) → f m ≡ g n → f' m ≡ g' n) → (ms ns : List ℕ) → trees f ms ≡ trees g ns → trees f' ms ≡ trees g' ns
+same_kids :
+    (f g f' g' : ℕ → Tree Shape) → ((m n : ℕ) → f m ≡ g n → f' m ≡ g' n) → (ms ns : List ℕ) → trees f ms
+    ≡ trees g ns → trees f' ms ≡ trees g' ns
 same_kids f g f' g' law [] [] e = refl
 same_kids f g f' g' law [] (n ∷ ns) e = cc
 same_kids f g f' g' law (m ∷ ms) [] e = cc
@@ -97,10 +107,14 @@ same_trees f g f' g' law (Some d) (Some e) h =
     λ i. node (shapes i) (less i)
 
 -- what unfolds alike to a depth does so to one less
-less_deep : (k : ℕ) (S U : System Shape ℕ) (m n : ℕ) → unfold_to (suc k) S m ≡ unfold_to (suc k) U n → unfold_to k S m ≡ unfold_to k U n
+less_deep :
+    (k : ℕ) (S U : System Shape ℕ) (m n : ℕ) → unfold_to (suc k) S m ≡ unfold_to (suc k) U n → unfold_to k S m
+    ≡ unfold_to k U n
 less_deep zero S U m n h = refl
-less_deep (suc k) S U m n h = same_trees (unfold_to (suc k) S) (unfold_to (suc k) U) (unfold_to k S) (unfold_to k U) (less_deep k S U) (S m) (U n) h
+less_deep (suc k) S U m n h = same_trees (unfold_to (suc k) S) (unfold_to (suc k) U) (unfold_to k S) (unfold_to k U)
+    (less_deep k S U) (S m) (U n) h
 
+-- where two ids unfold alike one level deeper, values are decoded alike
 pub value_unfolded :
     (left : ℕ) (table other : PortableRegistry) (m n : ℕ)
     → unfold_to (suc left) (system_of table) m ≡ unfold_to (suc left) (system_of other) n
@@ -109,8 +123,18 @@ unfolding value_within
 value_unfolded zero table other m n h = refl
 value_unfolded (suc zero) table other m n h =
     let e = value_step (unfold_to 1 (system_of table)) (unfold_to 1 (system_of other))
-    (λ r. record { value = λ bytes. failed too_deep; inner = λ bytes. failed too_deep; compact = compact_within 1 table r })
-    (λ r. record { value = λ bytes. failed too_deep; inner = λ bytes. failed too_deep; compact = compact_within 1 other r })
+    (λ r. record {
+      value = λ bytes. failed too_deep;
+      inner = λ bytes. failed too_deep;
+      compact = compact_within 1 table
+          r;
+    })
+    (λ r. record {
+      value = λ bytes. failed too_deep;
+      inner = λ bytes. failed too_deep;
+      compact = compact_within 1 other
+          r;
+    })
     (λ r s same.
     let level = compact_unfolded 1 table other r s same in
     λ i. record { value = λ bytes. failed too_deep; inner = λ bytes. failed too_deep; compact = level i })
@@ -118,11 +142,22 @@ value_unfolded (suc zero) table other m n h =
     λ i input. e input i
 value_unfolded (suc (suc left)) table other m n h =
     let e = value_step (unfold_to (suc (suc left)) (system_of table)) (unfold_to (suc (suc left)) (system_of other))
-    (λ r. record { value = value_within (suc left) table r; inner = value_within left table r; compact = compact_within (suc (suc left)) table r })
-    (λ r. record { value = value_within (suc left) other r; inner = value_within left other r; compact = compact_within (suc (suc left)) other r })
+    (λ r. record {
+      value = value_within (suc left) table r;
+      inner = value_within left table r;
+      compact = compact_within
+          (suc (suc left)) table r;
+    })
+    (λ r. record {
+      value = value_within (suc left) other r;
+      inner = value_within left other r;
+      compact = compact_within
+          (suc (suc left)) other r;
+    })
     (λ r s same.
     let deeper = value_unfolded (suc left) table other r s same in
-    let inner = value_unfolded left table other r s (less_deep (suc left) (system_of table) (system_of other) r s same) in
+    let inner = value_unfolded left table other r s (less_deep (suc left) (system_of table) (system_of other) r s same)
+    in
     let level = compact_unfolded (suc (suc left)) table other r s same in
     λ i. record { value = deeper i; inner = inner i; compact = level i })
     (slice_get table.types m) (slice_get other.types n) h in
@@ -135,19 +170,23 @@ by_levels :
 unfolding value_within
 by_levels table other id index zero more e h input = refl
 by_levels table other id index (suc k) more e h input =
-    let same = value_unfolded (suc k) table other id index (subst (λ n. unfold_to n (system_of table) id ≡ unfold_to n (system_of other) index) (e k refl) h) in
+    let same = value_unfolded (suc k) table other id index (subst (λ n. unfold_to n (system_of table) id
+    ≡ unfold_to n (system_of other) index) (e k refl) h) in
     λ i. same i input
 
+-- the same at a depth
 pub unfolding_decides :
     (table other : PortableRegistry) (id index depth : ℕ)
     → unfold_to (130 - depth) (system_of table) id ≡ unfold_to (130 - depth) (system_of other) index
     → (input : List ℕ) → reading table id depth input ≡ reading other index depth input
-unfolding_decides table other id index depth h input = by_levels table other id index (129 - depth) (130 - depth) (λ k e. omega arith) h input
+unfolding_decides table other id index depth h input = by_levels table other id index (129 - depth) (130 - depth)
+    (λ k e. omega arith) h input
 
 -- a table and the list of its pairs are one system
 one_system : (table : PortableRegistry) → system_of table ≡ table_system (map entry_of table.types)
 one_system table = λ i index. sym (slice_get-map entry_of table.types index) i
 
+-- a table of nodes decodes as the system of the nodes
 pub reads_alike :
     (old new : PortableRegistry) (kept : List ℕ) → IsTable (system_of old) kept (map entry_of new.types)
     → (index id : ℕ) → slice_get kept index ≡ Some id

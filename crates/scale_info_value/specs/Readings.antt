@@ -1,5 +1,6 @@
 -- What comes of decoding a value by a table.
-use Rattle.std.specs.Prelude.{ℕ, zero, suc, ◌-◌, List, Option, Some, None, option_map, slice_get, map}
+use Rattle.std.specs.Prelude.{ℕ, zero, suc, ◌-◌, List, Option, Some, None, option_map, slice_get}
+use Rattle.std.specs.Prelude.{map}
 use Rattle.scale_info_types.specs.Portable.{Id, Field, Variant, TypeDef, Description}
 use Rattle.scale_info_types.specs.Shapes.{map_definition, map_field, map_variant}
 use Rattle.scale_info_tables.specs.declared.portable.PortableRegistry.{PortableRegistry}

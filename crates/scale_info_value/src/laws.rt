@@ -40,7 +40,8 @@ pub fn reads_alike()
     ensures { (old new : PortableRegistry) (kept : List ℕ)
         → IsTable (system_of old) kept (map entry_of new.types)
         → (index id : ℕ) → slice_get kept index ≡ Some id
-        → (depth : ℕ) (input : List ℕ) → reading new index depth input ≡ reading old id depth input }
+        → (depth : ℕ) (input : List ℕ)
+        → reading new index depth input ≡ reading old id depth input }
 {}
 
 /// A count of items or of bytes is a compact number of the grammar of tables: each encoding is

@@ -56,7 +56,8 @@ pub(crate) fn number(width: usize, input: &[u8]) -> Result<(u128, &[u8]), ValueE
 fn compact_after(mode: u8, high: u8, input: &[u8]) -> Result<(u128, &[u8]), ValueError>
     requires mode { mode < 4 }
     requires high { high < 64 }
-    ensures ok { IfOk result (λ found. compact_after mode high input.now ≡ decoded found.0 found.1.now) }
+    ensures ok { IfOk result
+        (λ found. compact_after mode high input.now ≡ decoded found.0 found.1.now) }
     ensures err { IfErr result (IsErrorOf (compact_after mode high input.now)) }
 {
     match mode {
@@ -102,7 +103,8 @@ fn compact(input: &[u8]) -> Result<(u128, &[u8]), ValueError>
 
 /// A compact number that is at most this one, and the rest.
 pub(crate) fn compact_up_to(most: u128, input: &[u8]) -> Result<(u128, &[u8]), ValueError>
-    ensures ok { IfOk result (λ found. compact_below (most + 1) input.now ≡ decoded found.0 found.1.now) }
+    ensures ok { IfOk result
+        (λ found. compact_below (most + 1) input.now ≡ decoded found.0 found.1.now) }
     ensures bound { IfOk result (λ found. found.0 ≤ most) }
     ensures err { IfErr result (IsErrorOf (compact_below (most + 1) input.now)) }
 {

@@ -40,7 +40,8 @@ fn truth(input: &[u8]) -> Result<(Dyn, &[u8]), ValueError>
 /// A number of an unsigned type with so many bytes, and the rest.
 fn unsigned(width: usize, input: &[u8]) -> Result<(Dyn, &[u8]), ValueError>
     requires { width ≤ 16 }
-    ensures ok { IfOk result (λ found. outcome_map dyn.Unsigned (number width input.now) ≡ decoded found.0 found.1.now) }
+    ensures ok { IfOk result
+        (λ found. outcome_map dyn.Unsigned (number width input.now) ≡ decoded found.0 found.1.now) }
     ensures err { IfErr result (IsErrorOf (outcome_map dyn.Unsigned (number width input.now))) }
 {
     let (n, rest) = number(width, input)?;
@@ -95,7 +96,8 @@ pub(crate) fn compact_primitive<'a>(
     kind: &TypeDefPrimitive,
     input: &'a [u8],
 ) -> Result<(u128, &'a [u8]), ValueError>
-    ensures ok { IfOk result (λ found. compact_primitive kind.now input.now ≡ decoded found.0 found.1.now) }
+    ensures ok { IfOk result
+        (λ found. compact_primitive kind.now input.now ≡ decoded found.0 found.1.now) }
     ensures err { IfErr result (IsErrorOf (compact_primitive kind.now input.now)) }
 {
     match kind {

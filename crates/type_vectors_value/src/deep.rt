@@ -6,12 +6,12 @@ use std::alloc::Global;
 use std::test::Fail;
 
 /// The table of so many sequences, each of the next, and then `bool`.
-fn chain(alloc: Global, sequences: u32) -> Result<PortableRegistry, Fail> {
+fn chain(alloc: Global, sequences: u8) -> Result<PortableRegistry, Fail> {
     let mut bytes = Vec::new(alloc);
-    Compact(sequences + 1).encode_to(&mut bytes)?;
+    Compact(sequences as u32 + 1).encode_to(&mut bytes)?;
     for index in 0..sequences {
         bytes.extend_from_slice(&[0, 0, 0, 2])?;
-        Compact(index + 1).encode_to(&mut bytes)?;
+        Compact(index as u32 + 1).encode_to(&mut bytes)?;
         bytes.push(0)?;
     }
     bytes.extend_from_slice(&[0, 0, 0, 5, 0, 0])?;
