@@ -1,6 +1,8 @@
 //! Values decoded by the definitions of their types.
-ghost use Rattle.std.specs.Prelude.{◌≡◌, ◌≤◌, ◌==◌, IfOk, IfErr, find};
+ghost use Rattle.std.specs.Prelude.{◌≡◌, ◌≤◌, ◌==◌, ◌∷◌, [], IfOk, IfErr, find};
 ghost use Rattle.std.specs.Option.{option_copied};
+ghost use Rattle.scale_info_value.specs.declared.value.Dyn.TheVariants as dyn;
+ghost use Rattle.scale_info_value.specs.declared.value.ValueError.TheVariants as error;
 ghost use Rattle.scale_info_value.specs.Outcomes.{decoded, IsErrorOf};
 ghost use Rattle.scale_info_value.specs.Readings.{compact_within, compact_definition_within};
 ghost use Rattle.scale_info_value.specs.Readings.{value_within, definition_within, fields_within};
@@ -319,6 +321,17 @@ fn pairs<'a>(
     Ok((values, rest))
 }
 
+/// The list of a key and a value.
+fn list_of_two(alloc: Global, key: Dyn, value: Dyn) -> Result<Dyn, ValueError>
+    ensures ok { IfOk result (λ pair. pair ≡ dyn.List (key ∷ value ∷ [])) }
+    ensures err { IfErr result (λ e. e ≡ error.Memory) }
+{
+    let mut pair = Items::with_capacity(alloc, 2)?;
+    pair.push(key)?;
+    pair.push(value)?;
+    Ok(Dyn::List(pair))
+}
+
 /// A key and a value, and the rest.
 #[cycle(value)]
 fn pair<'a>(
@@ -339,8 +352,5 @@ fn pair<'a>(
     let inner = left.saturating_sub(2);
     let (key, rest) = value_within(alloc, table, key.id, inner, input)?;
     let (value, rest) = value_within(alloc, table, value.id, inner, rest)?;
-    let mut pair = Items::with_capacity(alloc, 2)?;
-    pair.push(key)?;
-    pair.push(value)?;
-    Ok((Dyn::List(pair), rest))
+    Ok((list_of_two(alloc, key, value)?, rest))
 }

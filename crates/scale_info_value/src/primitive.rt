@@ -3,7 +3,9 @@ ghost use Rattle.std.specs.Prelude.{◌≡◌, ◌≤◌, IfOk, IfErr};
 ghost use Rattle.scale_info_value.specs.declared.value.Dyn.TheVariants as dyn;
 ghost use Rattle.scale_info_value.specs.Outcomes.{decoded, outcome_map, IsErrorOf};
 ghost use Rattle.scale_info_value.specs.Numbers.{number};
-ghost use Rattle.scale_info_value.specs.Definitions.{truth, text, primitive, compact_primitive};
+ghost use Rattle.std.specs.Int.{w8, w16, w32, w64, w128};
+ghost use Rattle.scale_info_value.specs.Definitions.{truth, text, signed, primitive};
+ghost use Rattle.scale_info_value.specs.Definitions.{compact_primitive};
 
 use crate::number::{byte, bytes, compact_up_to, count, number};
 use crate::value::{Dyn, ValueError};
@@ -48,6 +50,51 @@ fn unsigned(width: usize, input: &[u8]) -> Result<(Dyn, &[u8]), ValueError>
     Ok((Dyn::Unsigned(n), rest))
 }
 
+/// A number of 8 bits with a sign, and the rest.
+fn signed_8(input: &[u8]) -> Result<(Dyn, &[u8]), ValueError>
+    ensures ok { IfOk result (λ found. signed w8 input.now ≡ decoded found.0 found.1.now) }
+    ensures err { IfErr result (IsErrorOf (signed w8 input.now)) }
+{
+    let (n, rest) = number(1, input)?;
+    Ok((Dyn::Signed((n as u8).cast_signed() as i128), rest))
+}
+
+/// A number of 16 bits with a sign, and the rest.
+fn signed_16(input: &[u8]) -> Result<(Dyn, &[u8]), ValueError>
+    ensures ok { IfOk result (λ found. signed w16 input.now ≡ decoded found.0 found.1.now) }
+    ensures err { IfErr result (IsErrorOf (signed w16 input.now)) }
+{
+    let (n, rest) = number(2, input)?;
+    Ok((Dyn::Signed((n as u16).cast_signed() as i128), rest))
+}
+
+/// A number of 32 bits with a sign, and the rest.
+fn signed_32(input: &[u8]) -> Result<(Dyn, &[u8]), ValueError>
+    ensures ok { IfOk result (λ found. signed w32 input.now ≡ decoded found.0 found.1.now) }
+    ensures err { IfErr result (IsErrorOf (signed w32 input.now)) }
+{
+    let (n, rest) = number(4, input)?;
+    Ok((Dyn::Signed((n as u32).cast_signed() as i128), rest))
+}
+
+/// A number of 64 bits with a sign, and the rest.
+fn signed_64(input: &[u8]) -> Result<(Dyn, &[u8]), ValueError>
+    ensures ok { IfOk result (λ found. signed w64 input.now ≡ decoded found.0 found.1.now) }
+    ensures err { IfErr result (IsErrorOf (signed w64 input.now)) }
+{
+    let (n, rest) = number(8, input)?;
+    Ok((Dyn::Signed((n as u64).cast_signed() as i128), rest))
+}
+
+/// A number of 128 bits with a sign, and the rest.
+fn signed_128(input: &[u8]) -> Result<(Dyn, &[u8]), ValueError>
+    ensures ok { IfOk result (λ found. signed w128 input.now ≡ decoded found.0 found.1.now) }
+    ensures err { IfErr result (IsErrorOf (signed w128 input.now)) }
+{
+    let (n, rest) = number(16, input)?;
+    Ok((Dyn::Signed(n.cast_signed()), rest))
+}
+
 /// A value of a primitive type, and the rest.
 pub(crate) fn primitive<'a>(
     alloc: Global,
@@ -65,26 +112,11 @@ pub(crate) fn primitive<'a>(
         TypeDefPrimitive::U32 => unsigned(4, input),
         TypeDefPrimitive::U64 => unsigned(8, input),
         TypeDefPrimitive::U128 => unsigned(16, input),
-        TypeDefPrimitive::I8 => {
-            let (n, rest) = number(1, input)?;
-            Ok((Dyn::Signed((n as u8).cast_signed() as i128), rest))
-        }
-        TypeDefPrimitive::I16 => {
-            let (n, rest) = number(2, input)?;
-            Ok((Dyn::Signed((n as u16).cast_signed() as i128), rest))
-        }
-        TypeDefPrimitive::I32 => {
-            let (n, rest) = number(4, input)?;
-            Ok((Dyn::Signed((n as u32).cast_signed() as i128), rest))
-        }
-        TypeDefPrimitive::I64 => {
-            let (n, rest) = number(8, input)?;
-            Ok((Dyn::Signed((n as u64).cast_signed() as i128), rest))
-        }
-        TypeDefPrimitive::I128 => {
-            let (n, rest) = number(16, input)?;
-            Ok((Dyn::Signed(n.cast_signed()), rest))
-        }
+        TypeDefPrimitive::I8 => signed_8(input),
+        TypeDefPrimitive::I16 => signed_16(input),
+        TypeDefPrimitive::I32 => signed_32(input),
+        TypeDefPrimitive::I64 => signed_64(input),
+        TypeDefPrimitive::I128 => signed_128(input),
         TypeDefPrimitive::Char | TypeDefPrimitive::U256 | TypeDefPrimitive::I256 => {
             Err(ValueError::Unsupported)
         }
