@@ -27,3 +27,6 @@ pub use scale_info_types::laws::{
     ordered_definitions, ordered_primitives, same_shape_same_counts, shape_and_references,
     shape_and_references_of,
 };
+pub use scale_info_value::laws::{
+    counts_as_in_tables, reads_alike, texts_as_in_tables, unfolding_decides,
+};

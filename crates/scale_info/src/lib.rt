@@ -24,3 +24,4 @@ pub use scale_info_types::ty::{
     TypeParameter,
 };
 pub use scale_info_types::{form, impls, meta_type, ty};
+pub use scale_info_value::value;

@@ -14,38 +14,42 @@ use Rattle.scale_info_types.proofs.Injective.{composite_parts, variant_parts, se
 use Rattle.scale_info_types.proofs.Injective.{array_parts, tuple_parts, primitive_parts}
 use Rattle.scale_info_types.proofs.Injective.{compact_parts, bit_sequence_parts, map_parts}
 
--- two values of one shape agree: their references, with anything after them, are equal exactly
--- where the values' contents and what comes after are
-abbrev pub Agree : {A B C R : Type 0} → (A → B) → (A → C) → (A → List R) → Type 0
-Agree {A} {B} {C} {R} short full refs =
+-- two values of one shape agree: the references of the one, read by f, and those of the other, read
+-- by g, with anything after them, are equal exactly where the values so read and what comes after are
+abbrev pub Agree :
+    {A B C T R : Type 0}
+    → (T → R) → (T → R) → (A → B) → ((T → R) → A → C) → ((T → R) → A → List R) → Type 0
+Agree {A} {B} {C} {T} {R} f g short full refs =
     (a b : A) (x y : List R)
-    → ((short a ≡ short b) × (refs a ++ x ≡ refs b ++ y)) ↔ ((full a ≡ full b) × (x ≡ y))
+    → ((short a ≡ short b) × (refs f a ++ x ≡ refs g b ++ y)) ↔ ((full f a ≡ full g b) × (x ≡ y))
 
 -- lists, whose references are those of the items, joined
-module _ {A B C R : Type 0} (short : A → B) (full : A → C) (refs : A → List R) (all : List A → List R)
-    (none : all [] ≡ []) (more : (p : A) (ps : List A) → all (p ∷ ps) ≡ refs p ++ all ps)
-    (law : Agree short full refs) where
+module _ {A B C T R : Type 0} (f g : T → R) (short : A → B) (full : (T → R) → A → C)
+    (refs : (T → R) → A → List R) (all : (T → R) → List A → List R)
+    (none : (r : T → R) → all r [] ≡ [])
+    (more : (r : T → R) (p : A) (ps : List A) → all r (p ∷ ps) ≡ refs r p ++ all r ps)
+    (law : Agree f g short full refs) where
   -- if the elements agree, so do lists of them
-  pub agree_list : Agree (map short) (map full) all
-  agree_list [] [] x y = rw none ((λ h. (refl, h.1)), (λ h. (refl, h.1)))
+  pub agree_list : Agree f g (map short) (λ r. map (full r)) all
+  agree_list [] [] x y = rw (none f, none g) ((λ h. (refl, h.1)), (λ h. (refl, h.1)))
   agree_list [] (q ∷ qs) x y = ((λ h. cc), (λ h. cc))
   agree_list (p ∷ ps) [] x y = ((λ h. cc), (λ h. cc))
   agree_list (p ∷ ps) (q ∷ qs) x y =
       let rest = agree_list ps qs x y in
-      let first = law p q (all ps ++ x) (all qs ++ y) in
-      rw (more p ps, more q qs, append_assoc (refs p) (all ps) x, append_assoc (refs q) (all qs) y) (
+      let first = law p q (all f ps ++ x) (all g qs ++ y) in
+      rw (more f p ps, more g q qs, append_assoc (refs f p) (all f ps) x, append_assoc (refs g q) (all g qs) y) (
         (λ h.
             let e : short p ≡ short q = cc in
             let es : map short ps ≡ map short qs = cc in
-            let f = first.0 (e, h.1) in
-            let r = rest.0 (es, f.1) in
-            (λ i. f.0 i ∷ r.0 i, r.1)),
+            let s = first.0 (e, h.1) in
+            let r = rest.0 (es, s.1) in
+            (λ i. s.0 i ∷ r.0 i, r.1)),
         (λ h.
-            let e : full p ≡ full q = cc in
-            let es : map full ps ≡ map full qs = cc in
+            let e : full f p ≡ full g q = cc in
+            let es : map (full f) ps ≡ map (full g) qs = cc in
             let r = rest.1 (es, h.1) in
-            let f = first.1 (e, r.1) in
-            (λ i. f.0 i ∷ r.0 i, f.1)),
+            let s = first.1 (e, r.1) in
+            (λ i. s.0 i ∷ r.0 i, s.1)),
       )
 
 -- a larger value with one part that has references
@@ -62,36 +66,37 @@ agree_inside short full open_short open_full law = (
 
 -- where nothing comes after
 pub agree_whole :
-    {A B C R : Type 0} (short : A → B) (full : A → C) (refs : A → List R) → Agree short full refs
-    → (a b : A) → ((short a ≡ short b) × (refs a ≡ refs b)) ↔ (full a ≡ full b)
-agree_whole short full refs law a b =
-    let h = rw (append-nil (refs a), append-nil (refs b)) at (law a b [] []) in
+    {A B C T R : Type 0} (f g : T → R) (short : A → B) (full : (T → R) → A → C) (refs : (T → R) → A → List R)
+    → Agree f g short full refs
+    → (a b : A) → ((short a ≡ short b) × (refs f a ≡ refs g b)) ↔ (full f a ≡ full g b)
+agree_whole f g short full refs law a b =
+    let h = rw (append-nil (refs f a), append-nil (refs g b)) at (law a b [] []) in
     ((λ e. (h.0 e).0), (λ e. h.1 (e, refl)))
 
-module _ {T R : Type 0} (reference : T → R) where
-  agree_type : Agree {B = Unit {0}} (λ t. tt) reference (λ t. reference t ∷ [])
+module _ {T R : Type 0} (f g : T → R) where
+  agree_type : Agree {B = Unit {0}} f g (λ t. tt) (λ r. r) (λ r t. r t ∷ [])
   agree_type a b x y =
-      ((λ h. let e : reference a ≡ reference b = cc in let es : x ≡ y = cc in (e, es)), (λ h. (refl, λ i. h.0 i ∷ h.1 i)))
+      ((λ h. let e : f a ≡ g b = cc in let es : x ≡ y = cc in (e, es)), (λ h. (refl, λ i. h.0 i ∷ h.1 i)))
 
   agree_option :
-      Agree {B = Option (Unit {0})} (option_map (λ t. tt)) (option_map reference) (λ t. map reference (option_to_list t))
+      Agree {B = Option (Unit {0})} f g (option_map (λ t. tt)) (λ r. option_map r) (λ r t. map r (option_to_list t))
   agree_option None None x y = ((λ h. (refl, h.1)), (λ h. (refl, h.1)))
   agree_option None (Some b) x y = ((λ h. cc), (λ h. cc))
   agree_option (Some a) None x y = ((λ h. cc), (λ h. cc))
   agree_option (Some a) (Some b) x y = (
-    (λ h. let e : reference a ≡ reference b = cc in let es : x ≡ y = cc in (ap Some e, es)),
-    (λ h. let e : reference a ≡ reference b = cc in (refl, λ i. e i ∷ h.1 i)),
+    (λ h. let e : f a ≡ g b = cc in let es : x ≡ y = cc in (ap Some e, es)),
+    (λ h. let e : f a ≡ g b = cc in (refl, λ i. e i ∷ h.1 i)),
   )
 
-  agree_types : Agree {B = List (Unit {0})} (map (λ t. tt)) (map reference) (map reference)
-  agree_types = agree_list _ _ (λ t. reference t ∷ []) _ refl (λ t ts. refl) agree_type
+  agree_types : Agree {B = List (Unit {0})} f g (map (λ t. tt)) (λ r. map r) (λ r. map r)
+  agree_types = agree_list f g _ (λ r. r) (λ r t. r t ∷ []) (λ r. map r) (λ r. refl) (λ r t ts. refl) agree_type
 
-module _ {F T S R : Type 0} (reference : T → R) (text : S → List ℕ) where
+module _ {F T S R : Type 0} (f g : T → R) (text : S → List ℕ) where
   agree_parameter :
-      Agree (map_parameter {F = F} {G = Unit {0}} {U = Unit {0}} (λ t. tt) text) (map_parameter {G = Unit {0}} reference text)
-      (λ p. map reference (option_to_list p.ty))
+      Agree f g (map_parameter {F = F} {G = Unit {0}} {U = Unit {0}} (λ t. tt) text)
+      (λ r. map_parameter {G = Unit {0}} r text) (λ r p. map r (option_to_list p.ty))
   agree_parameter a b x y =
-      let law = agree_option reference a.ty b.ty x y in (
+      let law = agree_option f g a.ty b.ty x y in (
         (λ h.
             let e = law.0 (ap (λ p. p.ty) h.0, h.1) in
             (λ i. record { name = (h.0 i).name; ty = e.0 i }, e.1)),
@@ -101,25 +106,27 @@ module _ {F T S R : Type 0} (reference : T → R) (text : S → List ℕ) where
       )
 
   agree_field :
-      Agree (map_field {F = F} {G = Unit {0}} {U = Unit {0}} (λ t. tt) text) (map_field {G = Unit {0}} reference text)
-      (λ f. reference f.ty ∷ [])
+      Agree f g (map_field {F = F} {G = Unit {0}} {U = Unit {0}} (λ t. tt) text)
+      (λ r. map_field {G = Unit {0}} r text) (λ r p. r p.ty ∷ [])
   agree_field a b x y =
-      let law = agree_type reference a.ty b.ty x y in (
+      let law = agree_type f g a.ty b.ty x y in (
         (λ h.
             let e = law.0 (refl, h.1) in
             (λ i. record { name = (h.0 i).name; ty = e.0 i; type_name = (h.0 i).type_name; docs = (h.0 i).docs }, e.1)),
         (λ h.
-            (λ i. record { name = (h.0 i).name; ty = tt; type_name = (h.0 i).type_name; docs = (h.0 i).docs }, (law.1 (ap (λ f. f.ty) h.0, h.1)).1)),
+            (λ i. record { name = (h.0 i).name; ty = tt; type_name = (h.0 i).type_name; docs = (h.0 i).docs }, (law.1 (ap (λ p. p.ty) h.0, h.1)).1)),
       )
 
   agree_fields :
-      Agree (map (map_field {F = F} {G = Unit {0}} {U = Unit {0}} (λ t. tt) text)) (map (map_field {G = Unit {0}} reference text))
-      (λ fs. map reference (field_references fs))
-  agree_fields = agree_list _ _ (λ f. reference f.ty ∷ []) _ refl (λ f fs. refl) agree_field
+      Agree f g (map (map_field {F = F} {G = Unit {0}} {U = Unit {0}} (λ t. tt) text))
+      (λ r. map (map_field {G = Unit {0}} r text)) (λ r fs. map r (field_references fs))
+  agree_fields =
+      agree_list f g _ (λ r. map_field {G = Unit {0}} r text) (λ r p. r p.ty ∷ [])
+      (λ r fs. map r (field_references fs)) (λ r. refl) (λ r p ps. refl) agree_field
 
   agree_variant :
-      Agree (map_variant {F = F} {G = Unit {0}} {U = Unit {0}} (λ t. tt) text) (map_variant {G = Unit {0}} reference text)
-      (λ v. map reference (field_references v.fields))
+      Agree f g (map_variant {F = F} {G = Unit {0}} {U = Unit {0}} (λ t. tt) text)
+      (λ r. map_variant {G = Unit {0}} r text) (λ r v. map r (field_references v.fields))
   agree_variant a b x y =
       let law = agree_fields a.fields b.fields x y in (
         (λ h.
@@ -131,22 +138,24 @@ module _ {F T S R : Type 0} (reference : T → R) (text : S → List ℕ) where
       )
 
   agree_variants :
-      Agree (map (map_variant {F = F} {G = Unit {0}} {U = Unit {0}} (λ t. tt) text)) (map (map_variant {G = Unit {0}} reference text))
-      (λ vs. map reference (flat_map (λ v. field_references v.fields) vs))
+      Agree f g (map (map_variant {F = F} {G = Unit {0}} {U = Unit {0}} (λ t. tt) text))
+      (λ r. map (map_variant {G = Unit {0}} r text)) (λ r vs. map r (flat_map (λ v. field_references v.fields) vs))
   agree_variants =
-      agree_list _ _ (λ v. map reference (field_references v.fields)) _ refl
-      (λ v vs. map-append reference (field_references v.fields) _) agree_variant
+      agree_list f g _ (λ r. map_variant {G = Unit {0}} r text) (λ r v. map r (field_references v.fields))
+      (λ r vs. map r (flat_map (λ v. field_references v.fields) vs)) (λ r. refl)
+      (λ r v vs. map-append r (field_references v.fields) (flat_map (λ w. field_references w.fields) vs)) agree_variant
 
   agree_parameters :
-      Agree (map (map_parameter {F = F} {G = Unit {0}} {U = Unit {0}} (λ t. tt) text)) (map (map_parameter {G = Unit {0}} reference text))
-      (λ ps. map reference (parameter_references ps))
+      Agree f g (map (map_parameter {F = F} {G = Unit {0}} {U = Unit {0}} (λ t. tt) text))
+      (λ r. map (map_parameter {G = Unit {0}} r text)) (λ r ps. map r (parameter_references ps))
   agree_parameters =
-      agree_list _ _ (λ p. map reference (option_to_list p.ty)) _ refl
-      (λ p ps. map-append reference (option_to_list p.ty) _) agree_parameter
+      agree_list f g _ (λ r. map_parameter {G = Unit {0}} r text) (λ r p. map r (option_to_list p.ty))
+      (λ r ps. map r (parameter_references ps)) (λ r. refl)
+      (λ r p ps. map-append r (option_to_list p.ty) (parameter_references ps)) agree_parameter
 
   agree_definition :
-      Agree (map_definition {F = F} {G = Unit {0}} {U = Unit {0}} (λ t. tt) text) (map_definition {G = Unit {0}} reference text)
-      (λ d. map reference (definition_references d))
+      Agree f g (map_definition {F = F} {G = Unit {0}} {U = Unit {0}} (λ t. tt) text)
+      (λ r. map_definition {G = Unit {0}} r text) (λ r d. map r (definition_references d))
   agree_definition =
       elim [
         | def.Composite a ↦ elim [
@@ -170,12 +179,12 @@ module _ {F T S R : Type 0} (reference : T → R) (text : S → List ℕ) where
               agree_inside (λ p. def.Sequence (record { type_param = p }))
               (λ p. def.Sequence (record { type_param = p }))
               (λ e. ap (λ d. d.type_param) (sequence_parts _ _ e)) (λ e. ap (λ d. d.type_param) (sequence_parts _ _ e))
-              (agree_type reference a.type_param b.type_param x y)
+              (agree_type f g a.type_param b.type_param x y)
           | _ ↦ λ x y. ((λ h. cc), (λ h. cc))
         ]
         | def.Array a ↦ elim [
           | def.Array b ↦ λ x y.
-              let law = agree_type reference a.type_param b.type_param x y in (
+              let law = agree_type f g a.type_param b.type_param x y in (
                 (λ h.
                     let same = array_parts _ _ h.0 in
                     let e = law.0 (refl, h.1) in
@@ -191,7 +200,7 @@ module _ {F T S R : Type 0} (reference : T → R) (text : S → List ℕ) where
               agree_inside (λ p. def.Tuple (record { fields = p }))
               (λ p. def.Tuple (record { fields = p }))
               (λ e. ap (λ d. d.fields) (tuple_parts _ _ e)) (λ e. ap (λ d. d.fields) (tuple_parts _ _ e))
-              (agree_types reference a.fields b.fields x y)
+              (agree_types f g a.fields b.fields x y)
           | _ ↦ λ x y. ((λ h. cc), (λ h. cc))
         ]
         | def.Primitive a ↦ elim [
@@ -204,20 +213,20 @@ module _ {F T S R : Type 0} (reference : T → R) (text : S → List ℕ) where
               agree_inside (λ p. def.Compact (record { type_param = p }))
               (λ p. def.Compact (record { type_param = p }))
               (λ e. ap (λ d. d.type_param) (compact_parts _ _ e)) (λ e. ap (λ d. d.type_param) (compact_parts _ _ e))
-              (agree_type reference a.type_param b.type_param x y)
+              (agree_type f g a.type_param b.type_param x y)
           | _ ↦ λ x y. ((λ h. cc), (λ h. cc))
         ]
         | def.BitSequence a ↦ elim [
           | def.BitSequence b ↦ λ x y.
-              let order = agree_type reference a.bit_order_type b.bit_order_type x y in
+              let order = agree_type f g a.bit_order_type b.bit_order_type x y in
               let store =
-              agree_type reference a.bit_store_type b.bit_store_type
-              (reference a.bit_order_type ∷ x) (reference b.bit_order_type ∷ y)
+              agree_type f g a.bit_store_type b.bit_store_type
+              (f a.bit_order_type ∷ x) (g b.bit_order_type ∷ y)
               in (
                 (λ h.
                     let e = store.0 (refl, h.1) in
-                    let f = order.0 (refl, e.1) in
-                    (λ i. def.BitSequence (record { bit_store_type = e.0 i; bit_order_type = f.0 i }), f.1)),
+                    let o = order.0 (refl, e.1) in
+                    (λ i. def.BitSequence (record { bit_store_type = e.0 i; bit_order_type = o.0 i }), o.1)),
                 (λ h.
                     let same = bit_sequence_parts _ _ h.0 in
                     (refl, (store.1 (ap (λ d. d.bit_store_type) same, (order.1 (ap (λ d. d.bit_order_type) same, h.1)).1)).1)),
@@ -226,14 +235,14 @@ module _ {F T S R : Type 0} (reference : T → R) (text : S → List ℕ) where
         ]
         | def.Map a ↦ elim [
           | def.Map b ↦ λ x y.
-              let values = agree_type reference a.value b.value x y in
+              let values = agree_type f g a.value b.value x y in
               let keys =
-              agree_type reference a.key b.key (reference a.value ∷ x) (reference b.value ∷ y)
+              agree_type f g a.key b.key (f a.value ∷ x) (g b.value ∷ y)
               in (
                 (λ h.
                     let e = keys.0 (refl, h.1) in
-                    let f = values.0 (refl, e.1) in
-                    (λ i. def.Map (record { key = e.0 i; value = f.0 i }), f.1)),
+                    let v = values.0 (refl, e.1) in
+                    (λ i. def.Map (record { key = e.0 i; value = v.0 i }), v.1)),
                 (λ h.
                     let same = map_parts _ _ h.0 in
                     let rest = (values.1 (ap (λ d. d.value) same, h.1)).1 in
@@ -244,23 +253,22 @@ module _ {F T S R : Type 0} (reference : T → R) (text : S → List ℕ) where
       ]
 
   -- the shape of a description and the readings of its references give its content, and come from
-  -- it
+  -- it; the references of the two descriptions may be read in two ways
   pub shape_and_references :
       (a b : Description F T S)
-      → (content reference text a ≡ content reference text b)
-      ↔ ((shape text a ≡ shape text b) × (map reference (references a) ≡ map reference (references b)))
+      → (content f text a ≡ content g text b)
+      ↔ ((shape text a ≡ shape text b) × (map f (references a) ≡ map g (references b)))
   shape_and_references a b =
       let params =
       agree_parameters a.type_params b.type_params
-      (map reference (definition_references a.type_def))
-      (map reference (definition_references b.type_def)) in
+      (map f (definition_references a.type_def)) (map g (definition_references b.type_def)) in
       let definitions =
-      agree_whole (map_definition (λ t. tt) text) (map_definition reference text)
-      (λ d. map reference (definition_references d)) agree_definition a.type_def b.type_def
+      agree_whole f g (map_definition (λ t. tt) text) (λ r. map_definition r text)
+      (λ r d. map r (definition_references d)) agree_definition a.type_def b.type_def
       in
       rw (
-        map-append reference (parameter_references a.type_params) (definition_references a.type_def),
-        map-append reference (parameter_references b.type_params) (definition_references b.type_def),
+        map-append f (parameter_references a.type_params) (definition_references a.type_def),
+        map-append g (parameter_references b.type_params) (definition_references b.type_def),
       ) (
         (λ e.
             let d = definitions.1 (ap (λ t. t.type_def) e) in

@@ -7,5 +7,5 @@ use Rattle.scale_info_types.proofs.laws.same_shape_same_counts.Goals as goal
 pub returns : goal.returns
 returns g c = λ a b e.
     let counts =
-    ap length ((shape_and_references {R = Unit {0}} (λ _. tt) g.T.Form.text a b).0 e).1 in
+    ap length ((shape_and_references {R = Unit {0}} (λ _. tt) (λ _. tt) g.T.Form.text a b).0 e).1 in
     simp length-map at counts

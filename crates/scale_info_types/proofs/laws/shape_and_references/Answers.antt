@@ -6,4 +6,4 @@ use Rattle.scale_info_types.proofs.laws.shape_and_references.Goals as goal
 pub returns : goal.returns
 returns c = λ a b e f.
     portable_content a b
-    ((agreement.shape_and_references (λ symbol. symbol.id) (λ text. text) a b).1 (e, ap (map (λ symbol. symbol.id)) f))
+    ((agreement.shape_and_references (λ symbol. symbol.id) (λ symbol. symbol.id) (λ text. text) a b).1 (e, ap (map (λ symbol. symbol.id)) f))

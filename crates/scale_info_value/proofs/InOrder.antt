@@ -1,0 +1,59 @@
+-- Decoders one after another.
+use Rattle.std.proofs.Common.{◌≡◌, ℕ, suc, ◌+◌, ◌-◌, ◌<◌, List, [], ◌∷◌, ◌++◌, replicate, refl, ap}
+use Rattle.std.proofs.Common.{sym, ◌∙◌, append_assoc, arith}
+use Rattle.std.proofs.lemmas.List.{append-nil}
+use Rattle.scale_info_value.specs.declared.value.ValueError.{ValueError}
+use Rattle.scale_info_value.specs.declared.value.ValueError.TheVariants as error
+use Rattle.scale_info_value.specs.Outcomes.{Failure, Outcome, decoded, failed, Decoder, and_then}
+use Rattle.scale_info_value.specs.Outcomes.{outcome_map, in_order, IsErrorOf}
+
+-- the outcome, where its list begins with what was decoded before
+abbrev pub preceded : {A : Type 0} → List A → Outcome (List A) → Outcome (List A)
+preceded done outcome = outcome_map (λ values. done ++ values) outcome
+
+-- before the first decoder nothing was decoded
+pub nothing_before : {A : Type 0} (outcome : Outcome (List A)) → outcome ≡ preceded [] outcome
+nothing_before (decoded values rest) = refl
+nothing_before (failed why) = refl
+
+one_more :
+    {A : Type 0} (done : List A) (value : A) (outcome : Outcome (List A))
+    → preceded done (outcome_map (λ values. value ∷ values) outcome) ≡ preceded (done ++ value ∷ []) outcome
+one_more done value (decoded values rest) = ap (λ vs. decoded vs rest) (sym (append_assoc done (value ∷ []) values))
+one_more done value (failed why) = refl
+
+-- one decoder goes on
+pub reads_one :
+    {A : Type 0} (done : List A) (first : Decoder A) (more : List (Decoder A)) (input : List ℕ) (value : A)
+    (rest : List ℕ)
+    → first input ≡ decoded value rest
+    → preceded done (in_order (first ∷ more) input) ≡ preceded (done ++ value ∷ []) (in_order more rest)
+reads_one done first more input value rest e =
+    ap (λ o. preceded done (and_then o (λ v r. outcome_map (λ vs. v ∷ vs) (in_order more r)))) e
+    ∙ one_more done value (in_order more rest)
+
+-- no decoder is left
+pub reads_none : {A : Type 0} (done : List A) (input : List ℕ) → preceded done (in_order [] input) ≡ decoded done input
+reads_none done input = ap (λ vs. decoded vs input) (append-nil done)
+
+-- a failure of a part is the failure of the whole
+pub passes :
+    {A B : Type 0} (outcome : Outcome A) (whole : Outcome B) (e : ValueError) → ((why : Failure) → outcome
+    ≡ failed why → whole ≡ failed why) → IsErrorOf outcome e → IsErrorOf whole e
+passes outcome whole error.NoSuchType f h = f _ h
+passes outcome whole error.Unsupported f h = f _ h
+passes outcome whole error.TooDeep f h = f _ h
+passes outcome whole error.Malformed f h = f _ h
+passes outcome whole error.Memory f h = tt
+
+-- a decoder fails, and so do all
+pub first_fails :
+    {A : Type 0} (done : List A) (first : Decoder A) (more : List (Decoder A)) (input : List ℕ) (why : Failure)
+    → first input ≡ failed why
+    → preceded done (in_order (first ∷ more) input) ≡ failed why
+first_fails done first more input why e = ap (λ o. preceded done
+    (and_then o (λ v r. outcome_map (λ vs. v ∷ vs) (in_order more r)))) e
+
+-- of n - k decoders of one kind the first, and the others
+pub take_next : {A : Type 0} (n k : ℕ) (x : A) → k < n → replicate (n - k) x ≡ x ∷ replicate (n - (k + 1)) x
+take_next n k x h = let e : n - k ≡ suc (n - (k + 1)) = omega arith in ap (λ m. replicate m x) e

@@ -1,0 +1,164 @@
+-- One level of a reading.
+use Rattle.std.proofs.Common.{◌≡◌, ℕ, zero, suc, ◌-◌, ◌≤◌, ◌==◌, List, [], ◌∷◌, Option, Some, None, map, find}
+use Rattle.std.proofs.Common.{cond, Bool, true, false, option_map, refl, ap, sym, ◌∙◌, arith}
+use Rattle.scale_info_types.specs.Portable.{Id, Field, Variant, TypeDef, TypeDefComposite, TypeDefVariant, Description}
+use Rattle.scale_info_types.specs.Shapes.{map_variant}
+use Rattle.scale_info_types.specs.declared.ty.TypeDef.TheVariants as def
+use Rattle.scale_info_tables.specs.declared.portable.PortableRegistry.{PortableRegistry}
+use Rattle.scale_info_value.specs.declared.value.Dyn.TheVariants as dyn
+use Rattle.scale_info_value.specs.Outcomes.{decoded, failed, too_deep, no_such_type, malformed, and_then, outcome_map}
+use Rattle.scale_info_value.specs.Numbers.{byte}
+use Rattle.scale_info_value.specs.Definitions.{Part, fields_of}
+use Rattle.scale_info_value.specs.Readings.{type_at, value_within, compact_within, definition_within, fields_within}
+use Rattle.scale_info_value.specs.Readings.{compact_definition_within, compact_by_type, value_by_type, part_within}
+use Rattle.scale_info_value.specs.Readings.{variant_within}
+
+-- where no level is left, a compact number is too deep
+pub compact_too_deep :
+    (left : ℕ) (table : PortableRegistry) (id : ℕ) (input : List ℕ) → left ≡ 0
+    → compact_within left table id input ≡ failed too_deep
+unfolding compact_within
+compact_too_deep zero table id input e = refl
+compact_too_deep (suc left) table id input e = absurd (omega arith)
+
+-- where no level is left, a value is too deep
+pub value_too_deep :
+    (left : ℕ) (table : PortableRegistry) (id : ℕ) (input : List ℕ) → left ≡ 0
+    → value_within left table id input ≡ failed too_deep
+unfolding value_within
+value_too_deep zero table id input e = refl
+value_too_deep (suc left) table id input e = absurd (omega arith)
+
+-- else a compact number goes by the description of its type
+compact_level :
+    (left : ℕ) (table : PortableRegistry) (id : ℕ) (input : List ℕ) → 1 ≤ left
+    → compact_within left table id input
+    ≡ compact_by_type (compact_within (left - 1) table) (type_at table id) input
+unfolding compact_within
+compact_level zero table id input h = absurd (omega arith)
+compact_level (suc left) table id input h =
+    let e : left ≡ suc left - 1 = omega arith in
+    ap (λ n. compact_by_type (compact_within n table) (type_at table id) input) e
+
+-- the decoders that an id stands for
+abbrev part_of : ℕ → PortableRegistry → ℕ → Part
+part_of left table r = record {
+  value = value_within (left - 1) table r;
+  inner = value_within (left - 2) table r;
+  compact = compact_within left table r;
+}
+
+-- else a value goes by the description of its type
+value_level :
+    (left : ℕ) (table : PortableRegistry) (id : ℕ) (input : List ℕ) → 1 ≤ left
+    → value_within left table id input ≡ value_by_type (part_of left table) (type_at table id) input
+unfolding value_within
+value_level zero table id input h = absurd (omega arith)
+value_level (suc zero) table id input h = refl
+value_level (suc (suc left)) table id input h =
+    let e : suc left ≡ suc (suc left) - 1 = omega arith in
+    let f : left ≡ suc (suc left) - 2 = omega arith in
+    λ i. value_by_type (λ r. record {
+      value = value_within (e i) table r;
+      inner = value_within (f i) table r;
+      compact = compact_within (suc (suc left)) table r;
+    }) (type_at table id) input
+
+-- the first variant with an index stays the first where references are read
+first_variant :
+    (f : Id → Part) (i : ℕ) (vs : List Variant)
+    → find (λ v. v.index == i) (map (map_variant {G = Unit {0}} f (λ t. t)) vs)
+    ≡ option_map (map_variant {G = Unit {0}} f (λ t. t)) (find (λ v. v.index == i) vs)
+first_variant f i [] = refl
+first_variant f i (v ∷ vs) = first_or (v.index == i) v (find (λ w. w.index == i) vs) _ (first_variant f i vs)
+  where
+    first_or :
+        (b : Bool) (v : Variant) (rest : Option Variant) (other : Option _)
+        → other ≡ option_map (map_variant {G = Unit {0}} f (λ t. t)) rest
+        → cond b (Some (map_variant {G = Unit {0}} f (λ t. t) v)) other
+        ≡ option_map (map_variant {G = Unit {0}} f (λ t. t)) (cond b (Some v) rest)
+    first_or true v rest other e = refl
+    first_or false v rest other e = e
+
+-- an id that is no index has no compact number
+pub compact_no_type :
+    (left : ℕ) (table : PortableRegistry) (id : ℕ) (input : List ℕ) → 1 ≤ left → type_at table id ≡ None
+    → compact_within left table id input ≡ failed no_such_type
+compact_no_type left table id input h e =
+    compact_level left table id input h ∙ ap (λ o. compact_by_type (compact_within (left - 1) table) o input) e
+
+-- a compact number of a type goes by the type's definition
+pub compact_of_type :
+    (left : ℕ) (table : PortableRegistry) (id : ℕ) (input : List ℕ) (d : Description)
+    → 1 ≤ left → type_at table id ≡ Some d
+    → compact_within left table id input ≡ compact_definition_within left table d.type_def input
+compact_of_type left table id input d h e =
+    compact_level left table id input h ∙ ap (λ o. compact_by_type (compact_within (left - 1) table) o input) e
+
+-- an id that is no index has no value
+pub value_no_type :
+    (left : ℕ) (table : PortableRegistry) (id : ℕ) (input : List ℕ) → 1 ≤ left → type_at table id ≡ None
+    → value_within left table id input ≡ failed no_such_type
+value_no_type left table id input h e =
+    value_level left table id input h ∙ ap (λ o. value_by_type (part_of left table) o input) e
+
+-- a value of a type goes by the type's definition
+pub value_of_type :
+    (left : ℕ) (table : PortableRegistry) (id : ℕ) (input : List ℕ) (d : Description)
+    → 1 ≤ left → type_at table id ≡ Some d
+    → value_within left table id input ≡ definition_within left table d.type_def input
+value_of_type left table id input d h e =
+    value_level left table id input h ∙ ap (λ o. value_by_type (part_of left table) o input) e
+
+-- a composite is the record of its fields
+pub composite_is :
+    (left : ℕ) (table : PortableRegistry) (d : TypeDef) (composite : TypeDefComposite) (fs : List Field)
+    (input : List ℕ)
+    → d ≡ def.Composite composite → fs ≡ composite.fields
+    → definition_within left table d input ≡ outcome_map dyn.Record (fields_within left table fs input)
+composite_is left table d composite fs input e f =
+    ap (λ t. definition_within left table t input) e
+    ∙ ap (λ l. outcome_map dyn.Record (fields_within left table l input)) (sym f)
+
+-- an enum goes by its variants
+pub variant_is :
+    (left : ℕ) (table : PortableRegistry) (d : TypeDef) (choice : TypeDefVariant) (vs : List Variant)
+    (input : List ℕ)
+    → d ≡ def.Variant choice → vs ≡ choice.variants
+    → definition_within left table d input ≡ variant_within left table vs input
+variant_is left table d choice vs input e f =
+    ap (λ t. definition_within left table t input) e ∙ ap (λ l. variant_within left table l input) (sym f)
+
+-- after an index byte, an enum goes by the first variant with that index
+variant_by :
+    (left : ℕ) (table : PortableRegistry) (vs : List Variant) (input rest : List ℕ) (index : ℕ)
+    → byte input ≡ decoded index rest
+    → variant_within left table vs input
+    ≡ fields_of index
+    (option_map (map_variant {G = Unit {0}} (part_within left table) (λ t. t)) (find (λ v. v.index == index) vs)) rest
+variant_by left table vs input rest index f =
+    ap (λ o. and_then o (λ i after.
+    fields_of i
+    (find (λ v. v.index == i) (map (map_variant {G = Unit {0}} (part_within left table) (λ t. t)) vs)) after)) f
+    ∙ ap (λ o. fields_of index o rest) (first_variant (part_within left table) index vs)
+
+-- no variant has the index
+pub variant_missing :
+    (left : ℕ) (table : PortableRegistry) (vs : List Variant) (input rest : List ℕ) (index : ℕ)
+    → byte input ≡ decoded index rest → find (λ v. v.index == index) vs ≡ None
+    → variant_within left table vs input ≡ failed malformed
+variant_missing left table vs input rest index f g =
+    variant_by left table vs input rest index f
+    ∙ ap (λ o. fields_of index (option_map (map_variant {G = Unit {0}} (part_within left table) (λ t. t)) o) rest) g
+
+-- a variant has the index, and its fields follow
+pub variant_found :
+    (left : ℕ) (table : PortableRegistry) (vs : List Variant) (input rest : List ℕ) (index : ℕ) (v : Variant)
+    (fs : List Field)
+    → byte input ≡ decoded index rest → find (λ v. v.index == index) vs ≡ Some v → fs ≡ v.fields
+    → variant_within left table vs input
+    ≡ outcome_map (λ values. dyn.Variant v.name index values) (fields_within left table fs rest)
+variant_found left table vs input rest index v fs f g h =
+    variant_by left table vs input rest index f
+    ∙ ap (λ o. fields_of index (option_map (map_variant {G = Unit {0}} (part_within left table) (λ t. t)) o) rest) g
+    ∙ ap (λ l. outcome_map (λ values. dyn.Variant v.name index values) (fields_within left table l rest)) (sym h)

@@ -1,0 +1,199 @@
+-- What unfolds alike is decoded alike.
+use Rattle.std.proofs.Common.{◌≡◌, ℕ, zero, suc, ◌-◌, List, [], ◌∷◌, map, Option, Some, None}
+use Rattle.std.proofs.Common.{option_map, slice_get, refl, ap, sym, subst, ◌∙◌, arith}
+use Rattle.scale_info_numberings.specs.Tables.{IsTable, table_system}
+use Rattle.scale_info_numberings.proofs.Tables.{unfolds_alike}
+use Rattle.std.proofs.lemmas.Option.{slice_get-map}
+use Rattle.scale_info_types.specs.Portable.{Id}
+use Rattle.scale_info_types.specs.Shapes.{Shape, shape, map_definition}
+use Rattle.scale_info_types.specs.References.{references}
+use Rattle.scale_info_types.specs.declared.ty.PortableType.{PortableType}
+use Rattle.scale_info_numberings.specs.Systems.{Entry, System}
+use Rattle.scale_info_numberings.specs.Unfoldings.{Tree, node, tree, trees, tree_of, unfold_to}
+use Rattle.scale_info_tables.specs.TableSystems.{entry_of, system_of}
+use Rattle.scale_info_tables.specs.declared.portable.PortableRegistry.{PortableRegistry}
+use Rattle.scale_info_value.specs.Outcomes.{Decoder, failed, too_deep}
+use Rattle.scale_info_value.specs.Definitions.{Part, value_by, compact_by}
+use Rattle.scale_info_value.specs.Readings.{compact_by_type, value_by_type, compact_within, value_within, reading}
+use Rattle.scale_info_types.proofs.ShapeAndReferences.{shape_and_references}
+
+-- references that unfold alike are decoded alike, one by one
+same_references :
+    {X : Type 0} (f g : ℕ → Tree Shape) (read other : ℕ → X) → ((m n : ℕ) → f m ≡ g n → read m ≡ other n)
+    → (ms ns : List Id) → trees f (map (λ r. r.id) ms) ≡ trees g (map (λ r. r.id) ns)
+    → map (λ r. read r.id) ms ≡ map (λ r. other r.id) ns
+same_references f g read other law [] [] e = refl
+same_references f g read other law [] (n ∷ ns) e = cc
+same_references f g read other law (m ∷ ms) [] e = cc
+same_references f g read other law (m ∷ ms) (n ∷ ns) e =
+    let first : f m.id ≡ g n.id = cc in
+    let rest : trees f (map (λ r. r.id) ms) ≡ trees g (map (λ r. r.id) ns) = cc in
+    let here = law m.id n.id first in
+    let there = same_references f g read other law ms ns rest in
+    λ i. here i ∷ there i
+
+same_entries :
+    {X : Type 0} (f g : ℕ → Tree Shape) (read other : ℕ → X) → ((m n : ℕ) → f m ≡ g n → read m ≡ other n)
+    → (d e : PortableType) → tree_of f (Some (entry_of d)) ≡ tree_of g (Some (entry_of e))
+    → map_definition {G = Unit {0}} (λ r. read r.id) (λ t. t) d.ty.type_def
+    ≡ map_definition {G = Unit {0}} (λ r. other r.id) (λ t. t) e.ty.type_def
+same_entries f g read other law d e h =
+    let shapes : shape (λ t. t) d.ty ≡ shape (λ t. t) e.ty = cc in
+    let kids : trees f (map (λ r. r.id) (references d.ty)) ≡ trees g (map (λ r. r.id) (references e.ty)) = cc in
+    let same = same_references f g read other law (references d.ty) (references e.ty) kids in
+    ap (λ t. t.type_def)
+    ((shape_and_references (λ r. read r.id) (λ r. other r.id) (λ t. t) d.ty e.ty).1 (shapes, same))
+
+compact_step :
+    (f g : ℕ → Tree Shape) (read other : ℕ → Decoder ℕ) → ((m n : ℕ) → f m ≡ g n → read m ≡ other n)
+    → (o p : Option PortableType) → tree_of f (option_map entry_of o) ≡ tree_of g (option_map entry_of p)
+    → (input : List ℕ)
+    → compact_by_type read (option_map (λ entry. entry.ty) o) input
+    ≡ compact_by_type other (option_map (λ entry. entry.ty) p) input
+compact_step f g read other law None None h input = refl
+compact_step f g read other law None (Some e) h input = cc
+compact_step f g read other law (Some d) None h input = cc
+compact_step f g read other law (Some d) (Some e) h input = ap (λ t. compact_by t input)
+    (same_entries f g read other law d e h)
+
+value_step :
+    (f g : ℕ → Tree Shape) (read other : ℕ → Part) → ((m n : ℕ) → f m ≡ g n → read m ≡ other n)
+    → (o p : Option PortableType) → tree_of f (option_map entry_of o) ≡ tree_of g (option_map entry_of p)
+    → (input : List ℕ)
+    → value_by_type read (option_map (λ entry. entry.ty) o) input
+    ≡ value_by_type other (option_map (λ entry. entry.ty) p) input
+value_step f g read other law None None h input = refl
+value_step f g read other law None (Some e) h input = cc
+value_step f g read other law (Some d) None h input = cc
+value_step f g read other law (Some d) (Some e) h input = ap (λ t. value_by t input)
+    (same_entries f g read other law d e h)
+
+-- where two ids unfold alike, compact numbers are decoded alike
+pub compact_unfolded :
+    (left : ℕ) (table other : PortableRegistry) (m n : ℕ)
+    → unfold_to left (system_of table) m ≡ unfold_to left (system_of other) n
+    → compact_within left table m ≡ compact_within left other n
+unfolding compact_within
+compact_unfolded zero table other m n h = refl
+compact_unfolded (suc left) table other m n h =
+    let e = compact_step (unfold_to left (system_of table)) (unfold_to left (system_of other))
+    (compact_within left table) (compact_within left other)
+    (compact_unfolded left table other) (slice_get table.types m) (slice_get other.types n) h in
+    λ i input. e input i
+
+same_kids :
+    (f g f' g' : ℕ → Tree Shape) → ((m n : ℕ) → f m ≡ g n → f' m ≡ g' n) → (ms ns : List ℕ) → trees f ms
+    ≡ trees g ns → trees f' ms ≡ trees g' ns
+same_kids f g f' g' law [] [] e = refl
+same_kids f g f' g' law [] (n ∷ ns) e = cc
+same_kids f g f' g' law (m ∷ ms) [] e = cc
+same_kids f g f' g' law (m ∷ ms) (n ∷ ns) e =
+    let first : f m ≡ g n = cc in
+    let rest : trees f ms ≡ trees g ns = cc in
+    let here = law m n first in
+    let there = same_kids f g f' g' law ms ns rest in
+    λ i. tree (here i) (there i)
+
+same_trees :
+    (f g f' g' : ℕ → Tree Shape) → ((m n : ℕ) → f m ≡ g n → f' m ≡ g' n)
+    → (o p : Option (Entry Shape ℕ)) → tree_of f o ≡ tree_of g p → tree_of f' o ≡ tree_of g' p
+same_trees f g f' g' law None None h = refl
+same_trees f g f' g' law None (Some e) h = cc
+same_trees f g f' g' law (Some d) None h = cc
+same_trees f g f' g' law (Some d) (Some e) h =
+    let shapes : d.shape ≡ e.shape = cc in
+    let kids : trees f d.refs ≡ trees g e.refs = cc in
+    let less = same_kids f g f' g' law d.refs e.refs kids in
+    λ i. node (shapes i) (less i)
+
+-- what unfolds alike to a depth does so to one less
+less_deep :
+    (k : ℕ) (S U : System Shape ℕ) (m n : ℕ) → unfold_to (suc k) S m ≡ unfold_to (suc k) U n → unfold_to k S m
+    ≡ unfold_to k U n
+less_deep zero S U m n h = refl
+less_deep (suc k) S U m n h = same_trees (unfold_to (suc k) S) (unfold_to (suc k) U) (unfold_to k S) (unfold_to k U)
+    (less_deep k S U) (S m) (U n) h
+
+-- where two ids unfold alike one level deeper, values are decoded alike
+pub value_unfolded :
+    (left : ℕ) (table other : PortableRegistry) (m n : ℕ)
+    → unfold_to (suc left) (system_of table) m ≡ unfold_to (suc left) (system_of other) n
+    → value_within left table m ≡ value_within left other n
+unfolding value_within
+value_unfolded zero table other m n h = refl
+value_unfolded (suc zero) table other m n h =
+    let e = value_step (unfold_to 1 (system_of table)) (unfold_to 1 (system_of other))
+    (λ r. record {
+      value = λ bytes. failed too_deep;
+      inner = λ bytes. failed too_deep;
+      compact = compact_within 1 table
+          r;
+    })
+    (λ r. record {
+      value = λ bytes. failed too_deep;
+      inner = λ bytes. failed too_deep;
+      compact = compact_within 1 other
+          r;
+    })
+    (λ r s same.
+    let level = compact_unfolded 1 table other r s same in
+    λ i. record { value = λ bytes. failed too_deep; inner = λ bytes. failed too_deep; compact = level i })
+    (slice_get table.types m) (slice_get other.types n) h in
+    λ i input. e input i
+value_unfolded (suc (suc left)) table other m n h =
+    let e = value_step (unfold_to (suc (suc left)) (system_of table)) (unfold_to (suc (suc left)) (system_of other))
+    (λ r. record {
+      value = value_within (suc left) table r;
+      inner = value_within left table r;
+      compact = compact_within
+          (suc (suc left)) table r;
+    })
+    (λ r. record {
+      value = value_within (suc left) other r;
+      inner = value_within left other r;
+      compact = compact_within
+          (suc (suc left)) other r;
+    })
+    (λ r s same.
+    let deeper = value_unfolded (suc left) table other r s same in
+    let inner = value_unfolded left table other r s (less_deep (suc left) (system_of table) (system_of other) r s same)
+    in
+    let level = compact_unfolded (suc (suc left)) table other r s same in
+    λ i. record { value = deeper i; inner = inner i; compact = level i })
+    (slice_get table.types m) (slice_get other.types n) h in
+    λ i input. e input i
+
+by_levels :
+    (table other : PortableRegistry) (id index left more : ℕ) → ((k : ℕ) → left ≡ suc k → more ≡ suc (suc k))
+    → unfold_to more (system_of table) id ≡ unfold_to more (system_of other) index
+    → (input : List ℕ) → value_within left table id input ≡ value_within left other index input
+unfolding value_within
+by_levels table other id index zero more e h input = refl
+by_levels table other id index (suc k) more e h input =
+    let same = value_unfolded (suc k) table other id index (subst (λ n. unfold_to n (system_of table) id
+    ≡ unfold_to n (system_of other) index) (e k refl) h) in
+    λ i. same i input
+
+-- the same at a depth
+pub unfolding_decides :
+    (table other : PortableRegistry) (id index depth : ℕ)
+    → unfold_to (130 - depth) (system_of table) id ≡ unfold_to (130 - depth) (system_of other) index
+    → (input : List ℕ) → reading table id depth input ≡ reading other index depth input
+unfolding_decides table other id index depth h input = by_levels table other id index (129 - depth) (130 - depth)
+    (λ k e. omega arith) h input
+
+-- a table and the list of its pairs are one system
+one_system : (table : PortableRegistry) → system_of table ≡ table_system (map entry_of table.types)
+one_system table = λ i index. sym (slice_get-map entry_of table.types index) i
+
+-- a table of nodes decodes as the system of the nodes
+pub reads_alike :
+    (old new : PortableRegistry) (kept : List ℕ) → IsTable (system_of old) kept (map entry_of new.types)
+    → (index id : ℕ) → slice_get kept index ≡ Some id
+    → (depth : ℕ) (input : List ℕ) → reading new index depth input ≡ reading old id depth input
+reads_alike old new kept table index id at depth input =
+    let alike = unfolds_alike (system_of old) kept (map entry_of new.types) table (130 - depth) index id at in
+    let here : unfold_to (130 - depth) (system_of new) index ≡ unfold_to (130 - depth) (system_of old) id =
+    ap (λ S. unfold_to (130 - depth) S index) (one_system new) ∙ sym alike
+    in
+    unfolding_decides new old index id depth here input

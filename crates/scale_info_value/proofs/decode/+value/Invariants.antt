@@ -1,0 +1,48 @@
+use Rattle.std.proofs.Common.{◌≡◌, ◌-◌, ◌*◌, drop}
+use Rattle.scale_info_value.specs.Readings.{items_within, members_within, fields_within, pairs_within}
+use Rattle.scale_info_value.proofs.InOrder.{preceded}
+use Rattle.scale_info_value.proofs.decode.+value.Given as goal
+
+abbrev pub decreases-value_within : goal.decreases-value_within
+decreases-value_within l = 4 * l.left
+
+abbrev pub decreases-value_by : goal.decreases-value_by
+decreases-value_by l = 4 * l.left - 1
+
+abbrev pub decreases-variant : goal.decreases-variant
+decreases-variant l = 4 * l.left - 2
+
+abbrev pub decreases-items : goal.decreases-items
+decreases-items l = 4 * l.left - 2
+
+abbrev pub decreases-members : goal.decreases-members
+decreases-members l = 4 * l.left - 2
+
+abbrev pub decreases-fields : goal.decreases-fields
+decreases-fields l = 4 * l.left - 3
+
+abbrev pub decreases-pairs : goal.decreases-pairs
+decreases-pairs l = 4 * l.left - 2
+
+abbrev pub decreases-pair : goal.decreases-pair
+decreases-pair l = 4 * l.left - 3
+
+abbrev pub invariant-items-loop : goal.invariant-items-loop
+invariant-items-loop l =
+    items_within l.left l.table l.ty l.count l.input
+    ≡ preceded l.values (items_within l.left l.table l.ty (l.count - l.counter) l.rest)
+
+abbrev pub invariant-members-loop-ty : goal.invariant-members-loop-ty
+invariant-members-loop-ty l =
+    members_within l.left l.table l.types l.input
+    ≡ preceded l.values (members_within l.left l.table (drop l.ty-index l.types) l.rest)
+
+abbrev pub invariant-fields-loop-field : goal.invariant-fields-loop-field
+invariant-fields-loop-field l =
+    fields_within l.left l.table l.all l.input
+    ≡ preceded l.values (fields_within l.left l.table (drop l.field-index l.all) l.rest)
+
+abbrev pub invariant-pairs-loop : goal.invariant-pairs-loop
+invariant-pairs-loop l =
+    pairs_within l.left l.table l.key l.value l.count l.input
+    ≡ preceded l.values (pairs_within l.left l.table l.key l.value (l.count - l.counter) l.rest)

@@ -1,0 +1,6 @@
+use Rattle.std.proofs.Common.{arith, ◌+◌}
+use Rattle.scale_info_value.proofs.Bounds.{power_fits}
+use Rattle.scale_info_value.proofs.number.compact_after.Goals as goal
+
+pub pow-least-requires : goal.pow-least-requires
+pow-least-requires c = let h = power_fits (c.args.high + 3) (omega arith) in omega arith

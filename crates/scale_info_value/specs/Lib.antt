@@ -1,0 +1,5 @@
+pub mod Definitions
+pub mod Examples
+pub mod Numbers
+pub mod Outcomes
+pub mod Readings

@@ -1,0 +1,45 @@
+-- What comes of decoding bytes.
+use Rattle.std.specs.Prelude.{◌≡◌, ℕ, List, [], ◌∷◌}
+use Rattle.scale_info_value.specs.declared.value.ValueError.{ValueError}
+use Rattle.scale_info_value.specs.declared.value.ValueError.TheVariants as error
+
+-- why there is no value
+pub data Failure : Type 0 where
+  no_such_type : Failure
+  unsupported : Failure
+  too_deep : Failure
+  malformed : Failure
+
+-- a value and the rest of the bytes, or why there is none
+pub data Outcome (A : Type 0) : Type 0 where
+  decoded : A → List ℕ → Outcome A
+  failed : Failure → Outcome A
+
+-- what comes of each list of bytes
+abbrev pub Decoder : Type 0 → Type 0
+Decoder A = List ℕ → Outcome A
+
+-- goes on with the value and the rest; a failure stays
+abbrev pub and_then : {A B : Type 0} → Outcome A → (A → Decoder B) → Outcome B
+and_then (decoded value rest) next = next value rest
+and_then (failed why) next = failed why
+
+-- the outcome with a function applied to its value
+abbrev pub outcome_map : {A B : Type 0} → (A → B) → Outcome A → Outcome B
+outcome_map f (decoded value rest) = decoded (f value) rest
+outcome_map f (failed why) = failed why
+
+-- one decoder after another, each on the rest that the one before left; the first failure counts
+abbrev pub in_order : {A : Type 0} → List (Decoder A) → Decoder (List A)
+in_order [] input = decoded [] input
+in_order (first ∷ more) input =
+    and_then (first input)
+    (λ value rest. outcome_map (λ values. value ∷ values) (in_order more rest))
+
+-- the error is the failure of the outcome; a failed allocation says nothing of the bytes
+abbrev pub IsErrorOf : {A : Type 0} → Outcome A → ValueError → Type 0
+IsErrorOf outcome error.NoSuchType = outcome ≡ failed no_such_type
+IsErrorOf outcome error.Unsupported = outcome ≡ failed unsupported
+IsErrorOf outcome error.TooDeep = outcome ≡ failed too_deep
+IsErrorOf outcome error.Malformed = outcome ≡ failed malformed
+IsErrorOf outcome error.Memory = Unit {0}

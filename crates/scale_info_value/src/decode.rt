@@ -1,0 +1,356 @@
+//! Values decoded by the definitions of their types.
+ghost use Rattle.std.specs.Prelude.{◌≡◌, ◌≤◌, ◌==◌, ◌∷◌, [], IfOk, IfErr, find};
+ghost use Rattle.std.specs.Option.{option_copied};
+ghost use Rattle.scale_info_value.specs.declared.value.Dyn.TheVariants as dyn;
+ghost use Rattle.scale_info_value.specs.declared.value.ValueError.TheVariants as error;
+ghost use Rattle.scale_info_value.specs.Outcomes.{decoded, IsErrorOf};
+ghost use Rattle.scale_info_value.specs.Readings.{compact_within, compact_definition_within};
+ghost use Rattle.scale_info_value.specs.Readings.{value_within, definition_within, fields_within};
+ghost use Rattle.scale_info_value.specs.Readings.{variant_within, items_within, members_within};
+ghost use Rattle.scale_info_value.specs.Readings.{pair_within, pairs_within, reading};
+
+use crate::number::{byte, count};
+use crate::primitive::{compact_primitive, primitive};
+use crate::value::{Dyn, ValueError};
+use scale_info_collections::items::Items;
+use scale_info_collections::text::Text;
+use scale_info_collections::try_clone::TryClone;
+use scale_info_identities::interner::UntrackedSymbol;
+use scale_info_identities::type_id::TypeId;
+use scale_info_tables::portable::PortableRegistry;
+use scale_info_types::form::PortableForm;
+use scale_info_types::ty::variant::Variant;
+use scale_info_types::ty::{Field, TypeDef};
+use std::alloc::Global;
+
+/// Decodes one value of the type with this id from the start of the input, and returns it with the
+/// rest.
+///
+/// An id is an index of the table, as for [`PortableRegistry::resolve`]. The parts of a value are
+/// decoded in order, and the first error is returned. Allocates for parts already decoded, never
+/// for an announced count.
+///
+/// A value has depth 1, and each part of a value is one deeper than the value; at most 128 is
+/// decoded. Nothing else bounds the work: values of some types take no bytes, so an array of
+/// 4294967295 empty tuples, which is a table of two entries, is decoded from no input as a list of
+/// that many empty lists. Against tables from outside, bound the lengths of arrays first.
+///
+/// Errors: `TooDeep`, where a value is more than 128 deep; `NoSuchType`, where an id is no index of
+/// the table; `Unsupported`, where values of a type are not decoded; `Malformed`, where no prefix
+/// of the input is a value of the type; `Memory`, where an allocation failed.
+///
+/// With a table that has `Vec<u32>` at index 0:
+///
+/// ```text
+/// let input = [8, 1, 0, 0, 0, 2, 0, 0, 0, 255];
+/// let (value, rest) = decode_value(alloc, &table, 0, &input)?;   // 1 and 2, and the rest [255]
+/// ```
+pub fn decode_value<'a>(
+    alloc: Global,
+    table: &PortableRegistry,
+    id: u32,
+    input: &'a [u8],
+) -> Result<(Dyn, &'a [u8]), ValueError>
+    ensures ok { IfOk result
+        (λ found. reading table.now id 1 input.now ≡ decoded found.0 found.1.now) }
+    ensures err { IfErr result (IsErrorOf (reading table.now id 1 input.now)) }
+{
+    value_within(alloc, table, id, 128, input)
+}
+
+/// A compact number of the type with this id, and the rest, where so many levels are left.
+#[cycle(compact)]
+fn compact_within<'a>(
+    table: &PortableRegistry,
+    id: u32,
+    left: u8,
+    input: &'a [u8],
+) -> Result<(u128, &'a [u8]), ValueError>
+    ensures ok { IfOk result
+        (λ found. compact_within left table.now id input.now ≡ decoded found.0 found.1.now) }
+    ensures err { IfErr result (IsErrorOf (compact_within left table.now id input.now)) }
+{
+    if left == 0 {
+        return Err(ValueError::TooDeep);
+    }
+    match table.resolve(id) {
+        None => Err(ValueError::NoSuchType),
+        Some(ty) => compact_by(table, &ty.type_def, left, input),
+    }
+}
+
+/// A compact number by the definition of its type, and the rest.
+#[cycle(compact)]
+fn compact_by<'a>(
+    table: &PortableRegistry,
+    definition: &TypeDef<PortableForm>,
+    left: u8,
+    input: &'a [u8],
+) -> Result<(u128, &'a [u8]), ValueError>
+    requires { 1 ≤ left }
+    ensures ok { IfOk result
+        (λ found. compact_definition_within left table.now definition.now input.now
+        ≡ decoded found.0 found.1.now) }
+    ensures err { IfErr result
+        (IsErrorOf (compact_definition_within left table.now definition.now input.now)) }
+{
+    match definition {
+        TypeDef::Composite(composite) => match composite.fields.as_slice() {
+            [field] => compact_within(table, field.ty.id, left - 1, input),
+            _ => Err(ValueError::Unsupported),
+        },
+        TypeDef::Primitive(kind) => compact_primitive(kind, input),
+        _ => Err(ValueError::Unsupported),
+    }
+}
+
+/// A value of the type with this id, and the rest, where so many levels are left.
+#[cycle(value)]
+fn value_within<'a>(
+    alloc: Global,
+    table: &PortableRegistry,
+    id: u32,
+    left: u8,
+    input: &'a [u8],
+) -> Result<(Dyn, &'a [u8]), ValueError>
+    ensures ok { IfOk result
+        (λ found. value_within left table.now id input.now ≡ decoded found.0 found.1.now) }
+    ensures err { IfErr result (IsErrorOf (value_within left table.now id input.now)) }
+{
+    if left == 0 {
+        return Err(ValueError::TooDeep);
+    }
+    match table.resolve(id) {
+        None => Err(ValueError::NoSuchType),
+        Some(ty) => value_by(alloc, table, &ty.type_def, left, input),
+    }
+}
+
+/// A value by the definition of its type, and the rest.
+#[cycle(value)]
+fn value_by<'a>(
+    alloc: Global,
+    table: &PortableRegistry,
+    definition: &TypeDef<PortableForm>,
+    left: u8,
+    input: &'a [u8],
+) -> Result<(Dyn, &'a [u8]), ValueError>
+    requires { 1 ≤ left }
+    ensures ok { IfOk result
+        (λ found. definition_within left table.now definition.now input.now
+        ≡ decoded found.0 found.1.now) }
+    ensures err { IfErr result
+        (IsErrorOf (definition_within left table.now definition.now input.now)) }
+{
+    match definition {
+        TypeDef::Composite(composite) => {
+            let (values, rest) = fields(alloc, table, composite.fields.as_slice(), left, input)?;
+            Ok((Dyn::Record(values), rest))
+        }
+        TypeDef::Variant(choice) => {
+            variant(alloc, table, choice.variants.as_slice(), left, input)
+        }
+        TypeDef::Sequence(sequence) => {
+            let (count, rest) = count(input)?;
+            let (values, rest) = items(alloc, table, &sequence.type_param, count, left, rest)?;
+            Ok((Dyn::List(values), rest))
+        }
+        TypeDef::Array(array) => {
+            let (values, rest) = items(alloc, table, &array.type_param, array.len, left, input)?;
+            Ok((Dyn::List(values), rest))
+        }
+        TypeDef::Tuple(tuple) => {
+            let (values, rest) = members(alloc, table, tuple.fields.as_slice(), left, input)?;
+            Ok((Dyn::List(values), rest))
+        }
+        TypeDef::Primitive(kind) => primitive(alloc, kind, input),
+        TypeDef::Compact(compact) => {
+            let (number, rest) = compact_within(table, compact.type_param.id, left, input)?;
+            Ok((Dyn::Unsigned(number), rest))
+        }
+        TypeDef::BitSequence(_) => Err(ValueError::Unsupported),
+        TypeDef::Map(map) => {
+            let (count, rest) = count(input)?;
+            let (values, rest) = pairs(alloc, table, &map.key, &map.value, count, left, rest)?;
+            Ok((Dyn::List(values), rest))
+        }
+    }
+}
+
+/// The first variant with this index.
+fn variant_with_index(
+    variants: &[Variant<PortableForm>],
+    index: u8,
+) -> Option<&Variant<PortableForm>>
+    ensures { option_copied result ≡ find (λ v. v.index == index) variants.now }
+{
+    variants.iter().find(|variant| variant.index == index)
+}
+
+/// A value of an enum with these variants, and the rest.
+#[cycle(value)]
+fn variant<'a>(
+    alloc: Global,
+    table: &PortableRegistry,
+    variants: &[Variant<PortableForm>],
+    left: u8,
+    input: &'a [u8],
+) -> Result<(Dyn, &'a [u8]), ValueError>
+    requires { 1 ≤ left }
+    ensures ok { IfOk result
+        (λ found. variant_within left table.now variants.now input.now
+        ≡ decoded found.0 found.1.now) }
+    ensures err { IfErr result (IsErrorOf (variant_within left table.now variants.now input.now)) }
+{
+    let (index, rest) = byte(input)?;
+    match variant_with_index(variants, index) {
+        None => Err(ValueError::Malformed),
+        Some(variant) => {
+            let (fields, rest) = fields(alloc, table, variant.fields.as_slice(), left, rest)?;
+            let name = variant.name.try_clone(alloc)?;
+            let value = Dyn::Variant {
+                name,
+                index,
+                fields,
+            };
+            Ok((value, rest))
+        }
+    }
+}
+
+/// So many values of one type, and the rest.
+#[cycle(value)]
+fn items<'a>(
+    alloc: Global,
+    table: &PortableRegistry,
+    ty: &UntrackedSymbol<TypeId>,
+    count: u32,
+    left: u8,
+    input: &'a [u8],
+) -> Result<(Items<Dyn>, &'a [u8]), ValueError>
+    requires { 1 ≤ left }
+    ensures ok { IfOk result
+        (λ found. items_within left table.now ty.now count input.now
+        ≡ decoded found.0 found.1.now) }
+    ensures err { IfErr result (IsErrorOf (items_within left table.now ty.now count input.now)) }
+{
+    let mut values = Items::new(alloc);
+    let mut rest = input;
+    for _ in 0..count {
+        let (value, after) = value_within(alloc, table, ty.id, left - 1, rest)?;
+        values.push_towards(count as usize, value)?;
+        rest = after;
+    }
+    Ok((values, rest))
+}
+
+/// A value of each type in order, and the rest.
+#[cycle(value)]
+fn members<'a>(
+    alloc: Global,
+    table: &PortableRegistry,
+    types: &[UntrackedSymbol<TypeId>],
+    left: u8,
+    input: &'a [u8],
+) -> Result<(Items<Dyn>, &'a [u8]), ValueError>
+    requires { 1 ≤ left }
+    ensures ok { IfOk result
+        (λ found. members_within left table.now types.now input.now
+        ≡ decoded found.0 found.1.now) }
+    ensures err { IfErr result (IsErrorOf (members_within left table.now types.now input.now)) }
+{
+    let mut values = Items::new(alloc);
+    let mut rest = input;
+    for ty in types {
+        let (value, after) = value_within(alloc, table, ty.id, left - 1, rest)?;
+        values.push_towards(types.len(), value)?;
+        rest = after;
+    }
+    Ok((values, rest))
+}
+
+/// A value of each field's type in order, under the field's name, and the rest.
+#[cycle(value)]
+fn fields<'a>(
+    alloc: Global,
+    table: &PortableRegistry,
+    all: &[Field<PortableForm>],
+    left: u8,
+    input: &'a [u8],
+) -> Result<(Items<(Option<Text>, Dyn)>, &'a [u8]), ValueError>
+    requires { 1 ≤ left }
+    ensures ok { IfOk result
+        (λ found. fields_within left table.now all.now input.now ≡ decoded found.0 found.1.now) }
+    ensures err { IfErr result (IsErrorOf (fields_within left table.now all.now input.now)) }
+{
+    let mut values = Items::new(alloc);
+    let mut rest = input;
+    for field in all {
+        let (value, after) = value_within(alloc, table, field.ty.id, left - 1, rest)?;
+        values.push_towards(all.len(), (field.name.try_clone(alloc)?, value))?;
+        rest = after;
+    }
+    Ok((values, rest))
+}
+
+/// So many pairs of a key and a value, each a list of two, and the rest.
+#[cycle(value)]
+fn pairs<'a>(
+    alloc: Global,
+    table: &PortableRegistry,
+    key: &UntrackedSymbol<TypeId>,
+    value: &UntrackedSymbol<TypeId>,
+    count: u32,
+    left: u8,
+    input: &'a [u8],
+) -> Result<(Items<Dyn>, &'a [u8]), ValueError>
+    requires { 1 ≤ left }
+    ensures ok { IfOk result
+        (λ found. pairs_within left table.now key.now value.now count input.now
+        ≡ decoded found.0 found.1.now) }
+    ensures err { IfErr result
+        (IsErrorOf (pairs_within left table.now key.now value.now count input.now)) }
+{
+    let mut values = Items::new(alloc);
+    let mut rest = input;
+    for _ in 0..count {
+        let (pair, after) = pair(alloc, table, key, value, left, rest)?;
+        values.push_towards(count as usize, pair)?;
+        rest = after;
+    }
+    Ok((values, rest))
+}
+
+/// The list of a key and a value.
+fn list_of_two(alloc: Global, key: Dyn, value: Dyn) -> Result<Dyn, ValueError>
+    ensures ok { IfOk result (λ pair. pair ≡ dyn.List (key ∷ value ∷ [])) }
+    ensures err { IfErr result (λ e. e ≡ error.Memory) }
+{
+    let mut pair = Items::with_capacity(alloc, 2)?;
+    pair.push(key)?;
+    pair.push(value)?;
+    Ok(Dyn::List(pair))
+}
+
+/// A key and a value, and the rest.
+#[cycle(value)]
+fn pair<'a>(
+    alloc: Global,
+    table: &PortableRegistry,
+    key: &UntrackedSymbol<TypeId>,
+    value: &UntrackedSymbol<TypeId>,
+    left: u8,
+    input: &'a [u8],
+) -> Result<(Dyn, &'a [u8]), ValueError>
+    requires { 1 ≤ left }
+    ensures ok { IfOk result
+        (λ found. pair_within left table.now key.now value.now input.now
+        ≡ decoded found.0 found.1.now) }
+    ensures err { IfErr result
+        (IsErrorOf (pair_within left table.now key.now value.now input.now)) }
+{
+    let inner = left.saturating_sub(2);
+    let (key, rest) = value_within(alloc, table, key.id, inner, input)?;
+    let (value, rest) = value_within(alloc, table, value.id, inner, rest)?;
+    Ok((list_of_two(alloc, key, value)?, rest))
+}

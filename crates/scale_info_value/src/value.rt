@@ -1,0 +1,73 @@
+//! Values decoded by a table, and why there is none.
+ghost use Rattle.std.specs.Prelude.{◌≡◌};
+ghost use Rattle.scale_info_value.specs.declared.value.ValueError.TheVariants as error;
+
+pub use crate::decode::decode_value;
+use scale_info_collections::items::Items;
+use scale_info_collections::text::Text;
+use std::alloc::{AllocError, AllocFailed};
+use thiserror::Error;
+
+/// A value of some type, without the type.
+#[derive(Drop, PartialEq, Eq)]
+pub enum Dyn {
+    /// A truth value.
+    Bool(bool),
+    /// A number of an unsigned type, compact or not.
+    Unsigned(u128),
+    /// A number of a signed type.
+    Signed(i128),
+    /// A text.
+    Text(Text),
+    /// The items of a sequence or an array, the members of a tuple, or the pairs of a map, each a
+    /// list of a key and a value.
+    List(Items<Dyn>),
+    /// The fields of a composite, each with its name, if it has one.
+    Record(Items<(Option<Text>, Dyn)>),
+    /// A variant of an enum.
+    Variant {
+        /// The variant's name.
+        name: Text,
+        /// The variant's index.
+        index: u8,
+        /// The variant's fields, each with its name, if it has one.
+        fields: Items<(Option<Text>, Dyn)>,
+    },
+}
+
+/// Why no value could be decoded.
+#[derive(Debug, Drop, PartialEq, Eq, Error)]
+pub enum ValueError {
+    /// An id is no index of the table.
+    #[error("NoSuchType")]
+    NoSuchType,
+    /// A type whose values are not decoded: `char`, `u256`, `i256`, bit sequences, and compact
+    /// types that are no unsigned number of up to 128 bits.
+    #[error("Unsupported")]
+    Unsupported,
+    /// A value more than 128 deep.
+    #[error("TooDeep")]
+    TooDeep,
+    /// No prefix of the input is a value of the type.
+    #[error("Malformed")]
+    Malformed,
+    /// An allocation failed.
+    #[error("Memory")]
+    Memory,
+}
+
+impl From<AllocError> for ValueError {
+    ghost from_gives = { λ _ e. e ≡ error.Memory };
+
+    fn from(_e: AllocError) -> ValueError {
+        ValueError::Memory
+    }
+}
+
+impl<T: Drop> From<AllocFailed<T>> for ValueError {
+    ghost from_gives = { λ _ e. e ≡ error.Memory };
+
+    fn from(_e: AllocFailed<T>) -> ValueError {
+        ValueError::Memory
+    }
+}

@@ -1,0 +1,33 @@
+//! A caller that decodes by a pruned table what the whole table describes.
+ghost use Rattle.std.specs.Prelude.{◌≡◌, Some, List, ℕ, IfOk, IfErr, map, slice_get};
+ghost use Rattle.scale_info_numberings.specs.Tables.{IsTable};
+ghost use Rattle.scale_info_tables.specs.TableSystems.{entry_of, system_of};
+ghost use Rattle.scale_info_tables.specs.declared.portable.PortableRegistry.{PortableRegistry};
+ghost use Rattle.scale_info_value.specs.Outcomes.{decoded, IsErrorOf};
+ghost use Rattle.scale_info_value.specs.Readings.{reading};
+
+use scale_info::PortableRegistry;
+use scale_info::laws::reads_alike;
+use scale_info::value::{Dyn, ValueError, decode_value};
+use std::alloc::Global;
+
+/// Decodes by a pruned table. For each table that it was pruned from, the value, the rest and the
+/// error are those that the whole table gives at the id that the type had there.
+pub fn decode_by_pruned<'a>(
+    alloc: Global,
+    pruned: &PortableRegistry,
+    index: u32,
+    input: &'a [u8],
+) -> Result<(Dyn, &'a [u8]), ValueError>
+    ensures ok { (whole : PortableRegistry) (kept : List ℕ) (id : ℕ)
+        → IsTable (system_of whole) kept (map entry_of pruned.now.types)
+        → slice_get kept index ≡ Some id
+        → IfOk result (λ found. reading whole id 1 input.now ≡ decoded found.0 found.1.now) }
+    ensures err { (whole : PortableRegistry) (kept : List ℕ) (id : ℕ)
+        → IsTable (system_of whole) kept (map entry_of pruned.now.types)
+        → slice_get kept index ≡ Some id
+        → IfErr result (IsErrorOf (reading whole id 1 input.now)) }
+{
+    reads_alike();
+    decode_value(alloc, pruned, index, input)
+}
