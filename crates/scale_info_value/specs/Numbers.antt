@@ -45,8 +45,8 @@ many_bytes high input =
     (λ n rest. at_least (max 1073741824 (256 ^ (high + 3))) n rest)
 
 -- What follows the first byte of a compact number. The two low bits of that byte are the mode, its
--- six high bits are `high`. Each number has one encoding, the shortest: 0 to 63 is `high` itself; 64
--- to 16383 has its 6 low bits there and one byte more, 16384 to 1073741823 three bytes more; and
+-- six high bits are `high`. Each number has one encoding, the shortest: 0 to 63 is `high` itself;
+-- 64 to 16383 has its 6 low bits there and one byte more, 16384 to 1073741823 three bytes more; and
 -- from there on `high + 4` bytes follow, from 4 to 16.
 abbrev pub compact_after : ℕ → ℕ → Decoder ℕ
 compact_after mode high input =
