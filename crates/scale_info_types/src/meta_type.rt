@@ -1,6 +1,8 @@
 //! Types of the program: their identities, and what they are described as.
 ghost use Rattle.std.specs.Prelude.{◌≡◌, Option, Some, None, IfOk, IsErrOf};
+ghost use Rattle.std.specs.Option.{option_copied};
 ghost use Rattle.scale_info_identities.specs.TypeIds.{Term, term_of};
+ghost use Rattle.scale_info_types.specs.Catalogues.{described};
 ghost use Rattle.scale_info_types.specs.MetaDescriptions.{MetaContent, meta_content, type_term};
 ghost use Rattle.scale_info_types.specs.declared.meta_type.InfoError.TheVariants as info_error;
 
@@ -9,6 +11,10 @@ use scale_info_collections::try_clone::TryClone;
 pub use scale_info_identities::type_id::TypeId;
 use std::alloc::{AllocError, AllocFailed, Global};
 use thiserror::Error;
+
+mod descriptions;
+
+pub use descriptions::{Catalogue, CatalogueError};
 
 /// Why a type could not be described. It is displayed as the name of the variant alone.
 #[derive(Debug, Drop, PartialEq, Eq, Error)]
@@ -105,6 +111,13 @@ impl MetaType {
         ensures { result.now ≡ self.now.identity }
     {
         &self.identity
+    }
+
+    /// The type's description in a catalogue; None if it has none there. Does not allocate.
+    pub fn type_info<'c>(&self, catalogue: &'c Catalogue) -> Option<&'c Type>
+        ensures { option_copied result ≡ described catalogue.now (type_term self.now) }
+    {
+        catalogue.get(&self.identity)
     }
 }
 
