@@ -3,10 +3,11 @@
 use Rattle.std.specs.Prelude.{List, ℕ}
 use Rattle.std.specs.Borrow.{Bor}
 use Rattle.scale_info_identities.specs.TypeIds.{Term, term_of}
-use Rattle.scale_info_types.specs.Shapes.{content}
+use Rattle.scale_info_types.specs.Shapes.{content, map_definition}
 use Rattle.scale_info_types.specs.declared.form.MetaForm.{MetaForm}
 use Rattle.scale_info_types.specs.declared.meta_type.MetaType.{MetaType}
 use Rattle.scale_info_types.specs.declared.ty.Description.{Description}
+use Rattle.scale_info_types.specs.declared.ty.TypeDef.{TypeDef}
 
 -- a description whose types are identities and whose texts are `&'static str`
 abbrev pub MetaDescription : Type 0
@@ -23,3 +24,8 @@ type_term ty = term_of ty.identity
 -- the contents of a description: each type read as the term of its identity, each text as its bytes
 abbrev pub meta_content : MetaDescription → MetaContent
 meta_content d = content type_term (λ text. text.now) d
+
+-- the contents of a definition, read in the same way
+abbrev pub meta_definition :
+    TypeDef MetaForm MetaType (Bor (List ℕ)) → TypeDef (Unit {0}) Term (List ℕ)
+meta_definition d = map_definition type_term (λ text. text.now) d

@@ -5,7 +5,6 @@ use Rattle.std.specs.Prelude.{ℕ, List, [], ◌∷◌, Option, Some, None, code
 use Rattle.scale_info_identities.specs.TypeIds.{Term, term, no_terms, more_terms}
 use Rattle.scale_info_types.specs.MetaDescriptions.{MetaContent}
 use Rattle.scale_info_types.specs.Primitives.{primitive_name}
-use Rattle.scale_info_types.specs.declared.ty.Description.{Description}
 use Rattle.scale_info_types.specs.declared.ty.TypeDef.{TypeDef}
 use Rattle.scale_info_types.specs.declared.ty.TypeDef.TheVariants as def
 use Rattle.scale_info_types.specs.declared.ty.TypeDefPrimitive.{TypeDefPrimitive}
@@ -20,8 +19,7 @@ abbrev pub applied : List ℕ → Term → Term
 applied head t = term head [] (more_terms t no_terms)
 
 -- a description of the definition alone: path, parameters and docs are empty
-abbrev pub defined :
-    {R : Type 0} → TypeDef (Unit {0}) R (List ℕ) → Description (Unit {0}) R (List ℕ)
+abbrev pub defined : TypeDef (Unit {0}) Term (List ℕ) → MetaContent
 defined d =
     record {
       path = record { segments = []; form = tt };

@@ -1,15 +1,14 @@
 //! Types of this library that descriptions speak of, and the descriptions of standard types.
 ghost use Rattle.std.specs.Prelude.{◌≡◌, [], ◌∷◌, IfOk, Some};
 ghost use Rattle.scale_info_identities.specs.TypeIds.{term_of, term};
-ghost use Rattle.scale_info_types.specs.MetaDescriptions.{type_term};
-ghost use Rattle.scale_info_types.specs.Shapes.{content, map_definition};
+ghost use Rattle.scale_info_types.specs.MetaDescriptions.{meta_content, meta_definition, type_term};
 ghost use Rattle.scale_info_types.specs.StandardTypes.{applied, compact_description, compact_term};
 ghost use Rattle.scale_info_types.specs.StandardTypes.{defined, named};
-ghost use Rattle.scale_info_types.specs.declared.ty.TypeDef.TheVariants as def;
 
-use crate::form::{Form, MetaForm};
+use crate::form::MetaForm;
 use crate::meta_type::{HasIdentity, Identified, InfoError, MetaType, TypeId, TypeInfo};
-use crate::ty::{Type, TypeDef, TypeDefArray, TypeDefCompact, TypeDefSequence};
+use crate::ty::by_type::compact;
+use crate::ty::{Type, TypeDef};
 use std::alloc::{AllocError, Global};
 use std::marker::PhantomData;
 
@@ -55,7 +54,7 @@ impl<T: TypeInfo> TypeInfo for Compact<T> {
     ghost description = { compact_description T.Identity.own };
 
     fn type_info(alloc: Global) -> Result<Type, InfoError> {
-        Ok(compact_info::<MetaForm>(alloc, meta_type::<T>(alloc)?))
+        Ok(built_in(alloc, compact::<MetaForm>(meta_type::<T>(alloc)?)))
     }
 }
 
@@ -75,33 +74,8 @@ fn applied_type<T: Identified>(alloc: Global, head: &'static str) -> Result<Type
 }
 
 /// The description of a type that has no path, no parameters and no docs.
-fn built_in<F: Form>(alloc: Global, definition: TypeDef<F>) -> Type<F>
-    ensures { content F.reference F.text result
-        ≡ defined (map_definition F.reference F.text definition) }
+fn built_in(alloc: Global, definition: TypeDef) -> Type
+    ensures { meta_content result ≡ defined (meta_definition definition.entry) }
 {
     Type::from_def(alloc, definition)
-}
-
-/// The description of items of one type.
-fn sequence_info<F: Form>(alloc: Global, items: F::Ty) -> Type<F>
-    ensures { content F.reference F.text result
-        ≡ defined (def.Sequence (record { type_param = F.reference items })) }
-{
-    built_in(alloc, TypeDef::Sequence(TypeDefSequence::new(items)))
-}
-
-/// The description of this many items of one type.
-fn array_info<F: Form>(alloc: Global, len: u32, items: F::Ty) -> Type<F>
-    ensures { content F.reference F.text result
-        ≡ defined (def.Array (record { len = len; type_param = F.reference items })) }
-{
-    built_in(alloc, TypeDef::Array(TypeDefArray::new(len, items)))
-}
-
-/// The description of a number of this type in the compact encoding.
-fn compact_info<F: Form>(alloc: Global, number: F::Ty) -> Type<F>
-    ensures { content F.reference F.text result
-        ≡ defined (def.Compact (record { type_param = F.reference number })) }
-{
-    built_in(alloc, TypeDef::Compact(TypeDefCompact::new(number)))
 }

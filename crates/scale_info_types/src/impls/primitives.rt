@@ -6,7 +6,6 @@ ghost use Rattle.scale_info_types.specs.StandardTypes.{primitive_description, pr
 ghost use Rattle.scale_info_types.specs.declared.ty.TypeDefPrimitive.TheVariants as kind;
 
 use super::{built_in, named_type};
-use crate::form::MetaForm;
 use crate::meta_type::{HasIdentity, Identified, InfoError, TypeId, TypeInfo};
 use crate::ty::{Type, TypeDef, TypeDefPrimitive};
 use std::alloc::{AllocError, Global};
@@ -22,7 +21,7 @@ fn primitive_id(alloc: Global, primitive: TypeDefPrimitive) -> TypeId
 pub(super) fn primitive_info(alloc: Global, primitive: TypeDefPrimitive) -> Type
     ensures { Some (meta_content result) ≡ primitive_description primitive }
 {
-    built_in::<MetaForm>(alloc, TypeDef::Primitive(primitive))
+    built_in(alloc, TypeDef::Primitive(primitive))
 }
 
 impl Identified for bool {

@@ -4,10 +4,11 @@ ghost use Rattle.scale_info_types.specs.StandardTypes.{array_description, array_
 ghost use Rattle.scale_info_types.specs.StandardTypes.{slice_description, slice_term, vec_deque_term};
 ghost use Rattle.scale_info_types.specs.StandardTypes.{vec_term};
 
-use super::{SliceOf, applied_type, array_info, meta_type, sequence_info};
+use super::{SliceOf, applied_type, built_in, meta_type};
 use crate::form::MetaForm;
 use crate::meta_type::{HasIdentity, Identified, InfoError, TypeId, TypeInfo};
-use crate::ty::Type;
+use crate::ty::by_type::array;
+use crate::ty::{Type, TypeDefSequence};
 use std::alloc::{AllocError, Global};
 use std::collections::VecDeque;
 
@@ -32,7 +33,7 @@ impl<T: TypeInfo, const N: usize> TypeInfo for [T; N] {
             return Err(InfoError::TooLong);
         }
         let items = meta_type::<T>(alloc)?;
-        Ok(array_info::<MetaForm>(alloc, N as u32, items))
+        Ok(built_in(alloc, array::<MetaForm>(N as u32, items)))
     }
 }
 
@@ -52,7 +53,7 @@ impl<T: TypeInfo> TypeInfo for SliceOf<T> {
     ghost description = { slice_description T.Identity.own };
 
     fn type_info(alloc: Global) -> Result<Type, InfoError> {
-        Ok(sequence_info::<MetaForm>(alloc, meta_type::<T>(alloc)?))
+        Ok(built_in(alloc, TypeDefSequence::of::<T>(alloc)?))
     }
 }
 
