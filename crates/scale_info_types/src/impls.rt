@@ -12,9 +12,10 @@ use crate::ty::{Type, TypeDef};
 use std::alloc::{AllocError, Global};
 use std::marker::PhantomData;
 
+mod lists;
 mod pointers;
 mod primitives;
-mod sequences;
+mod slices;
 mod texts;
 
 /// A number in SCALE's compact encoding, which takes as few bytes as the number needs.

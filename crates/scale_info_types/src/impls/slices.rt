@@ -1,8 +1,7 @@
-//! Items of one type, one after another.
+//! Arrays and slices.
 ghost use Rattle.std.specs.Prelude.{◌≡◌, ◌∷◌, []};
 ghost use Rattle.scale_info_types.specs.StandardTypes.{array_description, array_term, reference_term};
-ghost use Rattle.scale_info_types.specs.StandardTypes.{slice_description, slice_term, vec_deque_term};
-ghost use Rattle.scale_info_types.specs.StandardTypes.{vec_term};
+ghost use Rattle.scale_info_types.specs.StandardTypes.{slice_description, slice_term};
 
 use super::{SliceOf, applied_type, built_in, meta_type};
 use crate::form::MetaForm;
@@ -10,7 +9,6 @@ use crate::meta_type::{HasIdentity, Identified, InfoError, TypeId, TypeInfo};
 use crate::ty::by_type::array;
 use crate::ty::{Type, TypeDefSequence};
 use std::alloc::{AllocError, Global};
-use std::collections::VecDeque;
 
 impl<T: Identified, const N: usize> Identified for [T; N] {
     ghost own = { array_term N T.own };
@@ -54,46 +52,6 @@ impl<T: TypeInfo> TypeInfo for SliceOf<T> {
 
     fn type_info(alloc: Global) -> Result<Type, InfoError> {
         Ok(built_in(alloc, TypeDefSequence::of::<T>(alloc)?))
-    }
-}
-
-impl<T: Identified> Identified for Vec<T> {
-    ghost own = { vec_term T.own };
-
-    fn type_id(alloc: Global) -> Result<TypeId, AllocError> {
-        applied_type::<T>(alloc, "Vec")
-    }
-}
-
-impl<T: Identified> HasIdentity for Vec<T> {
-    type Identity = SliceOf<T>;
-}
-
-impl<T: TypeInfo> TypeInfo for Vec<T> {
-    ghost description = { slice_description T.Identity.own };
-
-    fn type_info(alloc: Global) -> Result<Type, InfoError> {
-        SliceOf::<T>::type_info(alloc)
-    }
-}
-
-impl<T: Identified> Identified for VecDeque<T> {
-    ghost own = { vec_deque_term T.own };
-
-    fn type_id(alloc: Global) -> Result<TypeId, AllocError> {
-        applied_type::<T>(alloc, "VecDeque")
-    }
-}
-
-impl<T: Identified> HasIdentity for VecDeque<T> {
-    type Identity = SliceOf<T>;
-}
-
-impl<T: TypeInfo> TypeInfo for VecDeque<T> {
-    ghost description = { slice_description T.Identity.own };
-
-    fn type_info(alloc: Global) -> Result<Type, InfoError> {
-        SliceOf::<T>::type_info(alloc)
     }
 }
 
