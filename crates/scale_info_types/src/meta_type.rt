@@ -45,7 +45,9 @@ impl<T: Drop> From<AllocFailed<T>> for InfoError {
 
 /// A type that has a term of its own.
 ///
-/// A type has one term: whenever it is asked, `type_id` returns an identity with this term.
+/// A type has one term: `type_id` always returns an identity with this term. Types with one term
+/// are one type to descriptions and catalogues, so a program's own type takes a head that contains
+/// `::`, such as `shapes::Point`. Nothing checks it.
 pub trait Identified {
     /// The type's own term.
     ghost own: { Term };
@@ -69,7 +71,32 @@ pub trait HasIdentity: Identified {
 
 /// A type that can be described.
 ///
-/// A type has one description, or none: that is so for an array that is too long alone.
+/// A type has one description, or none: that is so for an array that is too long alone. A type may
+/// lead back to itself:
+///
+/// ```text
+/// struct Tree(Vec<Box<Tree>>);
+///
+/// impl Identified for Tree {
+///     ghost own = { named (codes "demo::Tree") };
+///
+///     fn type_id(alloc: Global) -> Result<TypeId, AllocError> {
+///         Ok(TypeId::new("demo::Tree", Vec::new(alloc), Vec::new(alloc)))
+///     }
+/// }
+///
+/// impl HasIdentity for Tree {
+///     type Identity = Tree;
+/// }
+///
+/// impl TypeInfo for Tree {
+///     ghost description = { slice_description ⟦<Tree as Identified>⟧.own };
+///
+///     fn type_info(alloc: Global) -> Result<Type, InfoError> {
+///         Ok(Type::from_def(alloc, TypeDefSequence::of::<Box<Tree>>(alloc)?))
+///     }
+/// }
+/// ```
 pub trait TypeInfo: HasIdentity {
     /// What the type is described as.
     ghost description: { Option MetaContent };

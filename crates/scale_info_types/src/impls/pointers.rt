@@ -1,6 +1,7 @@
 //! Pointers to one value: a pointer is described as what it points to.
 ghost use Rattle.scale_info_types.specs.StandardTypes.{box_term, mutable_reference_term};
-ghost use Rattle.scale_info_types.specs.StandardTypes.{pointer_description, rc_term, reference_term};
+ghost use Rattle.scale_info_types.specs.StandardTypes.{pointer_description, rc_term};
+ghost use Rattle.scale_info_types.specs.StandardTypes.{reference_term};
 
 use super::applied_type;
 use crate::meta_type::{HasIdentity, Identified, InfoError, TypeId, TypeInfo};

@@ -1,7 +1,8 @@
 //! Arrays and slices.
 ghost use Rattle.std.specs.Prelude.{◌≡◌, ◌∷◌, []};
-ghost use Rattle.scale_info_types.specs.StandardTypes.{array_description, array_term, reference_term};
-ghost use Rattle.scale_info_types.specs.StandardTypes.{slice_description, slice_term};
+ghost use Rattle.scale_info_types.specs.StandardTypes.{array_description, array_term};
+ghost use Rattle.scale_info_types.specs.StandardTypes.{reference_term, slice_description};
+ghost use Rattle.scale_info_types.specs.StandardTypes.{slice_term};
 
 use super::{SliceOf, applied_type, built_in, meta_type};
 use crate::form::MetaForm;

@@ -1,9 +1,9 @@
 //! Texts.
-ghost use Rattle.std.specs.Prelude.{◌≡◌, Some, None, IfOk, IsErrOf, codes};
+ghost use Rattle.std.specs.Prelude.{◌≡◌, None, Some, IfOk, IsErrOf};
 ghost use Rattle.scale_info_identities.specs.TypeIds.{term_of};
 ghost use Rattle.scale_info_types.specs.MetaDescriptions.{meta_content};
-ghost use Rattle.scale_info_types.specs.StandardTypes.{named, reference_term, str_description, str_term};
-ghost use Rattle.scale_info_types.specs.StandardTypes.{string_term};
+ghost use Rattle.scale_info_types.specs.StandardTypes.{reference_term, str_description};
+ghost use Rattle.scale_info_types.specs.StandardTypes.{str_term, string_term};
 
 use super::primitives::primitive_info;
 use super::{StrType, applied_type, named_type};

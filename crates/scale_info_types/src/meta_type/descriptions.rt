@@ -61,8 +61,15 @@ impl From<InfoError> for CatalogueError {
 
 /// Descriptions by identity: a finite map in which each identity has one description.
 ///
-/// A catalogue has what a registration may reach. A look-up or an insertion takes a number of
-/// comparisons of identities logarithmic in the number of descriptions.
+/// A look-up or an insertion takes a number of comparisons of identities logarithmic in the number
+/// of descriptions.
+///
+/// ```text
+/// let mut catalogue = Catalogue::new(alloc);
+/// catalogue.add::<u8>(alloc)                                      // Ok(true)
+/// catalogue.add::<Box<u8>>(alloc)                                 // Ok(false): known as u8
+/// catalogue.add_described(u8::type_id(alloc)?, bool::type_info(alloc)?)  // Err(Conflict)
+/// ```
 #[derive(Drop)]
 pub struct Catalogue {
     entries: BTreeMap<TypeId, Type>,
