@@ -15,7 +15,7 @@ pub use scale_info_identities::{interner, utils};
 pub use scale_info_json::{JsonError, append_json, from_json, to_json};
 pub use scale_info_tables::portable;
 pub use scale_info_tables::portable::{PortableRegistry, PortableRegistryBuilder};
-pub use scale_info_types::meta_type::MetaType;
+pub use scale_info_types::meta_type::{MetaType, StaticTypeInfo, TypeInfo};
 pub use scale_info_types::ty::path::{Path, PathError};
 pub use scale_info_types::ty::variant::Variant;
 pub use scale_info_types::ty::{

@@ -1,4 +1,5 @@
 pub mod BuiltTables
+pub mod CatalogueSystems
 pub mod ClosedTables
 pub mod Entries
 pub mod TableEncoding

@@ -17,6 +17,7 @@ use scale_info_identities::interner::UntrackedSymbol;
 use scale_info_identities::type_id::TypeId;
 use std::alloc::{AllocError, Global};
 
+pub(crate) mod by_type;
 pub mod composite;
 pub mod fields;
 pub mod path;

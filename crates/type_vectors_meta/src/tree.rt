@@ -1,0 +1,51 @@
+//! A type of a program's own, which leads back to itself.
+ghost use Rattle.std.specs.Prelude.{codes};
+ghost use Rattle.scale_info_types.specs.StandardTypes.{named, slice_description};
+
+use crate::asserts::is;
+use crate::rows::plain;
+use scale_info::impls::meta_type;
+use scale_info::meta_type::{Catalogue, HasIdentity, Identified, InfoError};
+use scale_info::{Type, TypeDefSequence, TypeId, TypeInfo};
+use std::alloc::{AllocError, Global};
+use std::test::Fail;
+
+/// A tree is the list of its branches.
+pub struct Tree(Vec<Box<Tree>>);
+
+impl Identified for Tree {
+    ghost own = { named (codes "demo::Tree") };
+
+    fn type_id(alloc: Global) -> Result<TypeId, AllocError> {
+        Ok(TypeId::new("demo::Tree", Vec::new(alloc), Vec::new(alloc)))
+    }
+}
+
+impl HasIdentity for Tree {
+    type Identity = Tree;
+}
+
+impl TypeInfo for Tree {
+    ghost description = { slice_description ⟦<Tree as Identified>⟧.own };
+
+    fn type_info(alloc: Global) -> Result<Type, InfoError> {
+        Ok(Type::from_def(alloc, TypeDefSequence::of::<Box<Tree>>(alloc)?))
+    }
+}
+
+#[test]
+fn a_tree_is_described_by_itself(rt: HostRuntime) -> Result<(), Fail> {
+    let alloc = rt.alloc();
+    let mut catalogue = Catalogue::new(alloc);
+    is(&rt, "add", catalogue.add::<Tree>(alloc), Ok(true));
+    is(&rt, "Box", catalogue.add::<Box<Tree>>(alloc), Ok(false));
+    let branch = meta_type::<Box<Tree>>(alloc)?;
+    is(
+        &rt,
+        "identity",
+        branch.type_id(),
+        &plain(alloc, "demo::Tree"),
+    );
+    is(&rt, "found", branch.type_info(&catalogue).is_some(), true);
+    Ok(())
+}
