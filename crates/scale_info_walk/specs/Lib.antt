@@ -1,0 +1,2 @@
+pub mod TypeSystems
+pub mod Walks
