@@ -109,7 +109,7 @@ set_other xs i j v ne =
       | inr h ↦ slice_get_past (set xs i v) j (omega arith) ∙ sym (slice_get_past xs j h)
     ]
 
-same_or_not : (i j : ℕ) → (i ≡ j) ⊎ (i ≢ j)
+pub same_or_not : (i j : ℕ) → (i ≡ j) ⊎ (i ≢ j)
 same_or_not i j =
     elim (cases_lt i j) [
       | inl h ↦ inr (λ e. omega arith)

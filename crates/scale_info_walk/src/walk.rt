@@ -18,7 +18,7 @@ use std::alloc::{AllocError, AllocFailed, Global};
 use thiserror::Error;
 
 /// The number of an index that has none: no order is so long.
-const NONE: u32 = 4294967295;
+pub(crate) const NONE: u32 = 4294967295;
 
 /// Why a table could not be numbered or pruned. It is displayed as the name of the variant alone.
 #[derive(Debug, Drop, PartialEq, Eq, Error)]
