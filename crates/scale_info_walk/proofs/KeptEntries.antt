@@ -25,12 +25,12 @@ use Rattle.scale_info_walk.specs.TypeSystems.{entry_of, ids_in, types_system}
 use Rattle.scale_info_walk.specs.Walks.{AreNumbers}
 
 pub kept_more :
-    (types : List PortableType) (order numbers : List ℕ) (kept : List PortableType) (k : ℕ)
+    (types : List PortableType) (order : List ℕ) (f : Id → ℕ) (kept : List PortableType) (k : ℕ)
     (old new : PortableType)
     → slice_get types k ≡ Some old
-    → new ≡ kept_entry numbers (length kept) old
-    → AreKept types order numbers kept → AreKept types (order ++ k ∷ []) numbers (kept ++ new ∷ [])
-kept_more types order numbers kept k old new s e x =
+    → new ≡ kept_entry f (length kept) old
+    → AreKept types order f kept → AreKept types (order ++ k ∷ []) f (kept ++ new ∷ [])
+kept_more types order f kept k old new s e x =
     let a = length_push kept new in
     let b = length_push order k in
     let same = x.0 in (
@@ -51,7 +51,7 @@ kept_more types order numbers kept k old new s e x =
                   ap (λ j. slice_get types j) (sym key) ∙ s,
                   ap (λ j. slice_get (kept ++ new ∷ []) j) there
                       ∙ (at_seam kept [] new
-                      ∙ ap Some (e ∙ ap (λ j. kept_entry numbers j old) (sym there))),
+                      ∙ ap Some (e ∙ ap (λ j. kept_entry f j old) (sym there))),
                 )
           ],
     )
@@ -67,23 +67,32 @@ length_map : {A B : Type 0} (f : A → B) (xs : List A) → length (map f xs) �
 length_map f [] = refl
 length_map f (x ∷ xs) = let r = length_map f xs in omega arith
 
+-- f gives each reference its number
+abbrev pub Agrees : List ℕ → (Id → ℕ) → Type 0
+Agrees numbers f = (r : Id) (p : ℕ) → slice_get numbers r.id ≡ Some p → f r ≡ p
+
+-- the numbers that a dense list has
+pub numbers_agree : (numbers : List ℕ) → Agrees numbers (number_of numbers)
+numbers_agree numbers r p e = get_or_from_slice_get numbers r.id p 0 e
+
 -- the new number of each reference is its place
 new_places :
-    (order numbers : List ℕ) (rs : List Id) → AreNumbers order numbers
+    (order numbers : List ℕ) (f : Id → ℕ) (rs : List Id) → AreNumbers order numbers
+    → Agrees numbers f
     → ((r : ℕ) → Contains (map (λ (symbol : Id). symbol.id) rs) r → Contains order r)
-    → ArePlaces order (map (λ (symbol : Id). symbol.id) rs) (map (number_of numbers) rs)
-new_places order numbers [] x all = tt
-new_places order numbers (r ∷ rs) x all =
+    → ArePlaces order (map (λ (symbol : Id). symbol.id) rs) (map f rs)
+new_places order numbers f [] x agrees all = tt
+new_places order numbers f (r ∷ rs) x agrees all =
     let p = place_of order r.id (all r.id (contains_head r.id (map (λ (symbol : Id). symbol.id) rs))) in
     let at = x.placed p.0 r.id p.1 in
-    let same : number_of numbers r ≡ p.0 = get_or_from_slice_get numbers r.id p.0 0 at in (
+    let same : f r ≡ p.0 = agrees r p.0 at in (
       ap (λ j. slice_get order j) same ∙ p.1,
-      new_places order numbers rs x (λ k c. all k (contains_tail r.id (map (λ (symbol : Id). symbol.id) rs) k c)),
+      new_places order numbers f rs x agrees (λ k c. all k (contains_tail r.id (map (λ (symbol : Id). symbol.id) rs) k c)),
     )
 
-module _ (types : List PortableType) (roots order numbers : List ℕ) (kept : List PortableType)
+module _ (types : List PortableType) (roots order numbers : List ℕ) (f : Id → ℕ) (kept : List PortableType)
     (numbering : IsNumbering (types_system types) roots order) (dense : AreNumbers order numbers)
-    (x : AreKept types order numbers kept) where
+    (agrees : Agrees numbers f) (x : AreKept types order f kept) where
   -- the references of what is kept are kept
   refs_kept :
       (n : ℕ) (old : PortableType) → Contains order n → slice_get types n ≡ Some old
@@ -98,15 +107,15 @@ module _ (types : List PortableType) (roots order numbers : List ℕ) (kept : Li
         long = length_map entry_of kept ∙ x.0;
         entries = λ i n e.
             let r = x.1 i n e in
-            let new = kept_entry numbers i r.0 in (
+            let new = kept_entry f i r.0 in (
               entry_of r.0,
               entry_of new,
               ap (option_map entry_of) r.1,
               at_map entry_of kept i new r.2,
-              shape_stays (number_of numbers) (λ (text : Text). text) r.0.ty,
+              shape_stays f (λ (text : Text). text) r.0.ty,
               subst (λ (ps : List ℕ). ArePlaces order (ids_in r.0.ty) ps)
-                  (sym (ids_replaced (number_of numbers) (λ (text : Text). text) r.0.ty))
-                  (new_places order numbers (references r.0.ty) dense
+                  (sym (ids_replaced f (λ (text : Text). text) r.0.ty))
+                  (new_places order numbers f (references r.0.ty) dense agrees
                   (refs_kept n r.0 (contains_at order n i e) r.1)),
             );
       }
@@ -117,7 +126,7 @@ module _ (types : List PortableType) (roots order numbers : List ℕ) (kept : Li
       let long = x.0 in
       let n = element_at order i (omega arith) in
       let r = x.1 i n.0 n.1 in
-      ap (λ (t : PortableType). t.id) (same_Some entry (kept_entry numbers i r.0) (sym e ∙ r.2))
+      ap (λ (t : PortableType). t.id) (same_Some entry (kept_entry f i r.0) (sym e ∙ r.2))
 
   pub kept_indices :
       (new_ids : BTreeMap ℕ ℕ) → length order ≤ 4294967295

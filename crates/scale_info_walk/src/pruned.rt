@@ -116,7 +116,8 @@ fn kept_entries(
 ) -> Result<Vec<PortableType>, AllocError>
     requires within { All (λ index. index < length types.now) order.now }
     requires few { length order.now ≤ 4294967295 }
-    ensures { IfOk result (λ kept. AreKept types.now order.now numbers.now kept.items) }
+    ensures { IfOk result (λ kept.
+        AreKept types.now order.now (number_of numbers.now) kept.items) }
 {
     let mut kept = Vec::with_capacity(alloc, order.len())?;
     for old in order {

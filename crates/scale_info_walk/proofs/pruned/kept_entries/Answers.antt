@@ -28,6 +28,6 @@ loop-old-preserved c =
     let conv : c.in_ok-ty.ty ≡ with_ids (number_of numbers) (λ (text : Text). text) old.ty =
     c.in_ok-ty.ensures
     ∙ ap (λ (o : PortableType). with_ids (number_of numbers) (λ (text : Text). text) o.ty) (sym c.index-types-old.is) in
-    subst (λ os. AreKept types os numbers c.push.new.self.items) (sym (take_more order i 0 c.loop-old-test.true))
-    (subst (λ (xs : List PortableType). AreKept types (take i order ++ key ∷ []) numbers xs) (sym pushed)
-    (kept_more types (take i order) numbers kept key old new at (λ j. record { id = id j; ty = conv j }) c.loop-old.invariant))
+    subst (λ os. AreKept types os (number_of numbers) c.push.new.self.items) (sym (take_more order i 0 c.loop-old-test.true))
+    (subst (λ (xs : List PortableType). AreKept types (take i order ++ key ∷ []) (number_of numbers) xs) (sym pushed)
+    (kept_more types (take i order) (number_of numbers) kept key old new at (λ j. record { id = id j; ty = conv j }) c.loop-old.invariant))

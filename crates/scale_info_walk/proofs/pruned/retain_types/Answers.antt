@@ -2,8 +2,8 @@ use Rattle.std.proofs.Common.{arith, Bool, [], ◌≢◌, ◌↔◌, slice_get, 
 use Rattle.std.proofs.lemmas.List.Elements.{Contains-get_or}
 use Rattle.std.proofs.lemmas.Result.{err_from_is_err_and}
 use Rattle.scale_info_walk.proofs.Visiting.{numbers_long, numbers_within}
-use Rattle.scale_info_walk.proofs.KeptEntries.{is_pruned}
-use Rattle.scale_info_walk.specs.Kept.{AreKept}
+use Rattle.scale_info_walk.proofs.KeptEntries.{is_pruned, numbers_agree}
+use Rattle.scale_info_walk.specs.Kept.{AreKept, number_of}
 use Rattle.scale_info_walk.specs.Pruned.{IsChosen, IsRetainError}
 use Rattle.scale_info_walk.specs.TypeSystems.{types_system}
 use Rattle.scale_info_walk.specs.Walks.{IsCause}
@@ -64,14 +64,14 @@ returns-clause-ok g c =
     let long = numbers_long order numbers dense in
     let numbering : IsNumbering (types_system types) c.in_ok-chosen.chosen.items order =
     subst (λ (rs : List ℕ). IsNumbering (types_system types) rs order) c.deref.ensures.value c.in_ok-found.ensures.numbering in
-    let kept : AreKept types order numbers c.in_ok-kept.kept.items =
-    subst (λ (ns : List ℕ). AreKept types order ns c.in_ok-kept.kept.items) c.deref-3.ensures.value
-    (subst (λ (os : List ℕ). AreKept types os c.deref-3.result.now c.in_ok-kept.kept.items) c.deref-2.ensures.value c.in_ok-kept.ensures) in
+    let kept : AreKept types order (number_of numbers) c.in_ok-kept.kept.items =
+    subst (λ (ns : List ℕ). AreKept types order (number_of ns) c.in_ok-kept.kept.items) c.deref-3.ensures.value
+    (subst (λ (os : List ℕ). AreKept types os (number_of c.deref-3.result.now) c.in_ok-kept.kept.items) c.deref-2.ensures.value c.in_ok-kept.ensures) in
     let ids = subst (λ (ns : List ℕ). (old new : ℕ) → (get nat_cmp c.in_ok-new_ids.new_ids old ≡ Some new)
     ↔ ((slice_get ns old ≡ Some new) × (new ≢ 4294967295))) c.deref-4.ensures.value c.in_ok-new_ids.ensures in (
       c.in_ok-chosen.chosen.items,
       chosen.0,
       chosen.1,
-      is_pruned types c.in_ok-chosen.chosen.items order numbers c.in_ok-kept.kept.items numbering dense kept
+      is_pruned types c.in_ok-chosen.chosen.items order numbers (number_of numbers) c.in_ok-kept.kept.items numbering dense (numbers_agree numbers) kept
           c.in_ok-new_ids.new_ids (omega arith) ids,
     )
