@@ -92,14 +92,16 @@ module _ (order numbers : List ℕ) (x : AreNumbers order numbers) where
       let long = numbers_long in
       omega arith
 
-set_at :
-    (xs : List ℕ) (i v : ℕ) → i < length xs → slice_get (set xs i v) i ≡ Some v
+-- the element that was written stands at its index, and the others stay
+pub set_at :
+    {A : Type 0} (xs : List A) (i : ℕ) (v : A) → i < length xs → slice_get (set xs i v) i ≡ Some v
 set_at xs i v h =
     let l = length-set xs i v in
     slice_get-get_or (set xs i v) i v (omega arith) ∙ ap Some (get_or-set_same xs i v v h)
 
-set_other :
-    (xs : List ℕ) (i j v : ℕ) → j ≢ i → slice_get (set xs i v) j ≡ slice_get xs j
+pub set_other :
+    {A : Type 0} (xs : List A) (i j : ℕ) (v : A) → j ≢ i
+    → slice_get (set xs i v) j ≡ slice_get xs j
 set_other xs i j v ne =
     let l = length-set xs i v in
     elim (cases_lt j (length xs)) [

@@ -1,0 +1,2 @@
+pub mod ByteIndexes
+pub mod Roots
