@@ -1,5 +1,5 @@
 -- The index of a table's bytes has the references of the table.
-use Rattle.std.proofs.Common.{◌≡◌, ℕ, zero, suc, ◌+◌, ◌-◌, ◌<◌, ◌≤◌, List, [], ◌∷◌, ◌++◌, length, min, drop, take, Some}
+use Rattle.std.proofs.Common.{◌≡◌, ℕ, zero, suc, ◌+◌, ◌-◌, List, [], ◌∷◌, ◌++◌, length, min, drop, take, Some}
 use Rattle.std.proofs.Common.{option_map, slice_get, slice_index_or, refl, ap, sym, ◌∙◌, subst, arith, append_assoc, Contains}
 use Rattle.std.proofs.Common.{length-append, append-nil, flat_map, inl, inr, None, Option, take_all, Result, Ok, Err, OnOk}
 use Rattle.std.proofs.Math.ListN.{drop_of_length-le}
@@ -7,7 +7,7 @@ use Rattle.std.proofs.lemmas.Bool.{cases_lt}
 use Rattle.std.proofs.Math.Seq.{drop-append_seam, take-append_seam}
 use Rattle.std.proofs.lemmas.List.{length-drop}
 use Rattle.std.proofs.lemmas.Option.{same_Some, none-some, slice_get_within}
-use Rattle.scale_info_numberings.proofs.Places.{element_at, place_of}
+use Rattle.scale_info_numberings.proofs.Places.{element_at}
 use Rattle.scale_info_numberings.specs.Numberings.{IsNumbering, Walks}
 use Rattle.scale_info_numberings.specs.Systems.{Entry, System, IsReachedPast, root, next}
 use Rattle.scale_info_passes.specs.Entries.{AreStarts, reference_ids}
@@ -58,7 +58,7 @@ prepended starts references id start stop first count old new (Ok x) e z p q h =
   index_entry starts references id start,
   ap (option_map (index_entry starts references id)) e,
   h ∙ ap (λ (rs : List ℕ). rs ++ old) (part_is references start stop first count p q
-  ∙ ap (λ k. take (k - start) (drop start references)) z),
+      ∙ ap (λ k. take (k - start) (drop start references)) z),
 )
 prepended starts references id start stop first count old new (Err x) e z p q h = tt
 
@@ -108,13 +108,19 @@ find pre (x ∷ []) (s ∷ ss) all a h zero e g =
     let long : length all ≡ length pre + length (reference_ids x) =
     ap length h ∙ length-append pre (reference_ids x ++ [])
     ∙ ap (λ n. length pre + n) (ap length (append-nil (reference_ids x))) in
-    let none : slice_index_or ss 0 (length all) ≡ length all = ap (λ (ts : List ℕ). slice_index_or ts 0 (length all)) a.1 in
-    (s, refl, cut pre (reference_ids x) [] all s (slice_index_or ss 0 (length all)) h a.0 (none ∙ long)
-    ∙ ap reference_ids (same_Some x e g))
+    let none : slice_index_or ss 0 (length all) ≡ length all = ap (λ (ts : List ℕ). slice_index_or ts 0 (length all)) a.1 in (
+      s,
+      refl,
+      cut pre (reference_ids x) [] all s (slice_index_or ss 0 (length all)) h a.0 (none ∙ long)
+          ∙ ap reference_ids (same_Some x e g),
+    )
 find pre (x ∷ y ∷ es) (s ∷ []) all a h zero e g = absurd a.1
-find pre (x ∷ y ∷ es) (s ∷ t ∷ ss) all a h zero e g =
-    (s, refl, cut pre (reference_ids x) (flat_map reference_ids (y ∷ es)) all s t h a.0 a.1.0
-    ∙ ap reference_ids (same_Some x e g))
+find pre (x ∷ y ∷ es) (s ∷ t ∷ ss) all a h zero e g = (
+  s,
+  refl,
+  cut pre (reference_ids x) (flat_map reference_ids (y ∷ es)) all s t h a.0 a.1.0
+      ∙ ap reference_ids (same_Some x e g),
+)
 find pre (x ∷ es) (s ∷ ss) all a h (suc i) e g =
     let r = find (pre ++ reference_ids x) es ss all
     (subst (λ k. AreStarts k es ss) (sym (length-append pre (reference_ids x))) a.1)
@@ -149,7 +155,9 @@ index_alike types starts references a h i d s = by (slice_get starts i) refl
         let e = element_at types i (omega arith) in
         let r = find [] types starts references a h i e.0 e.1 in
         let same : r.0 ≡ t = same_Some r.0 t (sym r.1 ∙ at) in
-        let is : d ≡ index_entry starts references i t = same_Some d (index_entry starts references i t) (sym s ∙ ap (option_map (index_entry starts references i)) at) in
-        (entry_of e.0, ap (option_map entry_of) e.1,
+        let is : d ≡ index_entry starts references i t = same_Some d (index_entry starts references i t) (sym s ∙ ap (option_map (index_entry starts references i)) at) in (
+          entry_of e.0,
+          ap (option_map entry_of) e.1,
           ap (λ (x : Entry (Unit {0}) ℕ). x.refs) is
-          ∙ ap (λ k. references_from starts references i k) (sym same) ∙ r.2)
+              ∙ ap (λ k. references_from starts references i k) (sym same) ∙ r.2,
+        )

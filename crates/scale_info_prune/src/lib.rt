@@ -2,4 +2,6 @@
 #![tactic(auto)]
 
 mod byte_references;
+pub mod prune;
 mod roots;
+mod table_index;

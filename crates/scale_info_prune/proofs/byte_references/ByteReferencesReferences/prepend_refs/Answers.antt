@@ -1,5 +1,5 @@
-use Rattle.std.proofs.Common.{rules, ◌≡◌, ◌+◌, ◌-◌, ◌<◌, ◌≤◌, ◌∙◌, ℕ, List, Some, None, length, min, get_or, slice_index_or, ap, refl, sym, slice_get, drop, take}
-use Rattle.std.proofs.lemmas.Option.{slice_get-get_or, slice_get_read, slice_get_past, get_or_from_slice_get, unwrap_or-slice_get}
+use Rattle.std.proofs.Common.{rules, ◌≡◌, ◌+◌, ◌-◌, ◌≤◌, ◌∙◌, length, min, get_or, slice_index_or, ap, sym, drop, take}
+use Rattle.std.proofs.lemmas.Option.{slice_get-get_or, slice_get_past, unwrap_or-slice_get}
 use Rattle.std.specs.Option.{unwrap_or}
 use Rattle.scale_info_prune.proofs.ByteIndexes.{prepended}
 use Rattle.scale_info_prune.proofs.byte_references.ByteReferencesReferences.prepend_refs.Goals as goal
