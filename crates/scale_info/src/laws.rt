@@ -21,6 +21,7 @@ pub use scale_info_numberings::laws::{
     numbering_extends_nothing, old_entries_stay, one_extension, one_list_of_places, one_numbering,
     one_table, reached_by_path, reached_exactly, reached_inside, unfolds_alike,
 };
+pub use scale_info_references::laws::{ids_of_references, same_shape};
 pub use scale_info_tables::laws::{equal_tables, old_texts_stay, one_text, spelled_within_limits};
 pub use scale_info_types::laws::{
     equal_contents, equal_definitions, equal_path_errors, equal_portable, one_list_of_pieces,

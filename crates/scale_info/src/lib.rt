@@ -2,6 +2,7 @@
 #![tactic(auto)]
 
 pub mod laws;
+pub mod walk;
 
 pub use scale_info_codec as codec;
 pub use scale_info_codec::{DecodeError, EncodeError, Scale};
@@ -13,6 +14,8 @@ pub use scale_info_identities::interner::UntrackedSymbol;
 pub use scale_info_identities::type_id::TypeId;
 pub use scale_info_identities::{interner, utils};
 pub use scale_info_json::{JsonError, append_json, from_json, to_json};
+pub use scale_info_prune::prune as export;
+pub use scale_info_prune::prune::{PruneError, append_pruned, prune};
 pub use scale_info_tables::portable;
 pub use scale_info_tables::portable::{PortableRegistry, PortableRegistryBuilder};
 pub use scale_info_types::meta_type::{MetaType, StaticTypeInfo, TypeInfo};
@@ -25,3 +28,4 @@ pub use scale_info_types::ty::{
 };
 pub use scale_info_types::{form, impls, meta_type, ty};
 pub use scale_info_value::value;
+pub use scale_info_walk::walk::RetainError;

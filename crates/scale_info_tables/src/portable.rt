@@ -1,6 +1,6 @@
 //! Tables of descriptions that can leave the program.
 ghost use Rattle.std.specs.Prelude.{◌≡◌, ◌↔◌, [], IsTrue, IfOk, IfErr, OnOk, OnErr, length};
-ghost use Rattle.std.specs.Prelude.{option_map, slice_get, take};
+ghost use Rattle.std.specs.Prelude.{option_map, slice_get, take, List, ℕ};
 ghost use Rattle.std.specs.Option.{option_copied};
 ghost use Rattle.scale_info_codec.specs.Limits.{AreEntriesWithinLimits};
 ghost use Rattle.scale_info_bytes.specs.Encodings.{AppendsEncoding, HasPrefix, HasNoPrefix};
@@ -9,13 +9,17 @@ ghost use Rattle.scale_info_tables.specs.ClosedTables.{IsClosed};
 ghost use Rattle.scale_info_tables.specs.Entries.{indexed_from};
 ghost use Rattle.scale_info_tables.specs.TableEncoding.{EncodesRegistry};
 ghost use Rattle.scale_info_tables.specs.TableEncodingLaws.{registry_law};
+ghost use Rattle.scale_info_walk.specs.Pruned.{IsChosen, IsPruned, IsRetainError};
 
 use scale_info_codec::{DecodeError, EncodeError, Scale};
 use scale_info_collections::items::Items;
 use scale_info_collections::try_clone::TryClone;
 use scale_info_types::form::PortableForm;
 use scale_info_types::ty::{PortableType, Type};
+use scale_info_walk::pruned::retain_types;
+use scale_info_walk::walk::RetainError;
 use std::alloc::{AllocError, Global};
+use std::collections::BTreeMap;
 
 mod builder;
 mod closed;
@@ -98,6 +102,39 @@ impl PortableRegistry {
         ensures { result.now ≡ self.now.types }
     {
         self.types.as_slice()
+    }
+
+    /// Keeps the entries that the filter chooses and all that their references reach, and returns the
+    /// new id of each old one that is kept.
+    ///
+    /// The filter is asked once for each id, from 0 up, before the walk begins; an id is the index
+    /// of an entry, whatever its `id` field says. What is kept comes in depth-first order of
+    /// discovery from the chosen ids: each entry's references right after it, in order, as far as
+    /// they are new. Each kept entry gets its new index as `id`, and its references are replaced.
+    /// References that lead nowhere do no harm in entries that are not reached.
+    ///
+    /// ```text
+    /// table.retain(alloc, |id| id == 1)?  // of bool, Vec<u32>, String, u32: the ids {1: 0, 3: 1}
+    /// ```
+    ///
+    /// Errors: `Dangling`, where an id is reached from the chosen ones that is no index;
+    /// `TooManyTypes`, where there are more than 4294967295 entries, and then the filter is not
+    /// asked; `Memory`, where an allocation failed. On an Err the table is as before.
+    pub fn retain<F: FnMut(u32) -> bool>(
+        &mut self,
+        alloc: Global,
+        filter: F,
+    ) -> Result<BTreeMap<u32, u32>, RetainError>
+        requires { F.IsAlwaysCallable filter }
+        ensures ok { IfOk result (λ new_ids. (chosen : List ℕ) × (last : F)
+            × IsChosen F.step filter (length self.old.types) chosen last
+            × IsPruned self.old.types chosen self.new.types new_ids) }
+        ensures err { OnErr result (self.new ≡ self.old) }
+        ensures cause { IfErr result (IsRetainError F.step filter self.old.types) }
+    {
+        let (kept, new_ids) = retain_types(alloc, self.types(), filter)?;
+        self.types = Items::from(kept);
+        Ok(new_ids)
     }
 
     /// Appends the table's SCALE encoding to the output. A table has at most one encoding.

@@ -1,0 +1,4 @@
+pub mod ByteIndexes
+pub mod AscendingRoots
+pub mod TableIndexes
+pub mod Pruning

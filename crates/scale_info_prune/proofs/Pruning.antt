@@ -1,0 +1,130 @@
+-- What a numbered index says of the table that the input encodes.
+use Rattle.std.proofs.Common.{◌≢◌, ◌↔◌, Some, slice_get, ◌≡◌, ℕ, ◌<◌, ◌≤◌, List, [], ◌∷◌, length, refl, ap, sym, ◌∙◌, subst, arith, suc, All, get_or}
+use Rattle.std.proofs.lemmas.List.Elements.{Contains-get_or}
+use Rattle.std.proofs.lemmas.Option.{slice_get_within}
+use Rattle.std.specs.BTreeMap.{BTreeMap, get}
+use Rattle.std.specs.Ordering.{nat_cmp}
+use Rattle.scale_info_bytes.specs.declared.error.DecodeError.TheVariants as decode
+use Rattle.scale_info_passes.specs.Entries.{AreAtOffsets, HasEntriesAt}
+use Rattle.scale_info_passes.specs.Visits.{renumbered}
+use Rattle.scale_info_types.specs.declared.ty.PortableType.{PortableType}
+use Rattle.scale_info_walk.proofs.KeptEntries.{kept_table, kept_ids}
+use Rattle.scale_info_walk.proofs.Visiting.{numbers_long, numbers_within}
+use Rattle.scale_info_walk.specs.TypeSystems.{types_system}
+use Rattle.scale_info_walk.specs.declared.walk.RetainError.TheVariants as retain
+use Rattle.scale_info_prune.proofs.ByteIndexes.{index_alike, index_long, same_numbering, same_reached}
+use Rattle.scale_info_prune.proofs.TableIndexes.{kept_entries, written_agrees, written_number}
+use Rattle.scale_info_prune.specs.ByteIndexes.{index_system}
+use Rattle.scale_info_prune.specs.Prunes.{HasNewIds, IsIndexError, IsIndexNumbering, IsPruneError, IsPrunedEncoding, IsTableError}
+use Rattle.scale_info_prune.specs.Roots.{AreRoots, IsNoSuchType}
+use Rattle.scale_info_prune.specs.TableIndexes.{AppendsKeptTable, IsTableIndex}
+use Rattle.scale_info_prune.specs.declared.prune.PruneError.{PruneError}
+use Rattle.scale_info_prune.specs.declared.prune.PruneError.TheVariants.{Decode, Trailing, NoSuchType, Retain, Encode, Memory}
+
+pub table_error : (input given : List ℕ) (e : PruneError) → IsTableError input e → IsPruneError input given e
+table_error input given (Decode decode.Malformed) x = x
+table_error input given (Decode decode.Memory) x = x
+table_error input given Trailing x = x
+table_error input given (NoSuchType id) x = absurd x
+table_error input given (Retain e) x = absurd x
+table_error input given (Encode e) x = x
+table_error input given Memory x = x
+
+module _ (count : ℕ) (input body offsets starts references : List ℕ)
+    (x : IsTableIndex count input body offsets starts references) where
+  pub starts_count : length starts ≡ count
+  starts_count = index_long x.types starts x.are_starts ∙ x.long
+
+  pub index_error : (given : List ℕ) (e : PruneError) → IsIndexError count starts references given e → IsPruneError input given e
+  index_error given (Decode e) h = absurd h
+  index_error given Trailing h = absurd h
+  index_error given (NoSuchType id) h =
+      record {
+        types = x.types;
+        encodes = x.encodes;
+        no_such_type = subst (λ n. IsNoSuchType n given id) (sym x.long) h;
+      }
+  index_error given (Retain (retain.Dangling id)) h =
+      let long = starts_count in
+      let all = x.long in
+      let past = h.3 in
+      record {
+        types = x.types;
+        encodes = x.encodes;
+        roots = h.0;
+        are_roots = subst (λ n. AreRoots n given h.0) (sym x.long) h.1;
+        reached =
+            same_reached (index_system starts references) (types_system x.types)
+            (index_alike x.types starts references x.are_starts x.are_references) [] h.0 id h.2;
+        outside = omega arith;
+      }
+  index_error given (Retain retain.TooManyTypes) h = h
+  index_error given (Retain retain.Memory) h = h
+  index_error given (Encode e) h = h
+  index_error given Memory h = h
+
+  zip_long : (es : List PortableType) (os : List ℕ) → AreAtOffsets body es os → length os ≡ length es
+  zip_long [] [] a = refl
+  zip_long [] (o ∷ os) a = absurd a
+  zip_long (e ∷ es) [] a = absurd a
+  zip_long (e ∷ es) (o ∷ os) a = ap suc (zip_long es os a.1)
+
+  pub has_entries : HasEntriesAt body offsets
+  has_entries = record { entries = x.types; at_offsets = x.at_offsets }
+
+  module _ (given order numbers : List ℕ) (y : IsIndexNumbering count starts references given order numbers) where
+    pub order_within : All (λ index. index < length offsets) order
+    order_within k d h =
+        let inside = numbers_within order numbers y.dense (get_or order k d) (Contains-get_or order k d h) in
+        let a = y.long in
+        let b = starts_count in
+        let c = zip_long x.types offsets x.at_offsets in
+        let e = x.long in
+        omega arith
+
+    pub order_few : length order ≤ 4294967295
+    order_few =
+        let long = numbers_long order numbers y.dense in
+        let a = y.long in
+        let few = y.few in
+        omega arith
+
+    pub is_pruned :
+        (old new : List ℕ)
+        → ((entries : List PortableType) → AreAtOffsets body entries offsets
+        → AppendsKeptTable entries (renumbered numbers) order old new)
+        → IsPrunedEncoding input given order old new
+    is_pruned old new f =
+        let k = f x.types x.at_offsets in
+        let numbering =
+        same_numbering (index_system starts references) (types_system x.types)
+        (index_alike x.types starts references x.are_starts x.are_references) y.roots order y.numbering in
+        let kept = kept_entries x.types numbers order k.kept k.are_kept in
+        record {
+          types = x.types;
+          encodes = x.encodes;
+          roots = y.roots;
+          are_roots = subst (λ n. AreRoots n given y.roots) (sym x.long) y.are_roots;
+          numbering = numbering;
+          kept = k.kept;
+          table =
+              kept_table x.types y.roots order numbers (written_number numbers) k.kept numbering y.dense
+              (written_agrees numbers) kept;
+          ids =
+              kept_ids x.types y.roots order numbers (written_number numbers) k.kept numbering y.dense
+              (written_agrees numbers) kept;
+          appends = k.appends;
+        }
+
+    pub new_ids_of :
+        (new_ids : BTreeMap ℕ ℕ)
+        → ((old new : ℕ) → (get nat_cmp new_ids old ≡ Some new)
+        ↔ ((slice_get numbers old ≡ Some new) × (new ≢ 4294967295)))
+        → HasNewIds order new_ids
+    new_ids_of new_ids m old new = (
+      (λ e. let h = (m old new).0 e in y.dense.numbered old new h.0 h.1),
+      (λ e.
+          let within = slice_get_within order new old e in
+          let few = order_few in
+          (m old new).1 (y.dense.placed new old e, λ same. omega arith)),
+    )

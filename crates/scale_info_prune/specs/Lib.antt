@@ -1,0 +1,4 @@
+pub mod ByteIndexes
+pub mod Prunes
+pub mod Roots
+pub mod TableIndexes

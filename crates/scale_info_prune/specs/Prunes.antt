@@ -1,0 +1,95 @@
+-- Tables that are pruned as bytes.
+use Rattle.std.specs.Prelude.{◌≡◌, ◌↔◌, ◌≤◌, ℕ, List, Some, length, map, slice_get}
+use Rattle.std.specs.BTreeMap.{BTreeMap, get}
+use Rattle.std.specs.Ordering.{nat_cmp}
+use Rattle.scale_info_bytes.specs.Encodings.{AppendsEncoding, HasNoPrefix}
+use Rattle.scale_info_bytes.specs.declared.error.DecodeError.TheVariants as decode
+use Rattle.scale_info_numberings.specs.Numberings.{IsNumbering}
+use Rattle.scale_info_numberings.specs.Systems.{IsReached}
+use Rattle.scale_info_numberings.specs.Tables.{IsTable}
+use Rattle.scale_info_types.specs.declared.ty.PortableType.{PortableType}
+use Rattle.scale_info_walk.specs.TypeSystems.{entry_of, types_system}
+use Rattle.scale_info_walk.specs.declared.walk.RetainError.TheVariants as retain
+use Rattle.scale_info_walk.specs.Walks.{AreNumbers}
+use Rattle.scale_info_prune.specs.ByteIndexes.{index_system}
+use Rattle.scale_info_prune.specs.Roots.{AreRoots, IsNoSuchType}
+use Rattle.scale_info_prune.specs.TableIndexes.{EncodesTypes, HasTrailing}
+use Rattle.scale_info_prune.specs.declared.prune.PruneError.{PruneError}
+use Rattle.scale_info_prune.specs.declared.prune.PruneError.TheVariants.{Decode, Trailing, NoSuchType, Retain, Encode, Memory}
+
+-- why the input is not found to be one table
+abbrev pub IsTableError : List ℕ → PruneError → Type 0
+IsTableError input (Decode decode.Malformed) = HasNoPrefix EncodesTypes input
+IsTableError input (Decode decode.Memory) = ⊥
+IsTableError input Trailing = HasTrailing input
+IsTableError input (NoSuchType id) = ⊥
+IsTableError input (Retain e) = ⊥
+IsTableError input (Encode e) = ⊥
+IsTableError input Memory = Unit {0}
+
+-- the input encodes a table, of which this given id, the first such, is no index
+pub record HasNoSuchType (input given : List ℕ) (id : ℕ) : Type 0 where
+  pub types : List PortableType
+  pub encodes : EncodesTypes types input
+  pub no_such_type : IsNoSuchType (length types) given id
+
+-- the input encodes a table, of which this id is no index, though it is reached from the given ones
+pub record HasDangling (input given : List ℕ) (id : ℕ) : Type 0 where
+  pub types : List PortableType
+  pub encodes : EncodesTypes types input
+  pub roots : List ℕ
+  pub are_roots : AreRoots (length types) given roots
+  pub reached : IsReached (types_system types) roots id
+  pub outside : length types ≤ id
+
+-- why the input is not pruned to the given ids
+abbrev pub IsPruneError : List ℕ → List ℕ → PruneError → Type 0
+IsPruneError input given (Decode decode.Malformed) = HasNoPrefix EncodesTypes input
+IsPruneError input given (Decode decode.Memory) = ⊥
+IsPruneError input given Trailing = HasTrailing input
+IsPruneError input given (NoSuchType id) = HasNoSuchType input given id
+IsPruneError input given (Retain (retain.Dangling id)) = HasDangling input given id
+IsPruneError input given (Retain retain.TooManyTypes) = ⊥
+IsPruneError input given (Retain retain.Memory) = ⊥
+IsPruneError input given (Encode e) = ⊥
+IsPruneError input given Memory = Unit {0}
+
+-- new is old followed by an encoding of the table of the numbering, in this order, of the table that
+-- the input encodes, from the given ids in ascending order, each once
+pub record IsPrunedEncoding (input given order old new : List ℕ) : Type 0 where
+  pub types : List PortableType
+  pub encodes : EncodesTypes types input
+  pub roots : List ℕ
+  pub are_roots : AreRoots (length types) given roots
+  pub numbering : IsNumbering (types_system types) roots order
+  pub kept : List PortableType
+  pub table : IsTable (types_system types) order (map entry_of kept)
+  pub ids : (i : ℕ) (entry : PortableType) → slice_get kept i ≡ Some entry → entry.id ≡ i
+  pub appends : AppendsEncoding (EncodesTypes kept) old new
+
+-- the map takes each index of the order to its place there, and has no other keys
+abbrev pub HasNewIds : List ℕ → BTreeMap ℕ ℕ → Type 0
+HasNewIds order new_ids =
+    (old new : ℕ) → (get nat_cmp new_ids old ≡ Some new) ↔ (slice_get order new ≡ Some old)
+
+-- a numbering of an index from the given ids, with its dense list
+pub record IsIndexNumbering (count : ℕ) (starts references given order numbers : List ℕ) : Type 0 where
+  pub roots : List ℕ
+  pub are_roots : AreRoots count given roots
+  pub numbering : IsNumbering (index_system starts references) roots order
+  pub dense : AreNumbers order numbers
+  pub long : length numbers ≡ length starts
+  pub few : length starts ≤ 4294967295
+
+-- why an index is not numbered from the given ids
+abbrev pub IsIndexError : ℕ → List ℕ → List ℕ → List ℕ → PruneError → Type 0
+IsIndexError count starts references given (Decode e) = ⊥
+IsIndexError count starts references given Trailing = ⊥
+IsIndexError count starts references given (NoSuchType id) = IsNoSuchType count given id
+IsIndexError count starts references given (Retain (retain.Dangling id)) =
+    (roots : List ℕ) × AreRoots count given roots
+    × IsReached (index_system starts references) roots id × (length starts ≤ id)
+IsIndexError count starts references given (Retain retain.TooManyTypes) = ⊥
+IsIndexError count starts references given (Retain retain.Memory) = ⊥
+IsIndexError count starts references given (Encode e) = ⊥
+IsIndexError count starts references given Memory = Unit {0}

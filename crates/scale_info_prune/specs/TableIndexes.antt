@@ -1,0 +1,38 @@
+-- Indexes of whole tables, and tables that are kept.
+use Rattle.std.specs.Prelude.{◌≡◌, ◌≢◌, ℕ, List, [], length, flat_map}
+use Rattle.scale_info_bytes.specs.Encodings.{AppendsEncoding, HasPrefix}
+use Rattle.scale_info_bytes.specs.Parts.{EncodesList}
+use Rattle.scale_info_codec.specs.Ty.{EncodesPortableType}
+use Rattle.scale_info_passes.specs.Entries.{AreAtOffsets, AreKeptEntries, AreStarts, reference_ids}
+use Rattle.scale_info_types.specs.Portable.{Id}
+use Rattle.scale_info_types.specs.declared.ty.PortableType.{PortableType}
+
+-- a table as the list of its entries
+abbrev pub EncodesTypes : List PortableType → List ℕ → Type 0
+EncodesTypes types bytes = EncodesList EncodesPortableType types bytes
+
+-- the input encodes a table of so many entries, with nothing after it; in its body, which is what
+-- comes after the count, the descriptions are at these offsets; and the references of each entry
+-- begin at these starts
+pub record IsTableIndex (count : ℕ) (input body offsets starts references : List ℕ) : Type 0 where
+  pub types : List PortableType
+  pub long : length types ≡ count
+  pub encodes : EncodesTypes types input
+  pub at_offsets : AreAtOffsets body types offsets
+  pub are_starts : AreStarts 0 types starts
+  pub are_references : references ≡ flat_map reference_ids types
+
+-- the input begins with a table, and goes on
+pub record HasTrailing (input : List ℕ) : Type 0 where
+  pub types : List PortableType
+  pub rest : List ℕ
+  pub prefix : HasPrefix (EncodesTypes types) input rest
+  pub more : rest ≢ []
+
+-- new is old followed by an encoding of the table of the entries at these indices, kept with ids
+-- from 0 on
+pub record AppendsKeptTable (entries : List PortableType) (f : Id → Id) (indices : List ℕ)
+    (old new : List ℕ) : Type 0 where
+  pub kept : List PortableType
+  pub are_kept : AreKeptEntries entries f 0 indices kept
+  pub appends : AppendsEncoding (EncodesTypes kept) old new

@@ -1,0 +1,7 @@
+//! Tables that are pruned as bytes, with no descriptions made.
+#![tactic(auto)]
+
+mod byte_references;
+pub mod prune;
+mod roots;
+mod table_index;

@@ -1,0 +1,129 @@
+//! Pruning of a table from bytes to bytes.
+ghost use Rattle.std.specs.Prelude.{◌≡◌, List, ℕ, length, IfOk, IfErr, OnOk, OnErr};
+ghost use Rattle.scale_info_prune.specs.Prunes.{IsIndexError, IsIndexNumbering};
+ghost use Rattle.scale_info_prune.specs.Prunes.{HasNewIds, IsPruneError, IsPrunedEncoding};
+ghost use Rattle.scale_info_prune.specs.declared.prune.PruneError.TheVariants as prune_error;
+
+use crate::byte_references::ByteReferences;
+use crate::roots::{RootsError, roots_of};
+use crate::table_index::{append_kept, index_table};
+use scale_info_bytes::error::{DecodeError, EncodeError};
+use scale_info_passes::entries::EntryIndex;
+use scale_info_walk::pruned::map_of_numbers;
+use scale_info_walk::walk::{Renumbering, RetainError, number_references};
+use std::alloc::{AllocError, Global};
+use std::collections::BTreeMap;
+use thiserror::Error;
+
+/// Why bytes could not be pruned. It is displayed as the name of the variant alone.
+#[derive(Debug, Drop, PartialEq, Eq, Error)]
+pub enum PruneError {
+    /// No prefix of the input is a table.
+    #[error("Decode")]
+    Decode(DecodeError),
+    /// Bytes come after the table.
+    #[error("Trailing")]
+    Trailing,
+    /// This given id, the first such, is no index of the table.
+    #[error("NoSuchType")]
+    NoSuchType(u32),
+    /// An id is reached from the given ones that is no index of the table.
+    #[error("Retain")]
+    Retain(RetainError),
+    /// The kept table has no encoding. This never comes: what is kept is no longer than the input.
+    #[error("Encode")]
+    Encode(EncodeError),
+    /// An allocation failed.
+    #[error("Memory")]
+    Memory,
+}
+
+impl From<AllocError> for PruneError {
+    ghost from_gives = { λ _ e. e ≡ prune_error.Memory };
+
+    fn from(_e: AllocError) -> PruneError {
+        PruneError::Memory
+    }
+}
+
+/// Prunes a table from bytes to bytes: appends the table of what the given ids reach, and returns
+/// the new id of each old one that is kept. No description is made.
+///
+/// The ids are taken in ascending order, each once; no ids give the empty table. Entries come in
+/// depth-first order of discovery, as [`retain`](scale_info_walk::pruned::retain_types) has them.
+///
+/// ```text
+/// prune(alloc, &[4, 0, 0, 0, 5, 0, 0], &[0], &mut out)?  // {0: 0}, and out grew by these bytes
+/// ```
+///
+/// Errors, in the order of the checks: `Decode(Malformed)`, where no prefix of the input is a table;
+/// `Trailing`, where bytes come after it; `NoSuchType`, for the first given id that is no index;
+/// `Retain(Dangling)`, where an id is reached that is no index; `Memory`, where an allocation
+/// failed. On an Err the output is as before.
+pub fn prune(
+    alloc: Global,
+    input: &[u8],
+    ids: &[u32],
+    out: &mut Vec<u8>,
+) -> Result<BTreeMap<u32, u32>, PruneError>
+    ensures ok { IfOk result (λ new_ids. (order : List ℕ) × HasNewIds order new_ids
+        × IsPrunedEncoding input.now ids.now order out.old.items out.new.items) }
+    ensures err { OnErr result (out.new.items ≡ out.old.items) }
+    ensures cause { IfErr result (IsPruneError input.now ids.now) }
+{
+    let (count, body, index) = index_table(alloc, input)?;
+    let found = number_index(alloc, count, &index, ids)?;
+    let new_ids = map_of_numbers(alloc, &found.numbers)?;
+    append_kept(alloc, body, &index.offsets, &found, out)?;
+    Ok(new_ids)
+}
+
+/// Appends what [`prune`] appends, and makes no map of ids.
+///
+/// Errors: as those of [`prune`].
+pub fn append_pruned(
+    alloc: Global,
+    input: &[u8],
+    ids: &[u32],
+    out: &mut Vec<u8>,
+) -> Result<(), PruneError>
+    ensures ok { OnOk result ((order : List ℕ)
+        × IsPrunedEncoding input.now ids.now order out.old.items out.new.items) }
+    ensures err { OnErr result (out.new.items ≡ out.old.items) }
+    ensures cause { IfErr result (IsPruneError input.now ids.now) }
+{
+    let (count, body, index) = index_table(alloc, input)?;
+    let found = number_index(alloc, count, &index, ids)?;
+    append_kept(alloc, body, &index.offsets, &found, out)?;
+    Ok(())
+}
+
+/// Numbers what the given ids reach, over the index of a table.
+fn number_index(
+    alloc: Global,
+    count: u32,
+    index: &EntryIndex,
+    ids: &[u32],
+) -> Result<Renumbering, PruneError>
+    requires { length index.now.starts.items ≡ count }
+    ensures ok { IfOk result (λ found. IsIndexNumbering count index.now.starts.items
+        index.now.references.items ids.now found.order.items found.numbers.items) }
+    ensures err { IfErr result (IsIndexError count index.now.starts.items
+        index.now.references.items ids.now) }
+{
+    let roots = match roots_of(alloc, count, ids) {
+        Ok(roots) => roots,
+        Err(RootsError::NoSuchType(id)) => return Err(PruneError::NoSuchType(id)),
+        Err(RootsError::Memory) => return Err(PruneError::Memory),
+    };
+    let source = ByteReferences {
+        starts: &index.starts,
+        references: &index.references,
+    };
+    match number_references(alloc, &source, &roots) {
+        Ok(found) => Ok(found),
+        Err(RetainError::Memory) => Err(PruneError::Memory),
+        Err(RetainError::Dangling { id }) => Err(PruneError::Retain(RetainError::Dangling { id })),
+        Err(RetainError::TooManyTypes) => Err(PruneError::Retain(RetainError::TooManyTypes)),
+    }
+}

@@ -1,0 +1,15 @@
+-- Descriptions with ids in place of types.
+use Rattle.std.specs.Prelude.{ℕ, List}
+use Rattle.scale_info_types.specs.Portable as portable
+use Rattle.scale_info_types.specs.declared.ty.Description.{Description}
+use Rattle.scale_info_types.specs.Shapes.{map_description}
+
+-- an id as a description has it
+abbrev pub symbol : ℕ → portable.Id
+symbol id = record { id = id; marker = record {} }
+
+-- the description with each type replaced by an id, and each text by its bytes
+abbrev pub with_ids :
+    {F T S : Type 0}
+    → (T → ℕ) → (S → List ℕ) → Description F T S → portable.Description
+with_ids id_of text d = map_description (λ t. symbol (id_of t)) text d

@@ -1,0 +1,261 @@
+//! Conversion of a description of any form to a portable one: each type becomes an id of a table,
+//! each string is copied, and all else stays.
+ghost use Rattle.std.specs.Prelude.{◌≡◌, ℕ, IfOk, map, option_map};
+ghost use Rattle.scale_info_types.specs.Shapes.{map_path, map_parameter, map_field, map_variant};
+ghost use Rattle.scale_info_types.specs.Shapes.{map_definition};
+ghost use Rattle.scale_info_references.specs.Conversions.{symbol, with_ids};
+ghost use Rattle.scale_info_identities.specs.declared.type_id.TypeId.{TypeId};
+ghost use Rattle.scale_info_identities.specs.declared.interner.UntrackedSymbol.{UntrackedSymbol};
+
+use scale_info_collections::items::Items;
+use scale_info_collections::text::Text;
+use scale_info_identities::interner::UntrackedSymbol;
+use scale_info_identities::type_id::TypeId;
+use scale_info_types::form::{Form, PortableForm};
+use scale_info_types::ty::path::Path;
+use scale_info_types::ty::variant::Variant;
+use scale_info_types::ty::{
+    Field, Type, TypeDef, TypeDefArray, TypeDefBitSequence, TypeDefCompact, TypeDefComposite,
+    TypeDefMap, TypeDefSequence, TypeDefTuple, TypeDefVariant, TypeParameter,
+};
+use std::alloc::{AllocError, Global};
+
+/// What has an id for each type of descriptions in the form `F`, and copies their strings.
+///
+/// A registry numbers identities so, and the pruning of a table numbers the ids of the old table.
+pub trait Numbers<F: Form> {
+    /// The id of each type.
+    ghost id_of: { Self → F.Ty → ℕ };
+
+    /// The id of a type.
+    fn id(&self, ty: &F::Ty) -> UntrackedSymbol<TypeId>
+        ensures { result.id ≡ id_of self.now ty.now };
+
+    /// A copy of a string. An Ok has the bytes of the source.
+    ///
+    /// Errors: `AllocError`, if an allocation failed.
+    fn text(alloc: Global, source: &F::String) -> Result<Text, AllocError>
+        ensures { IfOk result (λ copy. copy ≡ F.text source.now) };
+}
+
+/// Copies of strings, in order.
+fn convert_texts<F: Form, N: Numbers<F>>(
+    alloc: Global,
+    _numbers: &N,
+    texts: &Items<F::String>,
+) -> Result<Items<Text>, AllocError>
+    ensures { IfOk result (λ all. all ≡ map F.text texts.now) }
+{
+    let mut all = Items::with_capacity(alloc, texts.len())?;
+    for text in texts.as_slice() {
+        all.push(N::text(alloc, text)?)?;
+    }
+    Ok(all)
+}
+
+/// A copy of a string that may be missing.
+fn convert_optional_text<F: Form, N: Numbers<F>>(
+    alloc: Global,
+    _numbers: &N,
+    text: &Option<F::String>,
+) -> Result<Option<Text>, AllocError>
+    ensures { IfOk result (λ o. o ≡ option_map F.text text.now) }
+{
+    match text {
+        None => Ok(None),
+        Some(text) => Ok(Some(N::text(alloc, text)?)),
+    }
+}
+
+/// The ids of types, in order.
+fn convert_types<F: Form, N: Numbers<F>>(
+    alloc: Global,
+    numbers: &N,
+    types: &Items<F::Ty>,
+) -> Result<Items<UntrackedSymbol<TypeId>>, AllocError>
+    ensures { IfOk result (λ all. all ≡ map (λ t. symbol (N.id_of numbers.now t)) types.now) }
+{
+    let mut all = Items::with_capacity(alloc, types.len())?;
+    for ty in types.as_slice() {
+        all.push(numbers.id(ty))?;
+    }
+    Ok(all)
+}
+
+/// The field with an id as its type.
+fn convert_field<F: Form, N: Numbers<F>>(
+    alloc: Global,
+    numbers: &N,
+    field: &Field<F>,
+) -> Result<Field<PortableForm>, AllocError>
+    ensures { IfOk result
+        (λ o. o ≡ map_field (λ t. symbol (N.id_of numbers.now t)) F.text field.now) }
+{
+    Ok(Field {
+        name: convert_optional_text(alloc, numbers, &field.name)?,
+        ty: numbers.id(&field.ty),
+        type_name: convert_optional_text(alloc, numbers, &field.type_name)?,
+        docs: convert_texts(alloc, numbers, &field.docs)?,
+    })
+}
+
+/// The fields with ids as their types, in order.
+fn convert_fields<F: Form, N: Numbers<F>>(
+    alloc: Global,
+    numbers: &N,
+    fields: &Items<Field<F>>,
+) -> Result<Items<Field<PortableForm>>, AllocError>
+    ensures { IfOk result
+        (λ all. all ≡ map (map_field (λ t. symbol (N.id_of numbers.now t)) F.text) fields.now) }
+{
+    let mut all = Items::with_capacity(alloc, fields.len())?;
+    for field in fields.as_slice() {
+        all.push(convert_field(alloc, numbers, field)?)?;
+    }
+    Ok(all)
+}
+
+/// The variant whose fields have ids as their types.
+fn convert_variant<F: Form, N: Numbers<F>>(
+    alloc: Global,
+    numbers: &N,
+    variant: &Variant<F>,
+) -> Result<Variant<PortableForm>, AllocError>
+    ensures { IfOk result
+        (λ o. o ≡ map_variant (λ t. symbol (N.id_of numbers.now t)) F.text variant.now) }
+{
+    Ok(Variant {
+        name: N::text(alloc, &variant.name)?,
+        fields: convert_fields(alloc, numbers, &variant.fields)?,
+        index: variant.index,
+        docs: convert_texts(alloc, numbers, &variant.docs)?,
+    })
+}
+
+/// The variants whose fields have ids as their types, in order.
+fn convert_variants<F: Form, N: Numbers<F>>(
+    alloc: Global,
+    numbers: &N,
+    variants: &Items<Variant<F>>,
+) -> Result<Items<Variant<PortableForm>>, AllocError>
+    ensures { IfOk result
+        (λ all. all
+        ≡ map (map_variant (λ t. symbol (N.id_of numbers.now t)) F.text) variants.now) }
+{
+    let mut all = Items::with_capacity(alloc, variants.len())?;
+    for variant in variants.as_slice() {
+        all.push(convert_variant(alloc, numbers, variant)?)?;
+    }
+    Ok(all)
+}
+
+/// The parameter with an id as its type, if it has one.
+fn convert_parameter<F: Form, N: Numbers<F>>(
+    alloc: Global,
+    numbers: &N,
+    param: &TypeParameter<F>,
+) -> Result<TypeParameter<PortableForm>, AllocError>
+    ensures { IfOk result
+        (λ o. o ≡ map_parameter (λ t. symbol (N.id_of numbers.now t)) F.text param.now) }
+{
+    Ok(TypeParameter {
+        name: N::text(alloc, &param.name)?,
+        ty: match &param.ty {
+            None => None,
+            Some(ty) => Some(numbers.id(ty)),
+        },
+    })
+}
+
+/// The parameters with ids as their types, in order.
+fn convert_parameters<F: Form, N: Numbers<F>>(
+    alloc: Global,
+    numbers: &N,
+    params: &Items<TypeParameter<F>>,
+) -> Result<Items<TypeParameter<PortableForm>>, AllocError>
+    ensures { IfOk result
+        (λ all. all
+        ≡ map (map_parameter (λ t. symbol (N.id_of numbers.now t)) F.text) params.now) }
+{
+    let mut all = Items::with_capacity(alloc, params.len())?;
+    for param in params.as_slice() {
+        all.push(convert_parameter(alloc, numbers, param)?)?;
+    }
+    Ok(all)
+}
+
+/// The definition with ids in place of types.
+fn convert_definition<F: Form, N: Numbers<F>>(
+    alloc: Global,
+    numbers: &N,
+    def: &TypeDef<F>,
+) -> Result<TypeDef<PortableForm>, AllocError>
+    ensures { IfOk result
+        (λ o. o ≡ map_definition (λ t. symbol (N.id_of numbers.now t)) F.text def.now) }
+{
+    match def {
+        TypeDef::Composite(d) => Ok(TypeDef::Composite(TypeDefComposite {
+            fields: convert_fields(alloc, numbers, &d.fields)?,
+        })),
+        TypeDef::Variant(d) => Ok(TypeDef::Variant(TypeDefVariant {
+            variants: convert_variants(alloc, numbers, &d.variants)?,
+        })),
+        TypeDef::Sequence(d) => Ok(TypeDef::Sequence(TypeDefSequence {
+            type_param: numbers.id(&d.type_param),
+        })),
+        TypeDef::Array(d) => Ok(TypeDef::Array(TypeDefArray {
+            len: d.len,
+            type_param: numbers.id(&d.type_param),
+        })),
+        TypeDef::Tuple(d) => Ok(TypeDef::Tuple(TypeDefTuple {
+            fields: convert_types(alloc, numbers, &d.fields)?,
+        })),
+        TypeDef::Primitive(d) => Ok(TypeDef::Primitive(*d)),
+        TypeDef::Compact(d) => Ok(TypeDef::Compact(TypeDefCompact {
+            type_param: numbers.id(&d.type_param),
+        })),
+        TypeDef::BitSequence(d) => Ok(TypeDef::BitSequence(TypeDefBitSequence {
+            bit_store_type: numbers.id(&d.bit_store_type),
+            bit_order_type: numbers.id(&d.bit_order_type),
+        })),
+        TypeDef::Map(d) => Ok(TypeDef::Map(TypeDefMap {
+            key: numbers.id(&d.key),
+            value: numbers.id(&d.value),
+        })),
+    }
+}
+
+/// The path in portable form.
+fn convert_path<F: Form, N: Numbers<F>>(
+    alloc: Global,
+    numbers: &N,
+    path: &Path<F>,
+) -> Result<Path<PortableForm>, AllocError>
+    ensures { IfOk result
+        (λ o. o ≡ map_path {U = UntrackedSymbol TypeId}
+        (λ t. symbol (N.id_of numbers.now t)) F.text path.now) }
+{
+    Ok(Path::from(convert_texts(alloc, numbers, &path.segments)?))
+}
+
+/// The description with an id in place of each type, and copies of its strings.
+///
+/// ```text
+/// convert(alloc, &numbers, &pair)  // of (u8, bool), with the ids 3 and 7: the tuple of 3 and 7
+/// ```
+///
+/// Errors: `AllocError`, if an allocation failed.
+pub fn convert<F: Form, N: Numbers<F>>(
+    alloc: Global,
+    numbers: &N,
+    ty: &Type<F>,
+) -> Result<Type<PortableForm>, AllocError>
+    ensures { IfOk result (λ o. o ≡ with_ids (N.id_of numbers.now) F.text ty.now) }
+{
+    Ok(Type {
+        path: convert_path(alloc, numbers, &ty.path)?,
+        type_params: convert_parameters(alloc, numbers, &ty.type_params)?,
+        type_def: convert_definition(alloc, numbers, &ty.type_def)?,
+        docs: convert_texts(alloc, numbers, &ty.docs)?,
+    })
+}

@@ -1,0 +1,6 @@
+//! References of descriptions: gathered in order, and replaced by ids of a table.
+#![tactic(auto)]
+
+pub mod conversion;
+pub mod laws;
+pub mod references;

@@ -1,0 +1,112 @@
+//! The references of a description, gathered in order.
+//!
+//! They come in the order in which a reader of the description meets them: the types of its
+//! parameters first, then those of its definition.
+ghost use Rattle.std.specs.Prelude.{◌≡◌, OnOk, IfOk};
+ghost use Rattle.scale_info_types.specs.References.{field_references, definition_references};
+ghost use Rattle.scale_info_types.specs.References.{parameter_references, references};
+ghost use Rattle.scale_info_references.specs.Gathered.{AddsReferences, targets};
+
+use scale_info_types::form::Form;
+use scale_info_types::ty::{Field, Type, TypeDef, TypeParameter};
+use std::alloc::{AllocError, AllocFailed, Global};
+
+/// Adds the types of the fields.
+fn gather_fields<'a, T: Form>(
+    fields: &'a [Field<T>],
+    found: &mut Vec<&'a T::Ty>,
+) -> Result<(), AllocFailed<&'a T::Ty>>
+    ensures { OnOk result (AddsReferences found.old.items
+        (field_references fields.now) found.new.items) }
+{
+    for field in fields {
+        found.push(&field.ty)?;
+    }
+    Ok(())
+}
+
+/// Adds the types of the parameters that aren't skipped.
+fn gather_parameters<'a, T: Form>(
+    params: &'a [TypeParameter<T>],
+    found: &mut Vec<&'a T::Ty>,
+) -> Result<(), AllocFailed<&'a T::Ty>>
+    ensures { OnOk result (AddsReferences found.old.items
+        (parameter_references params.now) found.new.items) }
+{
+    for param in params {
+        if let Some(ty) = &param.ty {
+            found.push(ty)?;
+        }
+    }
+    Ok(())
+}
+
+/// Adds the references of a definition.
+fn gather_definition<'a, T: Form>(
+    def: &'a TypeDef<T>,
+    found: &mut Vec<&'a T::Ty>,
+) -> Result<(), AllocFailed<&'a T::Ty>>
+    ensures { OnOk result (AddsReferences found.old.items
+        (definition_references def.now) found.new.items) }
+{
+    match def {
+        TypeDef::Composite(d) => gather_fields(d.fields.as_slice(), found),
+        TypeDef::Variant(d) => {
+            for variant in d.variants.as_slice() {
+                gather_fields(variant.fields.as_slice(), found)?;
+            }
+            Ok(())
+        }
+        TypeDef::Sequence(d) => found.push(&d.type_param),
+        TypeDef::Array(d) => found.push(&d.type_param),
+        TypeDef::Tuple(d) => {
+            for ty in d.fields.as_slice() {
+                found.push(ty)?;
+            }
+            Ok(())
+        }
+        TypeDef::Primitive(_) => Ok(()),
+        TypeDef::Compact(d) => found.push(&d.type_param),
+        TypeDef::BitSequence(d) => {
+            found.push(&d.bit_store_type)?;
+            found.push(&d.bit_order_type)
+        }
+        TypeDef::Map(d) => {
+            found.push(&d.key)?;
+            found.push(&d.value)
+        }
+    }
+}
+
+/// Adds the references of a description, in order.
+fn gather<'a, T: Form>(
+    ty: &'a Type<T>,
+    found: &mut Vec<&'a T::Ty>,
+) -> Result<(), AllocFailed<&'a T::Ty>>
+    ensures { OnOk result (AddsReferences found.old.items
+        (references ty.now) found.new.items) }
+{
+    gather_parameters(ty.type_params.as_slice(), found)?;
+    gather_definition(&ty.type_def, found)
+}
+
+/// The references of a description, in order: the types of the parameters that aren't skipped, then
+/// those of the definition.
+///
+/// ```text
+/// references_of(alloc, &pair)  // of (u8, bool): the types u8 and bool
+/// ```
+///
+/// Errors: `AllocError`, if an allocation failed.
+pub fn references_of<'a, T: Form>(
+    alloc: Global,
+    ty: &'a Type<T>,
+) -> Result<Vec<&'a T::Ty>, AllocError>
+    ensures { IfOk result (λ found. targets found.items ≡ references ty.now) }
+{
+    let mut found = Vec::new(alloc);
+    match gather(ty, &mut found) {
+        Ok(()) => Ok(found),
+        Err(_) => Err(AllocError),
+    }
+}

@@ -1,0 +1,4 @@
+pub mod Walking
+pub mod Weights
+pub mod Visiting
+pub mod KeptEntries

@@ -1,0 +1,74 @@
+use Rattle.std.proofs.Common.{rules, arith, ◌≡◌, ◌≢◌, ◌<◌, ◌≤◌, ◌∷◌, ◌++◌, [], Some, length, slice_get, inl, inr, refl, ap, ◌∙◌, get_or}
+use Rattle.std.proofs.lemmas.Option.{slice_get_read}
+use Rattle.scale_info_numberings.proofs.Places.{contains_head}
+use Rattle.scale_info_numberings.specs.Systems.{root}
+use Rattle.scale_info_walk.proofs.Visiting.{known, unknown, numbers_long, numbers_within, walk_more, short_before}
+use Rattle.scale_info_walk.proofs.walk.look.Goals as goal
+
+pub returns-in_default-clause-cause : goal.returns-in_default-clause-cause
+returns-in_default-clause-cause g c =
+    let past : length c.args.walk.now.numbers.items ≤ c.args.id = search rules in
+    let long = c.requires.long in (
+      root c.args.id (contains_head c.args.id [])
+          (λ k. let h = numbers_within c.args.walk.now.order.items c.args.walk.now.numbers.items c.requires.dense c.args.id k in omega arith),
+      omega arith,
+    )
+
+pub returns-then-number-clause-look : goal.returns-then-number-clause-look
+returns-then-number-clause-look g c =
+    let order = c.args.walk.now.order.items in
+    let numbers = c.args.walk.now.numbers.items in
+    let number = c.in-Some.number.now in
+    let inside : c.args.id < length numbers = search rules in
+    let is : number ≡ get_or numbers c.args.id number = search rules in
+    let at = slice_get_read numbers (length numbers) c.args.id number refl inside is in
+    let some : number ≢ 4294967295 = search rules in
+    inl (known order numbers c.requires.dense c.args.id number at some, refl, refl)
+
+pub overflow_cast-number : goal.overflow_cast-number
+overflow_cast-number g c =
+    let h = numbers_long c.args.walk.now.order.items c.args.walk.now.numbers.items c.requires.dense in
+    let l = c.requires.long in
+    let f = c.requires.few in
+    omega arith
+
+pub returns-clause-walk : goal.returns-clause-walk
+returns-clause-walk g c =
+    let order = c.args.walk.now.order.items in
+    let numbers = c.args.walk.now.numbers.items in
+    let number = c.in-Some.number.now in
+    let inside : c.args.id < length numbers = search rules in
+    let is : number ≡ get_or numbers c.args.id number = search rules in
+    let none : number ≡ 4294967295 = search rules in
+    let at : slice_get numbers c.args.id ≡ Some 4294967295 =
+    slice_get_read numbers (length numbers) c.args.id number refl inside is ∙ ap Some none in
+    let refs = c.in_ok-prepend_refs.ensures.refs in
+    let pushed : c.push.new.self.items ≡ order ++ c.args.id ∷ [] = search rules in
+    let next : c.len.result ≡ length order = search rules in
+    let short = short_before refs.0.refs c.args.refs.now c.prepend_refs.new.refs refs.2 c.in_ok-prepend_refs.ensures.few in
+    rw (pushed, next)
+    (walk_more (g.R.References.system c.args.source.now) (g.R.References.count c.args.source.now) order numbers
+    c.args.walk.now.steps c.args.id refs.0 c.requires at refs.1 short)
+
+pub returns-clause-look : goal.returns-clause-look
+returns-clause-look g c =
+    let order = c.args.walk.now.order.items in
+    let numbers = c.args.walk.now.numbers.items in
+    let number = c.in-Some.number.now in
+    let inside : c.args.id < length numbers = search rules in
+    let is : number ≡ get_or numbers c.args.id number = search rules in
+    let none : number ≡ 4294967295 = search rules in
+    let at : slice_get numbers c.args.id ≡ Some 4294967295 =
+    slice_get_read numbers (length numbers) c.args.id number refl inside is ∙ ap Some none in
+    let refs = c.in_ok-prepend_refs.ensures.refs in
+    let pushed : c.push.new.self.items ≡ order ++ c.args.id ∷ [] = search rules in
+    let long = c.requires.long in
+    let small = c.requires.few in
+    inr (
+      refs.0,
+      refs.1,
+      unknown order numbers c.requires.dense c.args.id at (omega arith),
+      pushed,
+      refs.2,
+      short_before refs.0.refs c.args.refs.now c.prepend_refs.new.refs refs.2 c.in_ok-prepend_refs.ensures.few,
+    )

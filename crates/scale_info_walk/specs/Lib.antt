@@ -1,0 +1,4 @@
+pub mod Kept
+pub mod Pruned
+pub mod TypeSystems
+pub mod Walks

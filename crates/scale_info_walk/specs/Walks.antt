@@ -1,0 +1,42 @@
+-- Walks along references: what they keep, and why they stop.
+use Rattle.std.specs.Prelude.{◌≡◌, ◌≢◌, ℕ, ◌+◌, ◌*◌, ◌^◌, ◌<◌, ◌≤◌, List, [], ◌∷◌, ◌++◌, Option, Some, None}
+use Rattle.std.specs.Prelude.{◌⊎◌, ⊤, Contains, length, slice_get}
+use Rattle.scale_info_numberings.specs.Systems.{Entry, System, IsReachedPast, looks}
+use Rattle.scale_info_walk.specs.declared.walk.RetainError.{RetainError}
+use Rattle.scale_info_walk.specs.declared.walk.RetainError.TheVariants.{Dangling, TooManyTypes, Memory}
+
+-- the next of these is taken out and counted; where there is none, nothing changes
+abbrev pub IsNextOf : List ℕ → Option ℕ → List ℕ → ℕ → ℕ → Type 0
+IsNextOf [] next left before after = (next ≡ None) × (left ≡ []) × (after ≡ before)
+IsNextOf (r ∷ rs) next left before after = (next ≡ Some r) × (left ≡ rs) × (after ≡ before + 1)
+
+-- a dense list of an order: at each index that the order has, its place in the order; at each other
+-- one the number 4294967295
+pub record AreNumbers (order numbers : List ℕ) : Type 0 where
+  pub numbered : (k n : ℕ) → slice_get numbers k ≡ Some n → n ≢ 4294967295 → slice_get order n ≡ Some k
+  pub placed : (n k : ℕ) → slice_get order n ≡ Some k → slice_get numbers k ≡ Some n
+
+-- Why a numbering of what the roots reach can stop, where there are count indices and the known
+-- ones are not entered: an id is reached that is no index; there are more than 4294967295 indices;
+-- or an allocation failed.
+abbrev pub IsCause : {Sh : Type 0} → System Sh ℕ → ℕ → List ℕ → List ℕ → RetainError → Type 0
+IsCause S count known roots (Dangling id) = IsReachedPast S known roots id × (count ≤ id)
+IsCause S count known roots TooManyTypes = 4294967295 < count
+IsCause S count known roots Memory = ⊤
+
+-- what a walk has so far: an order, its dense list, and no more steps than there are references
+pub record IsWalk {Sh : Type 0} (S : System Sh ℕ) (count : ℕ) (order numbers : List ℕ)
+    (steps : ℕ) : Type 0 where
+  pub dense : AreNumbers order numbers
+  pub long : length numbers ≡ count
+  pub few : count ≤ 4294967295
+  pub counted : steps ≤ looks S order
+  pub bounded : looks S order ≤ length order * 2 ^ 63
+
+-- one look: the id stands in the order, and nothing changes; or it is added to the order, and its
+-- references come before those that are left
+abbrev pub IsLook : {Sh : Type 0} → System Sh ℕ → ℕ → List ℕ → List ℕ → List ℕ → List ℕ → Type 0
+IsLook {Sh} S id order left order_after left_after =
+    (Contains order id × (order_after ≡ order) × (left_after ≡ left))
+    ⊎ ((d : Entry Sh ℕ) × (S id ≡ Some d) × ¬ (Contains order id)
+    × (order_after ≡ order ++ id ∷ []) × (left_after ≡ d.refs ++ left) × (length d.refs < 2 ^ 63))
