@@ -1,0 +1,7 @@
+mod Composed
+mod Discovered
+mod Numbered
+mod Registered
+mod Terms
+mod Walking
+mod Weights

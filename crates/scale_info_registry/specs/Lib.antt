@@ -1,0 +1,4 @@
+pub mod MetaDescriptions
+pub mod Catalogues
+pub mod CatalogueSystems
+pub mod Registrations
