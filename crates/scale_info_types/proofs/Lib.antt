@@ -1,3 +1,4 @@
+pub mod Catalogues
 pub mod ShapeAndReferences
 pub mod Contents
 pub mod Injective

@@ -1,9 +1,12 @@
+pub mod Catalogues
 pub mod Iterators
+pub mod MetaDescriptions
 pub mod Orders
 pub mod TypePaths
 pub mod Portable
 pub mod Primitives
 pub mod References
 pub mod Shapes
+pub mod StandardTypes
 pub use Rattle.scale_info_identities.specs.Identifiers
 pub use Rattle.scale_info_identities.specs.TypeIds

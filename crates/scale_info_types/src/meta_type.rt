@@ -1,9 +1,92 @@
-//! Identities of types.
-ghost use Rattle.std.specs.Prelude.{◌≡◌};
+//! Types of the program: their identities, and what they are described as.
+ghost use Rattle.std.specs.Prelude.{◌≡◌, Option, Some, None, IfOk, IsErrOf};
+ghost use Rattle.std.specs.Option.{option_copied};
+ghost use Rattle.scale_info_identities.specs.TypeIds.{Term, term_of};
+ghost use Rattle.scale_info_types.specs.Catalogues.{described};
+ghost use Rattle.scale_info_types.specs.MetaDescriptions.{MetaContent, meta_content, type_term};
+ghost use Rattle.scale_info_types.specs.declared.meta_type.InfoError.TheVariants as info_error;
 
+use crate::ty::Type;
 use scale_info_collections::try_clone::TryClone;
 pub use scale_info_identities::type_id::TypeId;
-use std::alloc::{AllocError, Global};
+use std::alloc::{AllocError, AllocFailed, Global};
+use thiserror::Error;
+
+mod descriptions;
+
+pub use descriptions::{Catalogue, CatalogueError};
+
+/// Why a type could not be described. It is displayed as the name of the variant alone.
+#[derive(Debug, Drop, PartialEq, Eq, Error)]
+pub enum InfoError {
+    /// The type is an array of more than 4294967295 items.
+    #[error("TooLong")]
+    TooLong,
+    /// An allocation failed.
+    #[error("Memory")]
+    Memory,
+}
+
+impl From<AllocError> for InfoError {
+    ghost from_gives = { λ _ e. e ≡ info_error.Memory };
+
+    fn from(_e: AllocError) -> InfoError {
+        InfoError::Memory
+    }
+}
+
+impl<T: Drop> From<AllocFailed<T>> for InfoError {
+    ghost from_gives = { λ _ e. e ≡ info_error.Memory };
+
+    fn from(_e: AllocFailed<T>) -> InfoError {
+        InfoError::Memory
+    }
+}
+
+/// A type that has a term of its own.
+///
+/// A type has one term: whenever it is asked, `type_id` returns an identity with this term.
+pub trait Identified {
+    /// The type's own term.
+    ghost own: { Term };
+
+    /// The type's own identity, which is not always the one that descriptions refer to it by: see
+    /// [`HasIdentity`].
+    ///
+    /// Errors: `AllocError`, if an allocation failed.
+    fn type_id(alloc: Global) -> Result<TypeId, AllocError>
+        ensures { IfOk result (λ id. term_of id ≡ own) };
+}
+
+/// A type with the type whose own identity descriptions refer to it by.
+///
+/// `Box<u8>` is described as `u8` is, so its identity is that of `u8`; the identity of a type that
+/// stands for itself is its own.
+pub trait HasIdentity: Identified {
+    /// The type whose own identity this type is known by.
+    type Identity: Identified;
+}
+
+/// A type that can be described.
+///
+/// A type has one description, or none: that is so for an array that is too long alone.
+pub trait TypeInfo: HasIdentity {
+    /// What the type is described as.
+    ghost description: { Option MetaContent };
+
+    /// The type's description.
+    ///
+    /// Errors: `TooLong`, if the type is an array of more than 4294967295 items, or is described as
+    /// one; `Memory`, if an allocation failed.
+    fn type_info(alloc: Global) -> Result<Type, InfoError>
+        ensures ok { IfOk result (λ d. description ≡ Some (meta_content d)) }
+        ensures too_long { IsErrOf result InfoError.TooLong → description ≡ None };
+}
+
+/// A described type that borrows nothing for less than the whole run. It holds for every such type.
+pub trait StaticTypeInfo: TypeInfo + 'static {}
+
+impl<T: TypeInfo + 'static> StaticTypeInfo for T {}
 
 /// A type of the program, by its identity.
 #[derive(Drop, PartialEq, Eq, PartialOrd, Ord, Hash)]
@@ -12,11 +95,29 @@ pub struct MetaType {
 }
 
 impl MetaType {
+    /// The type `T`, by its identity.
+    ///
+    /// Errors: `AllocError`, if an allocation failed.
+    pub fn new<T: HasIdentity>(alloc: Global) -> Result<MetaType, AllocError>
+        ensures { IfOk result (λ ty. type_term ty ≡ T.Identity.own) }
+    {
+        Ok(MetaType {
+            identity: T::Identity::type_id(alloc)?,
+        })
+    }
+
     /// The type's identity.
     pub fn type_id(&self) -> &TypeId
         ensures { result.now ≡ self.now.identity }
     {
         &self.identity
+    }
+
+    /// The type's description in a catalogue; None if it has none there. Does not allocate.
+    pub fn type_info<'c>(&self, catalogue: &'c Catalogue) -> Option<&'c Type>
+        ensures { option_copied result ≡ described catalogue.now (type_term self.now) }
+    {
+        catalogue.get(&self.identity)
     }
 }
 
