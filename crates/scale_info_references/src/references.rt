@@ -14,9 +14,7 @@ use scale_info_types::ty::{Field, Type, TypeDef, TypeParameter};
 use std::alloc::{AllocError, AllocFailed, Global};
 
 /// Adds the types of the fields, in order.
-///
-/// Errors: `AllocFailed`, with the first type that found no room, if an allocation failed.
-pub fn gather_fields<'a, T: Form>(
+fn gather_fields<'a, T: Form>(
     fields: &'a [Field<T>],
     found: &mut Vec<&'a T::Ty>,
 ) -> Result<(), AllocFailed<&'a T::Ty>>
@@ -30,9 +28,7 @@ pub fn gather_fields<'a, T: Form>(
 }
 
 /// Adds the types of the variants' fields, in order.
-///
-/// Errors: `AllocFailed`, with the first type that found no room, if an allocation failed.
-pub fn gather_variants<'a, T: Form>(
+fn gather_variants<'a, T: Form>(
     variants: &'a [Variant<T>],
     found: &mut Vec<&'a T::Ty>,
 ) -> Result<(), AllocFailed<&'a T::Ty>>
@@ -62,9 +58,7 @@ fn gather_parameters<'a, T: Form>(
 }
 
 /// Adds these types, in order.
-///
-/// Errors: `AllocFailed`, with the first type that found no room, if an allocation failed.
-pub fn gather_types<'a, X>(
+fn gather_types<'a, X>(
     types: &'a [X],
     found: &mut Vec<&'a X>,
 ) -> Result<(), AllocFailed<&'a X>>
@@ -77,9 +71,7 @@ pub fn gather_types<'a, X>(
 }
 
 /// Adds the references of a definition, in order.
-///
-/// Errors: `AllocFailed`, with the first type that found no room, if an allocation failed.
-pub fn gather_definition<'a, T: Form>(
+fn gather_definition<'a, T: Form>(
     def: &'a TypeDef<T>,
     found: &mut Vec<&'a T::Ty>,
 ) -> Result<(), AllocFailed<&'a T::Ty>>
@@ -133,6 +125,71 @@ pub fn references_of<'a, T: Form>(
 {
     let mut found = Vec::new(alloc);
     match gather(ty, &mut found) {
+        Ok(()) => Ok(found),
+        Err(_) => Err(AllocError),
+    }
+}
+
+/// The references of a definition, in order.
+///
+/// Errors: `AllocError`, if an allocation failed.
+pub fn references_of_definition<'a, T: Form>(
+    alloc: Global,
+    def: &'a TypeDef<T>,
+) -> Result<Vec<&'a T::Ty>, AllocError>
+    ensures { IfOk result (λ found. targets found.items ≡ definition_references def.now) }
+{
+    let mut found = Vec::new(alloc);
+    match gather_definition(def, &mut found) {
+        Ok(()) => Ok(found),
+        Err(_) => Err(AllocError),
+    }
+}
+
+/// The types of fields, in order.
+///
+/// Errors: `AllocError`, if an allocation failed.
+pub fn references_of_fields<'a, T: Form>(
+    alloc: Global,
+    fields: &'a [Field<T>],
+) -> Result<Vec<&'a T::Ty>, AllocError>
+    ensures { IfOk result (λ found. targets found.items ≡ field_references fields.now) }
+{
+    let mut found = Vec::new(alloc);
+    match gather_fields(fields, &mut found) {
+        Ok(()) => Ok(found),
+        Err(_) => Err(AllocError),
+    }
+}
+
+/// The types of the fields of variants, in order.
+///
+/// Errors: `AllocError`, if an allocation failed.
+pub fn references_of_variants<'a, T: Form>(
+    alloc: Global,
+    variants: &'a [Variant<T>],
+) -> Result<Vec<&'a T::Ty>, AllocError>
+    ensures { IfOk result (λ found. targets found.items
+        ≡ flat_map (λ v. field_references v.fields) variants.now) }
+{
+    let mut found = Vec::new(alloc);
+    match gather_variants(variants, &mut found) {
+        Ok(()) => Ok(found),
+        Err(_) => Err(AllocError),
+    }
+}
+
+/// These types, in order.
+///
+/// Errors: `AllocError`, if an allocation failed.
+pub fn references_of_types<'a, X>(
+    alloc: Global,
+    types: &'a [X],
+) -> Result<Vec<&'a X>, AllocError>
+    ensures { IfOk result (λ found. targets found.items ≡ types.now) }
+{
+    let mut found = Vec::new(alloc);
+    match gather_types(types, &mut found) {
         Ok(()) => Ok(found),
         Err(_) => Err(AllocError),
     }

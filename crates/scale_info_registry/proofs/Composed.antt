@@ -25,7 +25,7 @@ use Rattle.scale_info_numberings.proofs.PlacesOf.{places_in_more}
 use Rattle.scale_info_registry.specs.declared.registry.discovery.RegisterError.{RegisterError}
 use Rattle.scale_info_registry.specs.declared.registry.discovery.RegisterError.TheVariants.{Undescribed, Full, Memory}
 use Rattle.scale_info_registry.specs.Registrations.{nodes_of, ids_in, portable_entry, Registered, registered, IsRegistration, IsConverted, IsCause}
-use Rattle.scale_info_registry.specs.MetaDescriptions.{type_term}
+use Rattle.scale_info_types.specs.MetaDescriptions.{type_term}
 use Rattle.scale_info_registry.proofs.Registered.{length_nodes}
 
 joined_more : {A : Type 0} (xs ys zs : List A) → (more : List A) × (ys ≡ xs ++ more) → (more : List A) × (zs ≡ ys ++ more) → (more : List A) × (zs ≡ xs ++ more)

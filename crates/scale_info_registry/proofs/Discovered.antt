@@ -12,11 +12,11 @@ use Rattle.scale_info_identities.specs.TypeIds.{Term, term_of}
 use Rattle.scale_info_types.specs.declared.meta_type.MetaType.{MetaType}
 use Rattle.scale_info_identities.specs.declared.type_id.TypeId.{TypeId}
 use Rattle.scale_info_identities.specs.contracts.type_id.TypeIdPartialEq.TheImpl.{ghosts as equals}
-use Rattle.scale_info_registry.specs.MetaDescriptions.{MetaDescription, type_term}
+use Rattle.scale_info_types.specs.MetaDescriptions.{MetaDescription, type_term}
 use Rattle.scale_info_registry.specs.CatalogueSystems.{entry_of, system_of}
-use Rattle.scale_info_registry.specs.Catalogues.{described}
+use Rattle.scale_info_types.specs.Catalogues.{described}
 use Rattle.scale_info_registry.specs.Registrations.{nodes_of, roots_of, stacked, IsCause}
-use Rattle.scale_info_registry.specs.declared.catalogue.Catalogue.{Catalogue}
+use Rattle.scale_info_types.specs.declared.meta_type.descriptions.Catalogue.{Catalogue}
 use Rattle.scale_info_registry.specs.declared.registry.discovery.RegisterError.TheVariants.{Full}
 use Rattle.scale_info_references.specs.Gathered.{targets}
 use Rattle.scale_info_registry.proofs.Terms.{known}

@@ -1,5 +1,6 @@
 mod Composed
 mod Discovered
+pub mod Enumerated
 mod Numbered
 mod Registered
 mod Terms

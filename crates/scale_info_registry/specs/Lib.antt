@@ -1,4 +1,3 @@
-pub mod MetaDescriptions
-pub mod Catalogues
 pub mod CatalogueSystems
+pub mod Parts
 pub mod Registrations

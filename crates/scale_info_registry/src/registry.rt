@@ -1,6 +1,6 @@
 //! Registries: types of the program become descriptions with ids.
 ghost use Rattle.std.specs.Iterator.{IsFinite};
-ghost use Rattle.std.specs.List.{AllZip, flat_map};
+ghost use Rattle.std.specs.List.{AllZip, enumerate_from, flat_map};
 ghost use Rattle.std.specs.Prelude.{◌≡◌, ◌≤◌, ◌++◌, ◌⊎◌, ◌∷◌, [], ℕ, List, Some, OnOk, OnErr, IfErr, IfOk, IsOk, Contains, length, map, slice_get};
 ghost use Rattle.scale_info_identities.specs.Interned.{AreDistinctBy};
 ghost use Rattle.scale_info_identities.specs.TypeIds.{term_of};
@@ -11,19 +11,19 @@ ghost use Rattle.scale_info_types.specs.Iterators.{GivesAll};
 ghost use Rattle.scale_info_types.specs.Portable as portable;
 ghost use Rattle.scale_info_types.specs.declared.meta_type.MetaType.{MetaType};
 ghost use Rattle.scale_info_registry.specs.CatalogueSystems.{system_of};
-ghost use Rattle.scale_info_registry.specs.Catalogues.{described};
-ghost use Rattle.scale_info_registry.specs.MetaDescriptions.{MetaDescription, type_term};
-ghost use Rattle.scale_info_registry.specs.Registrations.{nodes_of, roots_of, stacked, IsCause, registered, IsRegistration, AreDescribed, HasIds, Keeps, IsConverted};
+ghost use Rattle.scale_info_types.specs.Catalogues.{described};
+ghost use Rattle.scale_info_types.specs.MetaDescriptions.{MetaDescription, type_term};
+ghost use Rattle.scale_info_registry.specs.Registrations.{nodes_of, roots_of, stacked, IsCause, Registered, registered, IsClosed, IsRegistration, AreDescribed, HasIds, Keeps, IsConverted};
 ghost use Rattle.scale_info_registry.specs.declared.registry.discovery.RegisterError.TheVariants.{Memory};
 
-use crate::catalogue::Catalogue;
-use conversion::{HasTypes, Identities};
+
+use conversion::{HasTypes, Identities, alone};
 use discovery::{discover, stack_up};
 use scale_info_identities::interner::{Interner, UntrackedSymbol};
 use scale_info_identities::type_id::TypeId;
 use scale_info_references::conversion::{Numbers, convert};
 use scale_info_types::form::PortableForm;
-use scale_info_types::meta_type::MetaType;
+use scale_info_types::meta_type::{Catalogue, MetaType};
 use scale_info_types::ty::Type;
 use std::alloc::{AllocError, Global};
 use std::marker::Model;
@@ -31,9 +31,11 @@ use std::marker::Model;
 mod conversion;
 mod discovery;
 mod into_portable;
+mod registry_types;
 
 pub use discovery::RegisterError;
 pub use into_portable::IntoPortable;
+pub use registry_types::RegistryTypes;
 
 /// A table of descriptions in the making: each type of the program that was registered has an id
 /// and a portable description.
@@ -180,6 +182,18 @@ impl Registry {
         done
     }
 
+    /// The descriptions, each with its id, in ascending order of id. Does not allocate.
+    pub fn types(&self) -> RegistryTypes<'_>
+        ensures list { result ≡ enumerate_from 0 self.now.types }
+        ensures closed { IsClosed self.now }
+    {
+        let _bounded = self.identities.elements();
+        RegistryTypes {
+            types: &self.types,
+            id: 0,
+        }
+    }
+
     /// The allocator.
     pub(crate) fn allocator(&self) -> Global
         ensures distinct { AreDistinctBy ⟦<TypeId as PartialEq>⟧.eq self.now.identities }
@@ -274,16 +288,6 @@ impl Registry {
         }
         done
     }
-}
-
-/// The list of one type.
-fn alone<'a>(alloc: Global, ty: &'a MetaType) -> Result<Vec<&'a MetaType>, RegisterError>
-    ensures ok { IfOk result (λ types. stacked types.items ≡ type_term ty.now ∷ []) }
-    ensures err { IfErr result (λ e. e ≡ Memory) }
-{
-    let mut types = Vec::new(alloc);
-    types.push(ty)?;
-    Ok(types)
 }
 
 /// Numbers what is new, and then describes it. On an Err the lists may have more than they had.

@@ -7,12 +7,12 @@ ghost use Rattle.scale_info_registry.specs.CatalogueSystems.{system_of};
 ghost use Rattle.scale_info_registry.specs.Registrations.{nodes_of, stacked, IsCause};
 ghost use Rattle.scale_info_registry.specs.declared.registry.discovery.RegisterError.TheVariants.{Memory};
 
-use crate::catalogue::Catalogue;
+
 use scale_info_collections::try_clone::TryClone;
 use scale_info_identities::interner::{InternError, Interner};
 use scale_info_identities::type_id::TypeId;
 use scale_info_references::references::references_of;
-use scale_info_types::meta_type::MetaType;
+use scale_info_types::meta_type::{Catalogue, MetaType};
 use std::alloc::{AllocError, AllocFailed, Global};
 use thiserror::Error;
 
