@@ -3,6 +3,7 @@ mod Discovered
 pub mod Enumerated
 mod Numbered
 mod Registered
+mod Steps
 mod Terms
 mod Walking
 mod Weights

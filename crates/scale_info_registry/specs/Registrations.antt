@@ -2,12 +2,13 @@
 use Rattle.std.specs.Prelude.{◌≡◌, ℕ, ◌<◌, ◌≤◌, ◌++◌, ◌∷◌, [], suc, Bool, cond, List, None, Some}
 use Rattle.std.specs.Prelude.{slice_get, map, length, reverse, All, Contains, ◌⊎◌, ⊤}
 use Rattle.std.specs.Borrow.{Bor}
+use Rattle.std.specs.List.{flat_map}
 use Rattle.scale_info_identities.specs.TypeIds.{Term, term_of}
 use Rattle.scale_info_identities.specs.contracts.type_id.TypeIdPartialEq.TheImpl.{ghosts as equals}
 use Rattle.scale_info_identities.specs.declared.type_id.TypeId.{TypeId}
 use Rattle.scale_info_numberings.specs.Extensions.{IsExtension}
 use Rattle.scale_info_numberings.specs.Numberings.{AreDistinct}
-use Rattle.scale_info_numberings.specs.Systems.{Entry, System, IsReachedPast}
+use Rattle.scale_info_numberings.specs.Systems.{Entry, Grows, System, IsReachedPast}
 use Rattle.scale_info_numberings.specs.Tables.{ArePlaces}
 use Rattle.scale_info_references.specs.Conversions.{with_ids}
 use Rattle.scale_info_types.specs.Portable as portable
@@ -119,3 +120,27 @@ HasIds types convert value ids output =
 -- a portable description as the entry of a table
 abbrev pub portable_entry : portable.Description → Entry Shape ℕ
 portable_entry ty = record { shape = shape (λ bytes. bytes) ty; refs = ids_in ty }
+
+-- one of several registrations: the catalogue at that time, the roots, and the registry afterwards
+pub record Step : Type 0 where
+  pub catalogue : System Shape Term
+  pub roots : List Term
+  pub registry : Registered
+
+-- after the first registration each one's catalogue holds the one before unchanged, and its registry
+-- is the one before after a registration of its roots
+abbrev pub AreSteps : Step → List Step → Type 0
+AreSteps x [] = ⊤
+AreSteps x (y ∷ ys) =
+    Grows x.catalogue y.catalogue
+    × IsRegistration y.catalogue x.registry y.roots y.registry
+    × AreSteps y ys
+
+-- the last registration, where x is the first
+abbrev pub last_step : Step → List Step → Step
+last_step x [] = x
+last_step x (y ∷ ys) = last_step y ys
+
+-- the roots of all registrations, joined in order
+abbrev pub step_roots : List Step → List Term
+step_roots steps = flat_map (λ x. x.roots) steps

@@ -16,7 +16,6 @@ ghost use Rattle.scale_info_types.specs.MetaDescriptions.{MetaDescription, type_
 ghost use Rattle.scale_info_registry.specs.Registrations.{nodes_of, roots_of, stacked, IsCause, Registered, registered, IsClosed, IsRegistration, AreDescribed, HasIds, Keeps, IsConverted};
 ghost use Rattle.scale_info_registry.specs.declared.registry.discovery.RegisterError.TheVariants.{Memory};
 
-
 use conversion::{HasTypes, Identities, alone};
 use discovery::{discover, stack_up};
 use scale_info_identities::interner::{Interner, UntrackedSymbol};

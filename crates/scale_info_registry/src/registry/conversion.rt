@@ -40,9 +40,7 @@ use scale_info_types::form::{MetaForm, PortableForm};
 use scale_info_types::meta_type::MetaType;
 use scale_info_types::ty::path::Path;
 use scale_info_types::ty::variant::Variant;
-use scale_info_types::ty::{
-    Field, Type, TypeDef, TypeDefComposite, TypeDefVariant, TypeParameter,
-};
+use scale_info_types::ty::{Field, Type, TypeDef, TypeDefComposite, TypeDefVariant, TypeParameter};
 use std::alloc::{AllocError, Global};
 
 /// The identities of a registry, which number the types of descriptions.
@@ -70,10 +68,7 @@ impl<'a> Numbers<MetaForm> for Identities<'a> {
 }
 
 /// The list of one type.
-pub(super) fn alone<'a>(
-    alloc: Global,
-    ty: &'a MetaType,
-) -> Result<Vec<&'a MetaType>, AllocError>
+pub(super) fn alone<'a>(alloc: Global, ty: &'a MetaType) -> Result<Vec<&'a MetaType>, AllocError>
     ensures ok { IfOk result (λ types. stacked types.items ≡ type_term ty.now ∷ []) }
     ensures list { IfOk result (λ types. targets types.items ≡ ty.now ∷ []) }
 {

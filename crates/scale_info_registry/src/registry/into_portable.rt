@@ -37,7 +37,6 @@ ghost use Rattle.scale_info_registry.specs.Registrations.{nodes_of, IsCause, IsR
 use super::Registry;
 use super::conversion::TypePair;
 use super::discovery::RegisterError;
-
 use scale_info_collections::text::Text;
 use scale_info_identities::interner::UntrackedSymbol;
 use scale_info_identities::type_id::TypeId;
@@ -330,7 +329,10 @@ impl IntoPortable for TypeDefBitSequence {
         registry: &mut Registry,
         catalogue: &Catalogue,
     ) -> Result<TypeDefBitSequence<PortableForm>, RegisterError> {
-        let TypeDefBitSequence { bit_store_type, bit_order_type } = self;
+        let TypeDefBitSequence {
+            bit_store_type,
+            bit_order_type,
+        } = self;
         let pair = TypePair {
             first: bit_store_type,
             second: bit_order_type,
