@@ -68,7 +68,9 @@ fn convert_optional_text<F: Form, N: Numbers<F>>(
 }
 
 /// The ids of types, in order.
-fn convert_types<F: Form, N: Numbers<F>>(
+///
+/// Errors: `AllocError`, if an allocation failed.
+pub fn convert_types<F: Form, N: Numbers<F>>(
     alloc: Global,
     numbers: &N,
     types: &Items<F::Ty>,
@@ -82,8 +84,10 @@ fn convert_types<F: Form, N: Numbers<F>>(
     Ok(all)
 }
 
-/// The field with an id as its type.
-fn convert_field<F: Form, N: Numbers<F>>(
+/// The field with an id as its type, and copies of its strings.
+///
+/// Errors: `AllocError`, if an allocation failed.
+pub fn convert_field<F: Form, N: Numbers<F>>(
     alloc: Global,
     numbers: &N,
     field: &Field<F>,
@@ -100,7 +104,9 @@ fn convert_field<F: Form, N: Numbers<F>>(
 }
 
 /// The fields with ids as their types, in order.
-fn convert_fields<F: Form, N: Numbers<F>>(
+///
+/// Errors: `AllocError`, if an allocation failed.
+pub fn convert_fields<F: Form, N: Numbers<F>>(
     alloc: Global,
     numbers: &N,
     fields: &Items<Field<F>>,
@@ -115,8 +121,10 @@ fn convert_fields<F: Form, N: Numbers<F>>(
     Ok(all)
 }
 
-/// The variant whose fields have ids as their types.
-fn convert_variant<F: Form, N: Numbers<F>>(
+/// The variant whose fields have ids as their types, with copies of its strings.
+///
+/// Errors: `AllocError`, if an allocation failed.
+pub fn convert_variant<F: Form, N: Numbers<F>>(
     alloc: Global,
     numbers: &N,
     variant: &Variant<F>,
@@ -133,7 +141,9 @@ fn convert_variant<F: Form, N: Numbers<F>>(
 }
 
 /// The variants whose fields have ids as their types, in order.
-fn convert_variants<F: Form, N: Numbers<F>>(
+///
+/// Errors: `AllocError`, if an allocation failed.
+pub fn convert_variants<F: Form, N: Numbers<F>>(
     alloc: Global,
     numbers: &N,
     variants: &Items<Variant<F>>,
@@ -149,8 +159,10 @@ fn convert_variants<F: Form, N: Numbers<F>>(
     Ok(all)
 }
 
-/// The parameter with an id as its type, if it has one.
-fn convert_parameter<F: Form, N: Numbers<F>>(
+/// The parameter with a copy of its name, and with an id as its type, if it has one.
+///
+/// Errors: `AllocError`, if an allocation failed.
+pub fn convert_parameter<F: Form, N: Numbers<F>>(
     alloc: Global,
     numbers: &N,
     param: &TypeParameter<F>,
@@ -185,7 +197,9 @@ fn convert_parameters<F: Form, N: Numbers<F>>(
 }
 
 /// The definition with ids in place of types.
-fn convert_definition<F: Form, N: Numbers<F>>(
+///
+/// Errors: `AllocError`, if an allocation failed.
+pub fn convert_definition<F: Form, N: Numbers<F>>(
     alloc: Global,
     numbers: &N,
     def: &TypeDef<F>,
@@ -225,8 +239,10 @@ fn convert_definition<F: Form, N: Numbers<F>>(
     }
 }
 
-/// The path in portable form.
-fn convert_path<F: Form, N: Numbers<F>>(
+/// The path with copies of its segments, in the form of a table.
+///
+/// Errors: `AllocError`, if an allocation failed.
+pub fn convert_path<F: Form, N: Numbers<F>>(
     alloc: Global,
     numbers: &N,
     path: &Path<F>,

@@ -1,0 +1,144 @@
+-- A walk over the catalogue, step by step.
+use Rattle.std.proofs.Common.{◌≡◌, suc, ◌+◌, ◌<◌, List, [], ◌∷◌, ◌++◌, length, Option, Some, IsSome, option_map, map, reverse, refl, ap, sym, ◌∙◌, subst, arith, Contains, append_assoc, append-nil, Bool, true, false, length-append, Bor}
+use Rattle.std.proofs.lemmas.List.{map-append, reverse-append, length_push, length-reverse}
+use Rattle.std.proofs.lemmas.List.Elements.{Contains-get_or}
+use Rattle.std.proofs.lemmas.Bool.{false≢true}
+use Rattle.scale_info_numberings.specs.Systems.{IsReachedPast}
+use Rattle.scale_info_numberings.specs.Numberings.{AreDistinct}
+use Rattle.scale_info_numberings.specs.Extensions.{IsExtension}
+use Rattle.scale_info_identities.specs.Interned.{IsKnown}
+use Rattle.scale_info_types.specs.References.{references}
+use Rattle.scale_info_identities.specs.TypeIds.{Term, term_of}
+use Rattle.scale_info_types.specs.declared.meta_type.MetaType.{MetaType}
+use Rattle.scale_info_identities.specs.declared.type_id.TypeId.{TypeId}
+use Rattle.scale_info_identities.specs.contracts.type_id.TypeIdPartialEq.TheImpl.{ghosts as equals}
+use Rattle.scale_info_types.specs.MetaDescriptions.{MetaDescription, type_term}
+use Rattle.scale_info_registry.specs.CatalogueSystems.{entry_of, system_of}
+use Rattle.scale_info_types.specs.Catalogues.{described}
+use Rattle.scale_info_registry.specs.Registrations.{nodes_of, roots_of, stacked, IsCause}
+use Rattle.scale_info_types.specs.declared.meta_type.descriptions.Catalogue.{Catalogue}
+use Rattle.scale_info_registry.specs.declared.registry.discovery.RegisterError.TheVariants.{Full}
+use Rattle.scale_info_references.specs.Gathered.{targets}
+use Rattle.scale_info_registry.proofs.Terms.{known}
+use Rattle.scale_info_registry.proofs.Walking.{IsWalking, walk_adds, walk_meets, walk_passes, walk_ends, kept_below, distinct_push}
+use Rattle.scale_info_registry.proofs.Weights.{work_left, adds_less}
+
+pub stacked_pop : (ss : List (Bor MetaType)) (r : Bor MetaType) → stacked (ss ++ r ∷ []) ≡ type_term r.now ∷ stacked ss
+stacked_pop ss r = ap (map (λ (r : Bor MetaType). type_term r.now)) (reverse-append ss (r ∷ []))
+
+map_targets : (found : List (Bor MetaType)) → map (λ (r : Bor MetaType). type_term r.now) found ≡ roots_of (targets found)
+map_targets [] = refl
+map_targets (r ∷ found) = ap (λ xs. type_term r.now ∷ xs) (map_targets found)
+
+pub stacked_more :
+    (all found pending : List (Bor MetaType)) (d : MetaDescription) → reverse all ≡ found ++ reverse pending → targets found ≡ references d
+    → stacked all ≡ (entry_of d).refs ++ stacked pending
+stacked_more all found pending d e s =
+    ap (map (λ (r : Bor MetaType). type_term r.now)) e ∙ map-append (λ (r : Bor MetaType). type_term r.now) found (reverse pending)
+    ∙ ap (λ xs. xs ++ stacked pending) (map_targets found ∙ ap roots_of s)
+
+pub length_more :
+    (all found pending : List (Bor MetaType)) (d : MetaDescription) → reverse all ≡ found ++ reverse pending → targets found ≡ references d
+    → length all ≡ length (entry_of d).refs + length pending
+length_more all found pending d e s =
+    sym (length-stacked all) ∙ ap (λ (xs : List Term). length xs) (stacked_more all found pending d e s)
+    ∙ (length-append (entry_of d).refs (stacked pending) ∙ ap (λ n. length (entry_of d).refs + n) (length-stacked pending))
+  where
+    length_map : {A B : Type 0} (f : A → B) (xs : List A) → length (map f xs) ≡ length xs
+    length_map f [] = refl
+    length_map f (x ∷ xs) = let r = length_map f xs in omega arith
+
+    length-stacked : (ss : List (Bor MetaType)) → length (stacked ss) ≡ length ss
+    length-stacked ss = length_map (λ (r : Bor MetaType). type_term r.now) (reverse ss) ∙ length-reverse ss
+
+pub nodes_push : (ids more : List TypeId) (id : TypeId) → more ≡ ids ++ id ∷ [] → nodes_of more ≡ nodes_of ids ++ term_of id ∷ []
+nodes_push ids more id e = ap nodes_of e ∙ map-append term_of ids (id ∷ [])
+
+pub pushed_one : (ids more : List TypeId) (copy id : TypeId) → copy ≡ id → ¬ (IsKnown equals.eq ids id) → (¬ (IsKnown equals.eq ids copy) → more ≡ ids ++ copy ∷ []) → more ≡ ids ++ id ∷ []
+pushed_one ids more copy id e u f =
+    subst (λ i. (¬ (IsKnown equals.eq ids i) → more ≡ ids ++ i ∷ []) → more ≡ ids ++ id ∷ []) (sym e) (λ g. g u) f
+
+pub kept_more : (before ids new : List TypeId) (id : TypeId) → (more : List TypeId) × (ids ≡ before ++ more) → new ≡ ids ++ id ∷ [] → (more : List TypeId) × (new ≡ before ++ more)
+kept_more before ids new id m e = (m.0 ++ id ∷ [], e ∙ ap (λ xs. xs ++ id ∷ []) m.1 ∙ append_assoc before m.0 (id ∷ []))
+
+pub not_some : {A : Type 0} (o : Option A) (b : Bool) → (IsSome o → b ≡ true) → b ≡ false → IsSome o → ⊥
+not_some o b f e s = false≢true (sym e ∙ f s)
+
+module _ (c : Catalogue) (before : List TypeId) (roots : List (Bor MetaType)) where
+  abbrev Walking : List TypeId → List (Bor MetaType) → Type 0
+  Walking ids pending = IsWalking (system_of c) (nodes_of before) (stacked roots) (nodes_of ids) (stacked pending)
+
+  shown : (ids : List TypeId) (pending ss : List (Bor MetaType)) (r : Bor MetaType) → pending ≡ ss ++ r ∷ [] → Walking ids pending
+      → IsWalking (system_of c) (nodes_of before) (stacked roots) (nodes_of ids) (type_term r.now ∷ stacked ss)
+  shown ids pending ss r p x =
+      subst (λ xs. IsWalking (system_of c) (nodes_of before) (stacked roots) (nodes_of ids) xs) (ap stacked p ∙ stacked_pop ss r) x
+
+  pub passes : (ids : List TypeId) (pending ss : List (Bor MetaType)) (r : Bor MetaType) (id : TypeId) → pending ≡ ss ++ r ∷ [] → id ≡ r.now.identity
+      → IsKnown equals.eq ids id → Walking ids pending → Walking ids ss
+  passes ids pending ss r id p e k x =
+      walk_passes (system_of c) (nodes_of before) (stacked roots) (nodes_of ids) (stacked ss) (type_term r.now)
+      (subst (λ i. Contains (nodes_of ids) (term_of i)) e ((known ids id).0 k)) (shown ids pending ss r p x)
+
+  fresh : (ids : List TypeId) (r : Bor MetaType) (id : TypeId) → id ≡ r.now.identity → ¬ (IsKnown equals.eq ids id) → ¬ (Contains (nodes_of ids) (type_term r.now))
+  fresh ids r id e u k = u ((known ids id).1 (subst (λ i. Contains (nodes_of ids) (term_of i)) (sym e) k))
+
+  pub meets : (ids : List TypeId) (pending ss : List (Bor MetaType)) (r : Bor MetaType) (id : TypeId) → pending ≡ ss ++ r ∷ [] → id ≡ r.now.identity
+      → ¬ (IsKnown equals.eq ids id) → Walking ids pending → IsReachedPast (system_of c) (nodes_of before) (stacked roots) (term_of id)
+  meets ids pending ss r id p e u x =
+      subst (λ i. IsReachedPast (system_of c) (nodes_of before) (stacked roots) (term_of i)) (sym e)
+      (walk_meets (system_of c) (nodes_of before) (stacked roots) (nodes_of ids) (stacked ss) (type_term r.now) (fresh ids r id e u) (shown ids pending ss r p x))
+
+  pub adds :
+      (ids more : List TypeId) (pending ss all found : List (Bor MetaType)) (r : Bor MetaType) (id : TypeId) (d : MetaDescription)
+      → pending ≡ ss ++ r ∷ [] → id ≡ r.now.identity → ¬ (IsKnown equals.eq ids id) → described c (term_of id) ≡ Some d → more ≡ ids ++ id ∷ []
+      → reverse all ≡ found ++ reverse ss → targets found ≡ references d → Walking ids pending → Walking more all
+  adds ids more pending ss all found r id d p e u s m a f x =
+      let here : system_of c (type_term r.now) ≡ Some (entry_of d) = ap (λ i. system_of c (term_of i)) (sym e) ∙ ap (option_map entry_of) s in
+      let y =
+      walk_adds (system_of c) (nodes_of before) (stacked roots) (nodes_of ids) (stacked ss) (type_term r.now) (entry_of d) (fresh ids r id e u) here
+      (shown ids pending ss r p x)
+      in
+      subst (λ xs. IsWalking (system_of c) (nodes_of before) (stacked roots) (nodes_of more) xs) (sym (stacked_more all found ss d a f))
+      (subst (λ xs. IsWalking (system_of c) (nodes_of before) (stacked roots) xs ((entry_of d).refs ++ stacked ss))
+      (sym (nodes_push ids more id m ∙ ap (λ i. nodes_of ids ++ term_of i ∷ []) e)) y)
+
+  pub shrinks :
+      (ids more : List TypeId) (pending ss all found : List (Bor MetaType)) (r : Bor MetaType) (id : TypeId) (d : MetaDescription)
+      → pending ≡ ss ++ r ∷ [] → described c (term_of id) ≡ Some d → more ≡ ids ++ id ∷ []
+      → reverse all ≡ found ++ reverse ss → targets found ≡ references d → Walking more all
+      → work_left c (nodes_of more) (length all) < work_left c (nodes_of ids) (length pending)
+  shrinks ids more pending ss all found r id d p s m a f x =
+      let here : system_of c (term_of id) ≡ Some (entry_of d) = ap (option_map entry_of) s in
+      let grown = nodes_push ids more id m in
+      let less = adds_less c (nodes_of ids) (term_of id) (entry_of d) (length ss) (subst (λ (xs : List Term). AreDistinct xs) grown x.distinct) here in
+      let long : length pending ≡ suc (length ss) = ap (λ (xs : List (Bor MetaType)). length xs) p ∙ (length_push ss r ∙ omega arith) in
+      subst (λ n. work_left c (nodes_of more) (length all) < work_left c (nodes_of ids) n) (sym long)
+      (subst (λ n. work_left c (nodes_of more) n < work_left c (nodes_of ids) (suc (length ss))) (sym (length_more all found ss d a f))
+      (subst (λ xs. work_left c xs (length (entry_of d).refs + length ss) < work_left c (nodes_of ids) (suc (length ss))) (sym grown) less))
+
+  pub ends : (ids : List TypeId) (pending : List (Bor MetaType)) → pending ≡ [] → Walking ids pending → IsExtension (system_of c) (nodes_of before) (stacked roots) (nodes_of ids)
+  ends ids pending e x =
+      walk_ends (system_of c) (nodes_of before) (stacked roots) (nodes_of ids)
+      (subst (λ (ps : List (Bor MetaType)). IsWalking (system_of c) (nodes_of before) (stacked roots) (nodes_of ids) (stacked ps)) e x)
+
+  -- the identities and the new one are too many
+  pub overflows : (ids : List TypeId) (pending ss : List (Bor MetaType)) (r : Bor MetaType) (id : TypeId) → pending ≡ ss ++ r ∷ [] → id ≡ r.now.identity
+      → ¬ (IsKnown equals.eq ids id) → length ids ≡ 4294967295 → Walking ids pending → IsCause (system_of c) (nodes_of before) (stacked roots) Full
+  overflows ids pending ss r id p e u l x =
+      let new = fresh ids r id e u in
+      let all = nodes_of ids ++ type_term r.now ∷ [] in (
+        all,
+        distinct_push (nodes_of ids) (type_term r.now) x.distinct new,
+        λ k d h. kept_below (system_of c) (nodes_of before) (stacked roots) (nodes_of ids) (stacked ss) (type_term r.now) new (shown ids pending ss r p x) _ (Contains-get_or all k d h),
+        let long = length_push (nodes_of ids) (type_term r.now) in let same = length_nodes ids in omega arith,
+      )
+    where
+      length_nodes : (ids : List TypeId) → length (nodes_of ids) ≡ length ids
+      length_nodes [] = refl
+      length_nodes (x ∷ ids) = let r = length_nodes ids in omega arith
+
+-- a stack of what a value holds
+pub stacked_alone :
+    (all found none : List (Bor MetaType)) (rs : List MetaType) → reverse all ≡ found ++ reverse none → none ≡ [] → targets found ≡ rs → stacked all ≡ roots_of rs
+stacked_alone all found none rs e z s =
+    ap (map (λ (r : Bor MetaType). type_term r.now)) (e ∙ ap (λ (xs : List (Bor MetaType)). found ++ reverse xs) z ∙ append-nil found) ∙ map_targets found ∙ ap roots_of s

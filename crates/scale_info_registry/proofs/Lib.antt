@@ -1,0 +1,9 @@
+mod Composed
+mod Discovered
+pub mod Enumerated
+mod Numbered
+mod Registered
+mod Steps
+mod Terms
+mod Walking
+mod Weights

@@ -1,0 +1,235 @@
+-- What a registration has done, once all new identities are described.
+use Rattle.std.proofs.Common.{take, ◌≡◌, ℕ, zero, suc, ◌+◌, ◌<◌, ◌≤◌, List, [], ◌∷◌, ◌++◌, length, Option, Some, None, option_map, slice_get, map, refl, ap, sym, ◌∙◌, subst, arith, Contains, inl, inr, length-append, Bor}
+use Rattle.std.proofs.lemmas.Bool.{cases_lt}
+use Rattle.std.proofs.lemmas.List.{length_push}
+use Rattle.std.proofs.lemmas.Option.{same_Some, none-some, slice_get_within}
+use Rattle.scale_info_types.specs.Portable as portable
+use Rattle.scale_info_identities.specs.Interned as interned
+use Rattle.scale_info_types.specs.References.{references}
+use Rattle.scale_info_types.specs.Shapes.{Shape}
+use Rattle.scale_info_identities.specs.TypeIds.{Term, term_of}
+use Rattle.scale_info_identities.specs.TypeIdLaws.{same_type_ids}
+use Rattle.scale_info_types.specs.declared.meta_type.MetaType.{MetaType}
+use Rattle.scale_info_identities.specs.declared.type_id.TypeId.{TypeId}
+use Rattle.scale_info_identities.specs.contracts.type_id.TypeIdPartialEq.TheImpl.{ghosts as equals}
+use Rattle.scale_info_numberings.specs.Systems.{Entry, System}
+use Rattle.scale_info_numberings.specs.Numberings.{AreDistinct}
+use Rattle.scale_info_numberings.specs.Extensions.{IsExtension}
+use Rattle.scale_info_numberings.specs.Tables.{ArePlaces}
+use Rattle.scale_info_numberings.proofs.Places.{contains_at, contains_head, contains_tail, from_left, at_left, at_seam}
+use Rattle.scale_info_numberings.proofs.PlacesOf.{places_below}
+use Rattle.scale_info_numberings.proofs.FirstReference.{extends_by_known, extends_by_none}
+use Rattle.std.proofs.Common.{append-nil}
+use Rattle.scale_info_numberings.proofs.Walking.{walk_members}
+use Rattle.scale_info_types.specs.declared.meta_type.descriptions.Catalogue.{Catalogue}
+use Rattle.scale_info_types.specs.MetaDescriptions.{MetaDescription, type_term}
+use Rattle.scale_info_types.specs.Catalogues.{described}
+use Rattle.scale_info_registry.specs.CatalogueSystems.{entry_of, system_of}
+use Rattle.scale_info_registry.specs.Registrations.{nodes_of, roots_of, index_in, ids_in, Registered, registered, IsClosed, IsRegistration, AreDescribed, Keeps}
+use Rattle.scale_info_references.specs.Conversions.{with_ids}
+use Rattle.scale_info_registry.proofs.Numbered.{index_is}
+use Rattle.scale_info_references.proofs.Replaced.{shape_stays, ids_replaced}
+use Rattle.scale_info_registry.proofs.Terms.{known_by_term, known}
+
+pub at_node : (ids : List TypeId) (i : ℕ) (id : TypeId) → slice_get ids i ≡ Some id → slice_get (nodes_of ids) i ≡ Some (term_of id)
+at_node [] i id e = absurd (none-some id e)
+at_node (x ∷ ids) zero id e = ap Some (ap term_of (same_Some x id e))
+at_node (x ∷ ids) (suc i) id e = at_node ids i id e
+
+pub from_node : (ids : List TypeId) (i : ℕ) (n : Term) → slice_get (nodes_of ids) i ≡ Some n → (id : TypeId) × (slice_get ids i ≡ Some id) × (term_of id ≡ n)
+from_node [] i n e = absurd (none-some n e)
+from_node (x ∷ ids) zero n e = (x, refl, same_Some (term_of x) n e)
+from_node (x ∷ ids) (suc i) n e = from_node ids i n e
+
+pub length_nodes : (ids : List TypeId) → length (nodes_of ids) ≡ length ids
+length_nodes [] = refl
+length_nodes (x ∷ ids) = let r = length_nodes ids in omega arith
+
+pub distinct_nodes : (ids : List TypeId) → interned.AreDistinctBy equals.eq ids → AreDistinct (nodes_of ids)
+distinct_nodes ids distinct i j n e h =
+    let a = from_node ids i n e in
+    let b = from_node ids j n h in
+    distinct i j a.0 b.0 a.1 b.1 ((same_type_ids a.0 b.0).1 (a.2 ∙ sym b.2))
+
+some_inside : {A B : Type 0} (f : A → B) (o : Option A) (b : B) → option_map f o ≡ Some b → (a : A) × (o ≡ Some a)
+some_inside f None b e = absurd (none-some b e)
+some_inside f (Some a) b e = (a, refl)
+
+pub all_described :
+    (c : Catalogue) (old new : List TypeId) (roots : List Term) (from : ℕ) → from ≡ length old → IsExtension (system_of c) (nodes_of old) roots (nodes_of new)
+    → (i : ℕ) (id : TypeId) → from ≤ i → slice_get new i ≡ Some id → (d : MetaDescription) × (described c (term_of id) ≡ Some d)
+all_described c old new roots from f x i id h e =
+    let l = length_nodes old in
+    let d = x.1.nodes i (term_of id) (omega arith) (at_node new i id e) in
+    some_inside entry_of (described c (term_of id)) d.0 d.1
+
+pub described_more :
+    (c : Catalogue) (ids : List TypeId) (from : ℕ) (types : List portable.Description) (id : TypeId) (d : MetaDescription) (ty : portable.Description)
+    → slice_get ids (length types) ≡ Some id → described c (term_of id) ≡ Some d → ty ≡ with_ids (λ ty. index_in equals.eq ids ty.identity) (λ text. text.now) d
+    → AreDescribed c ids from types → AreDescribed c ids from (types ++ ty ∷ [])
+described_more c ids from types id d ty e s t f i other h b g =
+    let long = length_push types ty in
+    elim (cases_lt i (length types)) [
+      | inl low ↦ let r = f i other h low g in (r.0, r.1, at_left types (ty ∷ []) i _ r.2)
+      | inr high ↦
+          let here : i ≡ length types = omega arith in
+          let same : id ≡ other = same_Some id other (sym e ∙ (ap (λ k. slice_get ids k) (sym here) ∙ g)) in
+          (d, ap (λ z. described c (term_of z)) (sym same) ∙ s, ap (λ k. slice_get (types ++ ty ∷ []) k) here ∙ (at_seam types [] ty ∙ ap Some t))
+    ]
+
+-- the ids of known types are their places
+pub places : (ids : List TypeId) (rs : List MetaType) → ((n : Term) → Contains (roots_of rs) n → Contains (nodes_of ids) n)
+    → ArePlaces (nodes_of ids) (roots_of rs) (map (λ ty. index_in equals.eq ids ty.identity) rs)
+places ids [] f = tt
+places ids (r ∷ rs) f = (
+  (known_by_term ids r.identity (index_in equals.eq ids r.identity)).0
+      (index_is ids r.identity ((known ids r.identity).1 (f (type_term r) (contains_head (type_term r) (roots_of rs))))),
+  places ids rs (λ n k. f n (contains_tail (type_term r) (roots_of rs) n k)),
+)
+
+pub is_registration :
+    (c : Catalogue) (old new : List TypeId) (roots : List Term) (before after : List portable.Description)
+    → length before ≡ length old → length after ≡ length new
+    → (more : List TypeId) × (new ≡ old ++ more) → (more : List portable.Description) × (after ≡ before ++ more)
+    → IsExtension (system_of c) (nodes_of old) roots (nodes_of new) → AreDescribed c new (length before) after
+    → IsRegistration (system_of c) (registered old before) roots (registered new after)
+is_registration c old new roots before after long all kept kept_types x described =
+    record {
+      nodes = x;
+      identities = kept;
+      types = kept_types;
+      entries = λ i n h e.
+          let at = from_node new i n e in
+          let l = length_nodes old in
+          let within : i < length new = slice_get_within new i at.0 at.1 in
+          let d = described i at.0 (omega arith) (omega arith) at.1 in
+          let ty = with_ids (λ ty. index_in equals.eq new ty.identity) (λ text. text.now) d.0 in
+          let node : system_of c n ≡ Some (entry_of d.0) = ap (λ t. system_of c t) (sym at.2) ∙ ap (option_map entry_of) d.1 in
+          let walked = x.1.nodes i n (omega arith) e in
+          let same : walked.0 ≡ entry_of d.0 = same_Some walked.0 (entry_of d.0) (sym walked.1 ∙ node) in
+          let members : (m : Term) → Contains (roots_of (references d.0)) m → Contains (nodes_of new) m =
+          λ m k.
+          let p = walk_members (nodes_of new) x.0 walked.0.refs (i + 1) (x.0 i) walked.2 m (subst (λ (z : Entry Shape Term). Contains z.refs m) (sym same) k) in
+          contains_at (nodes_of new) m p.0 p.1 in (
+            entry_of d.0,
+            ty,
+            node,
+            d.2,
+            shape_stays (λ ty. index_in equals.eq new ty.identity) (λ text. text.now) d.0,
+            subst (λ ps. ArePlaces (nodes_of new) (roots_of (references d.0)) ps)
+                (sym (ids_replaced (λ ty. index_in equals.eq new ty.identity) (λ (text : Bor (List ℕ)). text.now) d.0)) (places new (references d.0) members),
+          );
+    }
+
+-- a registration leaves a closed registry
+pub stays_closed : (S : System Shape Term) (old new : Registered) (roots : List Term) → IsClosed old → length new.types ≡ length new.identities → IsRegistration S old roots new → IsClosed new
+stays_closed S old new roots closed long x = (
+  long,
+  λ i ty e p k.
+      let grown : length new.identities ≡ length old.identities + length x.identities.0 = ap (λ (xs : List TypeId). length xs) x.identities.1 ∙ length-append old.identities x.identities.0 in
+      elim (cases_lt i (length old.types)) [
+        | inl low ↦
+            let was : slice_get old.types i ≡ Some ty = from_left old.types x.types.0 i ty low (subst (λ ts. slice_get ts i ≡ Some ty) x.types.1 e) in
+            let b = closed.1 i ty was p k in omega arith
+        | inr high ↦
+            let within : i < length new.types = slice_get_within new.types i ty e in
+            let eq_long = closed.0 in
+            let l = length_nodes new.identities in
+            let n = element (nodes_of new.identities) i (omega arith) in
+            let at = x.entries i n.0 (omega arith) n.1 in
+            let same : at.1 ≡ ty = same_Some at.1 ty (sym at.3 ∙ e) in
+            let b = places_below (nodes_of new.identities) at.0.refs (ids_in at.1) at.5 p (subst (λ t. Contains (ids_in t) p) (sym same) k) in
+            omega arith
+      ],
+)
+  where
+    element : (xs : List Term) (i : ℕ) → i < length xs → (n : Term) × (slice_get xs i ≡ Some n)
+    element [] i h = absurd (omega arith)
+    element (x ∷ xs) zero h = (x, refl)
+    element (x ∷ xs) (suc i) h = element xs i (omega arith)
+
+-- what is cut back is what was there
+pub cut_back : {A : Type 0} (old new cut : List A) (k : ℕ) → (more : List A) × (new ≡ old ++ more) → k ≡ length old → cut ≡ take k new → cut ≡ old
+cut_back old new cut k m l e = e ∙ (λ i. take (l i) (m.1 i)) ∙ take_at old m.0
+  where
+    take_at : {A : Type 0} (xs ys : List A) → take (length xs) (xs ++ ys) ≡ xs
+    take_at [] ys = refl
+    take_at (x ∷ xs) ys = ap (λ zs. x ∷ zs) (take_at xs ys)
+
+pub cut_closed :
+    (ids new_ids cut_ids : List TypeId) (types new_types cut_types : List portable.Description) (k : ℕ) → k ≡ length types → IsClosed (registered ids types)
+    → (more : List TypeId) × (new_ids ≡ ids ++ more) → (more : List portable.Description) × (new_types ≡ types ++ more)
+    → cut_ids ≡ take k new_ids → cut_types ≡ take k new_types → IsClosed (registered cut_ids cut_types)
+cut_closed ids new_ids cut_ids types new_types cut_types k l closed m n e f =
+    subst (λ r. IsClosed r)
+    (λ i. registered (sym (cut_back ids new_ids cut_ids k m (l ∙ closed.0) e) i) (sym (cut_back types new_types cut_types k n l f) i)) closed
+
+-- a known node changes nothing
+pub registers_known :
+    (S : System Shape Term) (r : Registered) (id : TypeId) → interned.AreDistinctBy equals.eq r.identities → Contains (nodes_of r.identities) (term_of id)
+    → IsRegistration S r (term_of id ∷ []) r
+registers_known S r id distinct k =
+    record {
+      nodes = extends_by_known S (nodes_of r.identities) (term_of id) (distinct_nodes r.identities distinct) k;
+      identities = ([], sym (append-nil r.identities));
+      types = ([], sym (append-nil r.types));
+      entries = λ i n h e. absurd (let w = slice_get_within (nodes_of r.identities) i n e in let l = length_nodes r.identities in omega arith);
+    }
+
+-- what no look-up finds is not known
+pub unknown : (r s : Registered) (id : TypeId) → r ≡ s → ¬ (interned.IsKnown equals.eq r.identities id) → ¬ (Contains (nodes_of s.identities) (term_of id))
+unknown r s id e u k = u ((known r.identities id).1 (subst (λ z. Contains (nodes_of z.identities) (term_of id)) (sym e) k))
+
+-- a registered type has a place
+pub root_index :
+    (S : System Shape Term) (old new : Registered) (id : TypeId) → IsRegistration S old (term_of id ∷ []) new
+    → slice_get (nodes_of new.identities) (index_in equals.eq new.identities id) ≡ Some (term_of id)
+root_index S old new id x =
+    let p = walk_members (nodes_of new.identities) x.nodes.0 (term_of id ∷ []) (length (nodes_of old.identities)) (length (nodes_of new.identities)) x.nodes.1.from_roots (term_of id) (contains_head (term_of id) []) in
+    (known_by_term new.identities id (index_in equals.eq new.identities id)).0
+    (index_is new.identities id ((known new.identities id).1 (contains_at (nodes_of new.identities) (term_of id) p.0 p.1)))
+
+-- nothing is registered
+pub registers_nothing : (S : System Shape Term) (r : Registered) → interned.AreDistinctBy equals.eq r.identities → IsRegistration S r [] r
+registers_nothing S r distinct =
+    record {
+      nodes = extends_by_none S (nodes_of r.identities) (distinct_nodes r.identities distinct);
+      identities = ([], sym (append-nil r.identities));
+      types = ([], sym (append-nil r.types));
+      entries = λ i n h e. absurd (let w = slice_get_within (nodes_of r.identities) i n e in let l = length_nodes r.identities in omega arith);
+    }
+
+-- the same, where registries are targets as values
+pub cut_kept :
+    (old new : Registered) (ids new_ids cut_ids : List TypeId) (types new_types cut_types : List portable.Description) (k : ℕ)
+    → registered ids types ≡ old → registered new_ids new_types ≡ new → Keeps old new → k ≡ length types → IsClosed (registered ids types)
+    → cut_ids ≡ take k new_ids → cut_types ≡ take k new_types → IsClosed (registered cut_ids cut_types)
+cut_kept old new ids new_ids cut_ids types new_types cut_types k a b kept l closed e f =
+    let same : Keeps (registered ids types) (registered new_ids new_types) = subst (λ r. Keeps r (registered new_ids new_types)) (sym a) (subst (λ s. Keeps old s) (sym b) kept) in
+    cut_closed ids new_ids cut_ids types new_types cut_types k l closed same.0 same.1 e f
+
+-- the ids of what has been registered are its places
+pub root_indices :
+    (S : System Shape Term) (old new : Registered) (rs : List MetaType) → IsRegistration S old (roots_of rs) new
+    → ArePlaces (nodes_of new.identities) (roots_of rs) (map (λ ty. index_in equals.eq new.identities ty.identity) rs)
+root_indices S old new rs x =
+    places new.identities rs (λ n k.
+    let p = walk_members (nodes_of new.identities) x.nodes.0 (roots_of rs) (length (nodes_of old.identities)) (length (nodes_of new.identities)) x.nodes.1.from_roots n k in
+    contains_at (nodes_of new.identities) n p.0 p.1)
+
+pub keeps : (S : System Shape Term) (old new : Registered) (roots : List Term) → IsRegistration S old roots new → Keeps old new
+keeps S old new roots x = (x.identities, x.types)
+
+pub keeps_itself : (old new : Registered) → new ≡ old → Keeps old new
+keeps_itself old new e =
+    subst (λ r. Keeps old r) (sym e) (([], sym (append-nil old.identities)), ([], sym (append-nil old.types)))
+
+-- what is cut back keeps what was there
+pub cut_keeps :
+    (old new : Registered) (ids new_ids cut_ids : List TypeId) (types new_types cut_types : List portable.Description) (k : ℕ)
+    → registered ids types ≡ old → registered new_ids new_types ≡ new → Keeps old new → k ≡ length types → IsClosed (registered ids types)
+    → cut_ids ≡ take k new_ids → cut_types ≡ take k new_types → Keeps old (registered cut_ids cut_types)
+cut_keeps old new ids new_ids cut_ids types new_types cut_types k a b kept l closed e f =
+    let same : Keeps (registered ids types) (registered new_ids new_types) = subst (λ r. Keeps r (registered new_ids new_types)) (sym a) (subst (λ s. Keeps old s) (sym b) kept) in
+    keeps_itself old (registered cut_ids cut_types)
+    ((λ i. registered (cut_back ids new_ids cut_ids k same.0 (l ∙ closed.0) e i) (cut_back types new_types cut_types k same.1 l f i)) ∙ a)

@@ -1,0 +1,348 @@
+//! Registries: types of the program become descriptions with ids.
+ghost use Rattle.std.specs.Iterator.{IsFinite};
+ghost use Rattle.std.specs.List.{AllZip, enumerate_from, flat_map};
+ghost use Rattle.std.specs.Prelude.{◌≡◌, ◌≤◌, ◌++◌, ◌⊎◌, ◌∷◌, [], ℕ, List, Some, OnOk, OnErr, IfErr, IfOk, IsOk, Contains, length, map, slice_get};
+ghost use Rattle.scale_info_identities.specs.Interned.{AreDistinctBy};
+ghost use Rattle.scale_info_identities.specs.TypeIds.{term_of};
+ghost use Rattle.scale_info_identities.specs.declared.interner.UntrackedSymbol.{UntrackedSymbol};
+ghost use Rattle.scale_info_identities.specs.declared.type_id.TypeId.{TypeId};
+ghost use Rattle.scale_info_numberings.specs.Tables.{ArePlaces};
+ghost use Rattle.scale_info_types.specs.Iterators.{GivesAll};
+ghost use Rattle.scale_info_types.specs.Portable as portable;
+ghost use Rattle.scale_info_types.specs.declared.meta_type.MetaType.{MetaType};
+ghost use Rattle.scale_info_registry.specs.CatalogueSystems.{system_of};
+ghost use Rattle.scale_info_types.specs.Catalogues.{described};
+ghost use Rattle.scale_info_types.specs.MetaDescriptions.{MetaDescription, type_term};
+ghost use Rattle.scale_info_registry.specs.Registrations.{nodes_of, roots_of, stacked, IsCause, Registered, registered, IsClosed, IsRegistration, AreDescribed, HasIds, Keeps, IsConverted};
+ghost use Rattle.scale_info_registry.specs.declared.registry.discovery.RegisterError.TheVariants.{Memory};
+
+use conversion::{HasTypes, Identities, alone};
+use discovery::{discover, stack_up};
+use scale_info_identities::interner::{Interner, UntrackedSymbol};
+use scale_info_identities::type_id::TypeId;
+use scale_info_references::conversion::{Numbers, convert};
+use scale_info_types::form::PortableForm;
+use scale_info_types::meta_type::{Catalogue, MetaType};
+use scale_info_types::ty::Type;
+use std::alloc::{AllocError, Global};
+use std::marker::Model;
+
+mod conversion;
+mod discovery;
+mod into_portable;
+mod registry_types;
+
+pub use discovery::RegisterError;
+pub use into_portable::IntoPortable;
+pub use registry_types::RegistryTypes;
+
+/// A table of descriptions in the making: each type of the program that was registered has an id
+/// and a portable description.
+///
+/// The ids are 0, 1, 2 and so on in the order of registration. A type gets its id before the types
+/// that it refers to, and each of those, with all that it refers to, before the next. Contracts see
+/// a registry as its identities and its descriptions, both by id. A look-up takes a number of
+/// comparisons of identities logarithmic in the number of types.
+///
+/// After each call the registry is closed: each identity has a description, and each id in a
+/// description is that of an identity.
+#[derive(Drop)]
+pub struct Registry {
+    identities: Interner<TypeId>,
+    types: Vec<Type<PortableForm>>,
+}
+
+impl Model for Registry {
+    ghost use Rattle.scale_info_identities.specs.contracts.type_id.TypeId as e;
+    ghost use Rattle.scale_info_registry.specs.Registrations.{Registered, IsClosed, registered};
+    ghost use Rattle.std.specs.Coded.{codes};
+
+    ghost Value = { Registered };
+
+    ghost coded = { Prim.hlevel (codes, e.the_row.coded) };
+
+    ghost view = { λ s. registered s.identities s.types.items };
+
+    ghost invariant = { λ s. IsClosed (registered s.identities s.types.items) };
+}
+
+impl Registry {
+    /// The registry with no type. Does not allocate.
+    pub fn new(alloc: Global) -> Registry
+        ensures { result ≡ registered [] [] }
+    {
+        Registry {
+            identities: Interner::new(alloc),
+            types: Vec::new(alloc),
+        }
+    }
+
+    /// The id of a type, which is registered if it is new, with all that it refers to.
+    ///
+    /// A known type succeeds, whatever the catalogue has, does not allocate, and changes nothing.
+    ///
+    /// Errors: `Undescribed`, if a type that is new is reached and has no description in the
+    /// catalogue; `Full`, if there would be more than 4294967295 identities; `Memory`, if an
+    /// allocation failed. On an Err the registry is as before.
+    pub fn register_type(
+        &mut self,
+        ty: &MetaType,
+        catalogue: &Catalogue,
+    ) -> Result<UntrackedSymbol<TypeId>, RegisterError>
+        ensures known { Contains (nodes_of self.old.identities) (type_term ty.now)
+            → IsOk result × (self.new ≡ self.old) }
+        ensures ok { OnOk result
+            (IsRegistration (system_of catalogue.now) self.old (type_term ty.now ∷ []) self.new) }
+        ensures id { IfOk result (λ symbol.
+            slice_get (nodes_of self.new.identities) symbol.id ≡ Some (type_term ty.now)) }
+        ensures kept { Keeps self.old self.new }
+        ensures err { OnErr result (self.new ≡ self.old) }
+        ensures cause { IfErr result (IsCause (system_of catalogue.now)
+            (nodes_of self.old.identities) (type_term ty.now ∷ [])) }
+    {
+        let _distinct = self.identities.elements();
+        if let Some(symbol) = self.identities.get(ty.type_id()) {
+            return Ok(symbol.into_untracked());
+        }
+        let alloc = *self.types.allocator();
+        self.register(alloc, alone(alloc, ty)?, catalogue)?;
+        let ids = Identities {
+            interner: &self.identities,
+        };
+        Ok(ids.id(ty))
+    }
+
+    /// The ids of types, which are registered in order.
+    ///
+    /// Errors: as for [`Registry::register_type`], also `Memory`, if an allocation for the list
+    /// failed. On an Err the registry is as before the whole call.
+    pub fn register_types<I: IntoIterator<Item = MetaType>>(
+        &mut self,
+        types: I,
+        catalogue: &Catalogue,
+    ) -> Result<Vec<UntrackedSymbol<TypeId>>, RegisterError>
+    where
+        I::IntoIter: Drop,
+        requires can { (it : I.IntoIter) → I.into_iter_gives types it → I.IntoIter.can_next it }
+        requires ends { (it : I.IntoIter)
+            → I.into_iter_gives types it → IsFinite (I.IntoIter.remaining it) }
+        ensures ok { IfOk result (λ symbols. (given : List MetaType)
+            × GivesAll I.into_iter_gives I.IntoIter.next_gives types given
+            × IsRegistration (system_of catalogue.now) self.old (roots_of given) self.new
+            × ArePlaces (nodes_of self.new.identities) (roots_of given)
+            (map (λ (s : UntrackedSymbol TypeId). s.id) symbols.items)) }
+        ensures kept { Keeps self.old self.new }
+        ensures err { OnErr result (self.new ≡ self.old) }
+        ensures cause { IfErr result (λ e. (e ≡ Memory) ⊎ ((given : List MetaType)
+            × GivesAll I.into_iter_gives I.IntoIter.next_gives types given
+            × IsCause (system_of catalogue.now) (nodes_of self.old.identities)
+            (roots_of given) e)) }
+    {
+        self.map_into_portable(types, catalogue)
+    }
+
+    /// Registers the types that the values hold, in order, and returns the portable forms.
+    ///
+    /// Errors: as for [`Registry::register_type`], also `Memory`, if an allocation for the list or
+    /// for a portable form failed. On an Err the registry is as before the whole call.
+    pub fn map_into_portable<I: IntoIterator>(
+        &mut self,
+        items: I,
+        catalogue: &Catalogue,
+    ) -> Result<Vec<<I::Item as IntoPortable>::Output>, RegisterError>
+    where
+        I::Item: IntoPortable + Drop,
+        I::IntoIter: Drop,
+        <I::Item as IntoPortable>::Output: Drop,
+        requires can { (it : I.IntoIter) → I.into_iter_gives items it → I.IntoIter.can_next it }
+        requires ends { (it : I.IntoIter)
+            → I.into_iter_gives items it → IsFinite (I.IntoIter.remaining it) }
+        ensures ok { IfOk result (λ outputs. (given : List I.Item)
+            × GivesAll I.into_iter_gives I.IntoIter.next_gives items given
+            × IsRegistration (system_of catalogue.now) self.old
+            (flat_map I.Item.roots given) self.new
+            × AllZip (λ x o. IsConverted I.Item.replaced (I.Item.roots x) self.new x o)
+            given outputs.items) }
+        ensures kept { Keeps self.old self.new }
+        ensures err { OnErr result (self.new ≡ self.old) }
+        ensures cause { IfErr result (λ e. (e ≡ Memory) ⊎ ((given : List I.Item)
+            × GivesAll I.into_iter_gives I.IntoIter.next_gives items given
+            × IsCause (system_of catalogue.now) (nodes_of self.old.identities)
+            (flat_map I.Item.roots given) e)) }
+    {
+        let alloc = *self.types.allocator();
+        let known = self.types.len();
+        let given = Vec::from_iter(alloc, items)?;
+        let done = self.convert_all(alloc, given, catalogue);
+        if done.is_err() {
+            self.identities.truncate(known);
+            self.types.truncate(known);
+        }
+        done
+    }
+
+    /// The descriptions, each with its id, in ascending order of id. Does not allocate.
+    pub fn types(&self) -> RegistryTypes<'_>
+        ensures list { result ≡ enumerate_from 0 self.now.types }
+        ensures closed { IsClosed self.now }
+    {
+        let _bounded = self.identities.elements();
+        RegistryTypes {
+            types: &self.types,
+            id: 0,
+        }
+    }
+
+    /// The allocator.
+    pub(crate) fn allocator(&self) -> Global
+        ensures distinct { AreDistinctBy ⟦<TypeId as PartialEq>⟧.eq self.now.identities }
+    {
+        let _distinct = self.identities.elements();
+        *self.types.allocator()
+    }
+
+    /// Registers the types that a value holds, and puts their ids in place of them.
+    pub(crate) fn convert_value<T: HasTypes>(
+        &mut self,
+        value: &T,
+        catalogue: &Catalogue,
+    ) -> Result<T::Output, RegisterError>
+        ensures ok { OnOk result (IsRegistration (system_of catalogue.now) self.old
+            (roots_of (T.types value.now)) self.new) }
+        ensures output { IfOk result (IsConverted (HasIds T.types T.with_ids)
+            (roots_of (T.types value.now)) self.new value.now) }
+        ensures err { OnErr result (self.new ≡ self.old) }
+        ensures kept { Keeps self.old self.new }
+        ensures cause { IfErr result (IsCause (system_of catalogue.now)
+            (nodes_of self.old.identities) (roots_of (T.types value.now))) }
+    {
+        let alloc = *self.types.allocator();
+        let known = self.types.len();
+        let pending = stack_up(value.types(alloc)?, Vec::new(alloc))?;
+        self.register(alloc, pending, catalogue)?;
+        let ids = Identities {
+            interner: &self.identities,
+        };
+        match value.with_ids(alloc, &ids) {
+            Ok(output) => Ok(output),
+            Err(_) => {
+                self.identities.truncate(known);
+                self.types.truncate(known);
+                Err(RegisterError::Memory)
+            }
+        }
+    }
+
+    /// The portable forms of the values. On an Err the registry may have more than it had.
+    fn convert_all<X: IntoPortable + Drop>(
+        &mut self,
+        alloc: Global,
+        given: Vec<X>,
+        catalogue: &Catalogue,
+    ) -> Result<Vec<X::Output>, RegisterError>
+    where
+        X::Output: Drop,
+        ensures kept { Keeps self.old self.new }
+        ensures ok { OnOk result (IsRegistration (system_of catalogue.now) self.old
+            (flat_map X.roots given.items) self.new) }
+        ensures outputs { IfOk result (λ outputs.
+            AllZip (λ x o. IsConverted X.replaced (X.roots x) self.new x o)
+            given.items outputs.items) }
+        ensures cause { IfErr result (IsCause (system_of catalogue.now)
+            (nodes_of self.old.identities) (flat_map X.roots given.items)) }
+    {
+        let _distinct = self.identities.elements();
+        let mut outputs = Vec::new(alloc);
+        for item in given {
+            outputs.push(item.into_portable(self, catalogue)?)?;
+        }
+        Ok(outputs)
+    }
+
+    /// Registers the types on the stack, the last first. On an Err the registry is as before.
+    fn register<'a>(
+        &mut self,
+        alloc: Global,
+        pending: Vec<&'a MetaType>,
+        catalogue: &'a Catalogue,
+    ) -> Result<(), RegisterError>
+        ensures ok { OnOk result (IsRegistration (system_of catalogue.now) self.old
+            (stacked pending.entry.items) self.new) }
+        ensures err { OnErr result (self.new ≡ self.old) }
+        ensures cause { IfErr result (IsCause (system_of catalogue.now)
+            (nodes_of self.old.identities) (stacked pending.entry.items)) }
+    {
+        let known = self.types.len();
+        let _distinct = self.identities.elements();
+        let done = register_in(
+            alloc,
+            &mut self.identities,
+            &mut self.types,
+            pending,
+            catalogue,
+        );
+        if done.is_err() {
+            self.identities.truncate(known);
+            self.types.truncate(known);
+        }
+        done
+    }
+}
+
+/// Numbers what is new, and then describes it. On an Err the lists may have more than they had.
+fn register_in<'a>(
+    alloc: Global,
+    identities: &mut Interner<TypeId>,
+    types: &mut Vec<Type<PortableForm>>,
+    pending: Vec<&'a MetaType>,
+    catalogue: &'a Catalogue,
+) -> Result<(), RegisterError>
+    requires { length types.old.items ≡ length identities.old }
+    ensures kept { (more : List TypeId) × (identities.new ≡ identities.old ++ more) }
+    ensures kept_types { (more : List portable.Description)
+        × (types.new.items ≡ types.old.items ++ more) }
+    ensures ok { OnOk result (IsRegistration (system_of catalogue.now)
+        (registered identities.old types.old.items) (stacked pending.entry.items)
+        (registered identities.new types.new.items)) }
+    ensures long { OnOk result (length types.new.items ≡ length identities.new) }
+    ensures cause { IfErr result (IsCause (system_of catalogue.now)
+        (nodes_of identities.old) (stacked pending.entry.items)) }
+{
+    let _distinct = identities.elements();
+    discover(alloc, identities, pending, catalogue)?;
+    describe(alloc, identities, types, catalogue)?;
+    Ok(())
+}
+
+/// Describes the identities that have no description yet, in order.
+fn describe(
+    alloc: Global,
+    identities: &Interner<TypeId>,
+    types: &mut Vec<Type<PortableForm>>,
+    catalogue: &Catalogue,
+) -> Result<(), AllocError>
+    requires fewer { length types.old.items ≤ length identities.now }
+    requires all_described { (i : ℕ) (id : TypeId) → length types.old.items ≤ i
+        → slice_get identities.now i ≡ Some id
+        → (d : MetaDescription) × (described catalogue.now (term_of id) ≡ Some d) }
+    ensures kept { (more : List portable.Description)
+        × (types.new.items ≡ types.old.items ++ more) }
+    ensures long { OnOk result (length types.new.items ≡ length identities.now) }
+    ensures entries { OnOk result (AreDescribed catalogue.now identities.now
+        (length types.old.items) types.new.items) }
+{
+    let numbers = Identities {
+        interner: identities,
+    };
+    let ids = identities.elements();
+    while types.len() < ids.len() {
+        let Some(described) = catalogue.get(&ids[types.len()]) else {
+            unreachable!()
+        };
+        let ty = convert(alloc, &numbers, described)?;
+        if types.push(ty).is_err() {
+            return Err(AllocError);
+        }
+    }
+    Ok(())
+}

@@ -1,0 +1,371 @@
+//! Values that leave the program with ids in place of types.
+ghost use Rattle.std.specs.Prelude.{◌≡◌, ℕ, [], ◌∷◌, List, OnOk, OnErr, IfErr, IfOk};
+ghost use Rattle.scale_info_identities.specs.TypeIds.{Term};
+ghost use Rattle.scale_info_types.specs.References.{definition_references, references};
+ghost use Rattle.scale_info_registry.specs.Parts.{
+  array_types,
+  array_with_ids,
+  bit_sequence_types,
+  bit_sequence_with_ids,
+  compact_types,
+  compact_with_ids,
+  composite_types,
+  composite_with_ids,
+  definition_with_ids,
+  enum_types,
+  enum_with_ids,
+  field_types,
+  field_with_ids,
+  map_types,
+  map_with_ids,
+  parameter_types,
+  parameter_with_ids,
+  path_types,
+  path_with_ids,
+  sequence_types,
+  sequence_with_ids,
+  tuple_types,
+  tuple_with_ids,
+  type_with_ids,
+  variant_types,
+  variant_with_ids,
+};
+ghost use Rattle.scale_info_registry.specs.CatalogueSystems.{system_of};
+ghost use Rattle.scale_info_types.specs.MetaDescriptions.{type_term};
+ghost use Rattle.scale_info_registry.specs.Registrations.{nodes_of, IsCause, IsRegistration, Keeps, IsConverted, HasIds, roots_of};
+
+use super::Registry;
+use super::conversion::TypePair;
+use super::discovery::RegisterError;
+use scale_info_collections::text::Text;
+use scale_info_identities::interner::UntrackedSymbol;
+use scale_info_identities::type_id::TypeId;
+use scale_info_types::form::PortableForm;
+use scale_info_types::meta_type::{Catalogue, MetaType};
+use scale_info_types::ty::path::Path;
+use scale_info_types::ty::variant::Variant;
+use scale_info_types::ty::{
+    Field, Type, TypeDef, TypeDefArray, TypeDefBitSequence, TypeDefCompact, TypeDefComposite,
+    TypeDefMap, TypeDefSequence, TypeDefTuple, TypeDefVariant, TypeParameter,
+};
+
+/// A value that holds types, and has a portable form with ids in their place.
+pub trait IntoPortable {
+    /// The portable form.
+    type Output;
+
+    /// The terms of the types that the value holds, in the order in which they are registered.
+    ghost roots: { Self → List Term };
+
+    /// Whether the output is the value with these ids in place of its types. There is one id for
+    /// each root, in order.
+    ghost replaced: { Self → List ℕ → Self.Output → Type 0 };
+
+    /// Registers the types that the value holds, and puts their ids in place of them.
+    ///
+    /// Errors: `Undescribed`, if a type that is new is reached and has no description in the
+    /// catalogue; `Full`, if there would be more than 4294967295 identities; `Memory`, if an
+    /// allocation failed. On an Err the registry has what it had, and perhaps more.
+    fn into_portable(
+        self,
+        registry: &mut Registry,
+        catalogue: &Catalogue,
+    ) -> Result<Self::Output, RegisterError>
+        ensures ok { OnOk result
+            (IsRegistration (system_of catalogue.now) registry.old (roots self) registry.new) }
+        ensures output { IfOk result
+            (λ output. IsConverted replaced (roots self) registry.new self output) }
+        ensures err { OnErr result (Keeps registry.old registry.new) }
+        ensures cause { IfErr result (IsCause (system_of catalogue.now)
+            (nodes_of registry.old.identities) (roots self)) };
+}
+
+/// A text has no types. Its portable form is a copy of it.
+impl IntoPortable for &'static str {
+    type Output = Text;
+
+    ghost roots = { λ _. [] };
+
+    ghost replaced = { λ text ids output. (ids ≡ []) × (output ≡ text.now) };
+
+    fn into_portable(
+        self,
+        registry: &mut Registry,
+        _catalogue: &Catalogue,
+    ) -> Result<Text, RegisterError> {
+        Ok(Text::from(String::from_str(registry.allocator(), self)?))
+    }
+}
+
+/// The portable form of a type is its id. The crate `scale-info` has no such implementation.
+impl IntoPortable for MetaType {
+    type Output = UntrackedSymbol<TypeId>;
+
+    ghost roots = { λ ty. type_term ty ∷ [] };
+
+    ghost replaced = { λ _ ids symbol. ids ≡ symbol.id ∷ [] };
+
+    fn into_portable(
+        self,
+        registry: &mut Registry,
+        catalogue: &Catalogue,
+    ) -> Result<UntrackedSymbol<TypeId>, RegisterError> {
+        registry.register_type(&self, catalogue)
+    }
+}
+
+impl IntoPortable for Type {
+    type Output = Type<PortableForm>;
+
+    ghost roots = { λ value. roots_of (references value) };
+
+    ghost replaced = { HasIds references type_with_ids };
+
+    fn into_portable(
+        self,
+        registry: &mut Registry,
+        catalogue: &Catalogue,
+    ) -> Result<Type<PortableForm>, RegisterError> {
+        registry.convert_value(&self, catalogue)
+    }
+}
+
+impl IntoPortable for Path {
+    type Output = Path<PortableForm>;
+
+    ghost roots = { λ value. roots_of (path_types value) };
+
+    ghost replaced = { HasIds path_types path_with_ids };
+
+    fn into_portable(
+        self,
+        registry: &mut Registry,
+        catalogue: &Catalogue,
+    ) -> Result<Path<PortableForm>, RegisterError> {
+        registry.convert_value(&self, catalogue)
+    }
+}
+
+impl IntoPortable for TypeParameter {
+    type Output = TypeParameter<PortableForm>;
+
+    ghost roots = { λ value. roots_of (parameter_types value) };
+
+    ghost replaced = { HasIds parameter_types parameter_with_ids };
+
+    fn into_portable(
+        self,
+        registry: &mut Registry,
+        catalogue: &Catalogue,
+    ) -> Result<TypeParameter<PortableForm>, RegisterError> {
+        registry.convert_value(&self, catalogue)
+    }
+}
+
+impl IntoPortable for TypeDef {
+    type Output = TypeDef<PortableForm>;
+
+    ghost roots = { λ value. roots_of (definition_references value) };
+
+    ghost replaced = { HasIds definition_references definition_with_ids };
+
+    fn into_portable(
+        self,
+        registry: &mut Registry,
+        catalogue: &Catalogue,
+    ) -> Result<TypeDef<PortableForm>, RegisterError> {
+        registry.convert_value(&self, catalogue)
+    }
+}
+
+impl IntoPortable for Field {
+    type Output = Field<PortableForm>;
+
+    ghost roots = { λ value. roots_of (field_types value) };
+
+    ghost replaced = { HasIds field_types field_with_ids };
+
+    fn into_portable(
+        self,
+        registry: &mut Registry,
+        catalogue: &Catalogue,
+    ) -> Result<Field<PortableForm>, RegisterError> {
+        registry.convert_value(&self, catalogue)
+    }
+}
+
+impl IntoPortable for Variant {
+    type Output = Variant<PortableForm>;
+
+    ghost roots = { λ value. roots_of (variant_types value) };
+
+    ghost replaced = { HasIds variant_types variant_with_ids };
+
+    fn into_portable(
+        self,
+        registry: &mut Registry,
+        catalogue: &Catalogue,
+    ) -> Result<Variant<PortableForm>, RegisterError> {
+        registry.convert_value(&self, catalogue)
+    }
+}
+
+impl IntoPortable for TypeDefComposite {
+    type Output = TypeDefComposite<PortableForm>;
+
+    ghost roots = { λ value. roots_of (composite_types value) };
+
+    ghost replaced = { HasIds composite_types composite_with_ids };
+
+    fn into_portable(
+        self,
+        registry: &mut Registry,
+        catalogue: &Catalogue,
+    ) -> Result<TypeDefComposite<PortableForm>, RegisterError> {
+        registry.convert_value(&self, catalogue)
+    }
+}
+
+impl IntoPortable for TypeDefVariant {
+    type Output = TypeDefVariant<PortableForm>;
+
+    ghost roots = { λ value. roots_of (enum_types value) };
+
+    ghost replaced = { HasIds enum_types enum_with_ids };
+
+    fn into_portable(
+        self,
+        registry: &mut Registry,
+        catalogue: &Catalogue,
+    ) -> Result<TypeDefVariant<PortableForm>, RegisterError> {
+        registry.convert_value(&self, catalogue)
+    }
+}
+
+impl IntoPortable for TypeDefSequence {
+    type Output = TypeDefSequence<PortableForm>;
+
+    ghost roots = { λ value. roots_of (sequence_types value) };
+
+    ghost replaced = { HasIds sequence_types sequence_with_ids };
+
+    fn into_portable(
+        self,
+        registry: &mut Registry,
+        catalogue: &Catalogue,
+    ) -> Result<TypeDefSequence<PortableForm>, RegisterError> {
+        let TypeDefSequence { type_param } = self;
+        let id = registry.register_type(&type_param, catalogue)?;
+        Ok(TypeDefSequence { type_param: id })
+    }
+}
+
+impl IntoPortable for TypeDefArray {
+    type Output = TypeDefArray<PortableForm>;
+
+    ghost roots = { λ value. roots_of (array_types value) };
+
+    ghost replaced = { HasIds array_types array_with_ids };
+
+    fn into_portable(
+        self,
+        registry: &mut Registry,
+        catalogue: &Catalogue,
+    ) -> Result<TypeDefArray<PortableForm>, RegisterError> {
+        let TypeDefArray { len, type_param } = self;
+        let id = registry.register_type(&type_param, catalogue)?;
+        Ok(TypeDefArray {
+            len,
+            type_param: id,
+        })
+    }
+}
+
+impl IntoPortable for TypeDefCompact {
+    type Output = TypeDefCompact<PortableForm>;
+
+    ghost roots = { λ value. roots_of (compact_types value) };
+
+    ghost replaced = { HasIds compact_types compact_with_ids };
+
+    fn into_portable(
+        self,
+        registry: &mut Registry,
+        catalogue: &Catalogue,
+    ) -> Result<TypeDefCompact<PortableForm>, RegisterError> {
+        let TypeDefCompact { type_param } = self;
+        let id = registry.register_type(&type_param, catalogue)?;
+        Ok(TypeDefCompact { type_param: id })
+    }
+}
+
+impl IntoPortable for TypeDefTuple {
+    type Output = TypeDefTuple<PortableForm>;
+
+    ghost roots = { λ value. roots_of (tuple_types value) };
+
+    ghost replaced = { HasIds tuple_types tuple_with_ids };
+
+    fn into_portable(
+        self,
+        registry: &mut Registry,
+        catalogue: &Catalogue,
+    ) -> Result<TypeDefTuple<PortableForm>, RegisterError> {
+        let TypeDefTuple { fields } = self;
+        let ids = registry.convert_value(&fields, catalogue)?;
+        Ok(TypeDefTuple { fields: ids })
+    }
+}
+
+impl IntoPortable for TypeDefBitSequence {
+    type Output = TypeDefBitSequence<PortableForm>;
+
+    ghost roots = { λ value. roots_of (bit_sequence_types value) };
+
+    ghost replaced = { HasIds bit_sequence_types bit_sequence_with_ids };
+
+    fn into_portable(
+        self,
+        registry: &mut Registry,
+        catalogue: &Catalogue,
+    ) -> Result<TypeDefBitSequence<PortableForm>, RegisterError> {
+        let TypeDefBitSequence {
+            bit_store_type,
+            bit_order_type,
+        } = self;
+        let pair = TypePair {
+            first: bit_store_type,
+            second: bit_order_type,
+        };
+        let ids = registry.convert_value(&pair, catalogue)?;
+        Ok(TypeDefBitSequence {
+            bit_store_type: ids.first,
+            bit_order_type: ids.second,
+        })
+    }
+}
+
+impl IntoPortable for TypeDefMap {
+    type Output = TypeDefMap<PortableForm>;
+
+    ghost roots = { λ value. roots_of (map_types value) };
+
+    ghost replaced = { HasIds map_types map_with_ids };
+
+    fn into_portable(
+        self,
+        registry: &mut Registry,
+        catalogue: &Catalogue,
+    ) -> Result<TypeDefMap<PortableForm>, RegisterError> {
+        let TypeDefMap { key, value } = self;
+        let pair = TypePair {
+            first: key,
+            second: value,
+        };
+        let ids = registry.convert_value(&pair, catalogue)?;
+        Ok(TypeDefMap {
+            key: ids.first,
+            value: ids.second,
+        })
+    }
+}
