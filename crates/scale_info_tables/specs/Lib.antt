@@ -1,5 +1,4 @@
 pub mod BuiltTables
-pub mod CatalogueSystems
 pub mod ClosedTables
 pub mod Entries
 pub mod TableEncoding
