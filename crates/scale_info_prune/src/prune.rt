@@ -56,8 +56,9 @@ impl From<AllocError> for PruneError {
 /// prune(alloc, &[4, 0, 0, 0, 5, 0, 0], &[0], &mut out)?  // {0: 0}, and out grew by these bytes
 /// ```
 ///
-/// Errors, in the order of the checks: `Decode(Malformed)`, where no prefix of the input is a table;
-/// `Trailing`, where bytes come after it; `NoSuchType`, for the first given id that is no index;
+/// Errors, in the order of the checks: `Decode(Malformed)`, where no prefix of the input is a
+/// table; `Trailing`, where bytes come after it; `NoSuchType`, for the first given id that is no
+/// index;
 /// `Retain(Dangling)`, where an id is reached that is no index; `Memory`, where an allocation
 /// failed. On an Err the output is as before.
 pub fn prune(

@@ -104,8 +104,8 @@ impl PortableRegistry {
         self.types.as_slice()
     }
 
-    /// Keeps the entries that the filter chooses and all that their references reach, and returns the
-    /// new id of each old one that is kept.
+    /// Keeps the entries that the filter chooses and all that their references reach, and returns
+    /// the new id of each old one that is kept.
     ///
     /// The filter is asked once for each id, from 0 up, before the walk begins; an id is the index
     /// of an entry, whatever its `id` field says. What is kept comes in depth-first order of
