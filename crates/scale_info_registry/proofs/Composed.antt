@@ -1,5 +1,6 @@
 -- One registration after another.
-use Rattle.std.proofs.Common.{◌≡◌, ℕ, zero, suc, List, [], ◌∷◌, ◌++◌, length, Some, slice_get, map, flat_map, refl, ap, sym, ◌∙◌, subst, arith, Contains, inl, inr, append_assoc, append-nil}
+use Rattle.std.proofs.Common.{◌≡◌, ℕ, zero, suc, List, [], ◌∷◌, ◌++◌, length, Some, slice_get, map, flat_map}
+use Rattle.std.proofs.Common.{refl, ap, sym, ◌∙◌, subst, arith, Contains, inl, inr, append_assoc, append-nil}
 use Rattle.std.proofs.lemmas.Bool.{cases_lt}
 use Rattle.std.proofs.lemmas.Grind.{flat_map-append}
 use Rattle.std.proofs.lemmas.List.Elements.{Contains-append_left, Contains-append_right}
@@ -24,11 +25,14 @@ use Rattle.scale_info_numberings.proofs.Places.{at_left, begins_at, begins_from}
 use Rattle.scale_info_numberings.proofs.PlacesOf.{places_in_more}
 use Rattle.scale_info_registry.specs.declared.registry.discovery.RegisterError.{RegisterError}
 use Rattle.scale_info_registry.specs.declared.registry.discovery.RegisterError.TheVariants.{Undescribed, Full, Memory}
-use Rattle.scale_info_registry.specs.Registrations.{nodes_of, ids_in, portable_entry, Registered, registered, IsRegistration, IsConverted, IsCause}
+use Rattle.scale_info_registry.specs.Registrations.{nodes_of, ids_in, portable_entry, Registered, registered}
+use Rattle.scale_info_registry.specs.Registrations.{IsRegistration, IsConverted, IsCause}
 use Rattle.scale_info_types.specs.MetaDescriptions.{type_term}
 use Rattle.scale_info_registry.proofs.Registered.{length_nodes}
 
-joined_more : {A : Type 0} (xs ys zs : List A) → (more : List A) × (ys ≡ xs ++ more) → (more : List A) × (zs ≡ ys ++ more) → (more : List A) × (zs ≡ xs ++ more)
+joined_more :
+    {A : Type 0} (xs ys zs : List A) → (more : List A) × (ys ≡ xs ++ more) → (more : List A) × (zs ≡ ys ++ more)
+    → (more : List A) × (zs ≡ xs ++ more)
 joined_more xs ys zs m n = (m.0 ++ n.0, n.1 ∙ ap (λ ws. ws ++ n.0) m.1 ∙ append_assoc xs m.0 n.0)
 
 pub registrations_compose :
@@ -61,13 +65,16 @@ pub converted_stays :
 converted_stays replaced S b c roots Q value output y k =
     (k.0, places_in_more (nodes_of b.identities) (nodes_of c.identities) (begins_at (nodes_of b.identities) (nodes_of c.identities) y.nodes.1.begins) roots k.0 k.1, k.2)
 
-zip_push : {A B : Type 0} (P : A → B → Type 0) (xs : List A) (ys : List B) (x : A) (y : B) → AllZip P xs ys → P x y → AllZip P (xs ++ x ∷ []) (ys ++ y ∷ [])
+zip_push :
+    {A B : Type 0} (P : A → B → Type 0) (xs : List A) (ys : List B) (x : A) (y : B) → AllZip P xs ys → P x y
+    → AllZip P (xs ++ x ∷ []) (ys ++ y ∷ [])
 zip_push P [] [] x y z p = (p, tt)
 zip_push P [] (b ∷ ys) x y z p = absurd z
 zip_push P (a ∷ xs) [] x y z p = absurd z
 zip_push P (a ∷ xs) (b ∷ ys) x y z p = (z.0, zip_push P xs ys x y z.1 p)
 
-pub flat_map_push : {X A : Type 0} (f : X → List A) (xs : List X) (x : X) → flat_map f (xs ++ x ∷ []) ≡ flat_map f xs ++ f x
+pub flat_map_push :
+    {X A : Type 0} (f : X → List A) (xs : List X) (x : X) → flat_map f (xs ++ x ∷ []) ≡ flat_map f xs ++ f x
 flat_map_push f xs x = flat_map-append f xs (x ∷ []) ∙ ap (λ ys. flat_map f xs ++ ys) (append-nil (f x))
 
 module _ {X O : Type 0} (roots : X → List Term) (replaced : X → List ℕ → O → Type 0) (S : System Shape Term) where
@@ -121,7 +128,9 @@ cause_before S a b done Q all e x f g = by e
     )
 
 -- what the iterator of a vector has given is a front of its items
-pub taken_front : {X A : Type 0} (s : IntoIter X A) (xs : List X) (t : IntoIter X A) → Yields into_iter_steps s xs t → into_iter_items s ≡ xs ++ into_iter_items t
+pub taken_front :
+    {X A : Type 0} (s : IntoIter X A) (xs : List X) (t : IntoIter X A) → Yields into_iter_steps s xs t
+    → into_iter_items s ≡ xs ++ into_iter_items t
 taken_front s [] t y = ap into_iter_items y
 taken_front s (x ∷ xs) t y = y.1.0 ∙ ap (λ ys. x ∷ ys) (taken_front y.0 xs t y.2)
 
@@ -133,7 +142,9 @@ roots_so_far f all xs rest x e =
       (λ n k. subst (λ (ys : List Term). Contains ys n) (sym same) (Contains-append_right (flat_map f xs) (f x ++ flat_map f rest) n (Contains-append_left (f x) (flat_map f rest) n k))),
     )
 
-pub registration_grows : (S T : System Shape Term) (a b : Registered) (R : List Term) → Grows S T → IsRegistration S a R b → IsRegistration T a R b
+pub registration_grows :
+    (S T : System Shape Term) (a b : Registered) (R : List Term) → Grows S T → IsRegistration S a R b
+    → IsRegistration T a R b
 registration_grows S T a b R g x =
     record {
       nodes = extension_grows S T (nodes_of a.identities) R (nodes_of b.identities) g x.nodes;
@@ -146,7 +157,9 @@ pub registrations_compose_grown :
     (S T : System Shape Term) (a b c : Registered) (R Q : List Term) → Grows S T → IsRegistration S a R b → IsRegistration T b Q c → IsRegistration T a (R ++ Q) c
 registrations_compose_grown S T a b c R Q g x y = registrations_compose T a b c R Q (registration_grows S T a b R g x) y
 
-entry_in : (types : List portable.Description) (i : ℕ) (ty : portable.Description) → slice_get types i ≡ Some ty → slice_get (map portable_entry types) i ≡ Some (portable_entry ty)
+entry_in :
+    (types : List portable.Description) (i : ℕ) (ty : portable.Description) → slice_get types i ≡ Some ty
+    → slice_get (map portable_entry types) i ≡ Some (portable_entry ty)
 entry_in [] i ty e = absurd (none-some ty e)
 entry_in (x ∷ types) zero ty e = ap Some (ap portable_entry (same_Some x ty e))
 entry_in (x ∷ types) (suc i) ty e = entry_in types i ty e

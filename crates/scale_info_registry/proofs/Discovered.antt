@@ -1,5 +1,7 @@
 -- A walk over the catalogue, step by step.
-use Rattle.std.proofs.Common.{◌≡◌, suc, ◌+◌, ◌<◌, List, [], ◌∷◌, ◌++◌, length, Option, Some, IsSome, option_map, map, reverse, refl, ap, sym, ◌∙◌, subst, arith, Contains, append_assoc, append-nil, Bool, true, false, length-append, Bor}
+use Rattle.std.proofs.Common.{◌≡◌, suc, ◌+◌, ◌<◌, List, [], ◌∷◌, ◌++◌, length, Option, Some, IsSome}
+use Rattle.std.proofs.Common.{option_map, map, reverse, refl, ap, sym, ◌∙◌, subst, arith, Contains}
+use Rattle.std.proofs.Common.{append_assoc, append-nil, Bool, true, false, length-append, Bor}
 use Rattle.std.proofs.lemmas.List.{map-append, reverse-append, length_push, length-reverse}
 use Rattle.std.proofs.lemmas.List.Elements.{Contains-get_or}
 use Rattle.std.proofs.lemmas.Bool.{false≢true}
@@ -20,13 +22,15 @@ use Rattle.scale_info_types.specs.declared.meta_type.descriptions.Catalogue.{Cat
 use Rattle.scale_info_registry.specs.declared.registry.discovery.RegisterError.TheVariants.{Full}
 use Rattle.scale_info_references.specs.Gathered.{targets}
 use Rattle.scale_info_registry.proofs.Terms.{known}
-use Rattle.scale_info_registry.proofs.Walking.{IsWalking, walk_adds, walk_meets, walk_passes, walk_ends, kept_below, distinct_push}
+use Rattle.scale_info_registry.proofs.Walking.{IsWalking, walk_adds, walk_meets, walk_passes, walk_ends}
+use Rattle.scale_info_registry.proofs.Walking.{kept_below, distinct_push}
 use Rattle.scale_info_registry.proofs.Weights.{work_left, adds_less}
 
 pub stacked_pop : (ss : List (Bor MetaType)) (r : Bor MetaType) → stacked (ss ++ r ∷ []) ≡ type_term r.now ∷ stacked ss
 stacked_pop ss r = ap (map (λ (r : Bor MetaType). type_term r.now)) (reverse-append ss (r ∷ []))
 
-map_targets : (found : List (Bor MetaType)) → map (λ (r : Bor MetaType). type_term r.now) found ≡ roots_of (targets found)
+map_targets :
+    (found : List (Bor MetaType)) → map (λ (r : Bor MetaType). type_term r.now) found ≡ roots_of (targets found)
 map_targets [] = refl
 map_targets (r ∷ found) = ap (λ xs. type_term r.now ∷ xs) (map_targets found)
 
@@ -51,14 +55,19 @@ length_more all found pending d e s =
     length-stacked : (ss : List (Bor MetaType)) → length (stacked ss) ≡ length ss
     length-stacked ss = length_map (λ (r : Bor MetaType). type_term r.now) (reverse ss) ∙ length-reverse ss
 
-pub nodes_push : (ids more : List TypeId) (id : TypeId) → more ≡ ids ++ id ∷ [] → nodes_of more ≡ nodes_of ids ++ term_of id ∷ []
+pub nodes_push :
+    (ids more : List TypeId) (id : TypeId) → more ≡ ids ++ id ∷ [] → nodes_of more ≡ nodes_of ids ++ term_of id ∷ []
 nodes_push ids more id e = ap nodes_of e ∙ map-append term_of ids (id ∷ [])
 
-pub pushed_one : (ids more : List TypeId) (copy id : TypeId) → copy ≡ id → ¬ (IsKnown equals.eq ids id) → (¬ (IsKnown equals.eq ids copy) → more ≡ ids ++ copy ∷ []) → more ≡ ids ++ id ∷ []
+pub pushed_one :
+    (ids more : List TypeId) (copy id : TypeId) → copy ≡ id → ¬ (IsKnown equals.eq ids id)
+    → (¬ (IsKnown equals.eq ids copy) → more ≡ ids ++ copy ∷ []) → more ≡ ids ++ id ∷ []
 pushed_one ids more copy id e u f =
     subst (λ i. (¬ (IsKnown equals.eq ids i) → more ≡ ids ++ i ∷ []) → more ≡ ids ++ id ∷ []) (sym e) (λ g. g u) f
 
-pub kept_more : (before ids new : List TypeId) (id : TypeId) → (more : List TypeId) × (ids ≡ before ++ more) → new ≡ ids ++ id ∷ [] → (more : List TypeId) × (new ≡ before ++ more)
+pub kept_more :
+    (before ids new : List TypeId) (id : TypeId) → (more : List TypeId) × (ids ≡ before ++ more)
+    → new ≡ ids ++ id ∷ [] → (more : List TypeId) × (new ≡ before ++ more)
 kept_more before ids new id m e = (m.0 ++ id ∷ [], e ∙ ap (λ xs. xs ++ id ∷ []) m.1 ∙ append_assoc before m.0 (id ∷ []))
 
 pub not_some : {A : Type 0} (o : Option A) (b : Bool) → (IsSome o → b ≡ true) → b ≡ false → IsSome o → ⊥
@@ -68,29 +77,39 @@ module _ (c : Catalogue) (before : List TypeId) (roots : List (Bor MetaType)) wh
   abbrev Walking : List TypeId → List (Bor MetaType) → Type 0
   Walking ids pending = IsWalking (system_of c) (nodes_of before) (stacked roots) (nodes_of ids) (stacked pending)
 
-  shown : (ids : List TypeId) (pending ss : List (Bor MetaType)) (r : Bor MetaType) → pending ≡ ss ++ r ∷ [] → Walking ids pending
+  shown :
+      (ids : List TypeId) (pending ss : List (Bor MetaType)) (r : Bor MetaType) → pending ≡ ss ++ r ∷ []
+      → Walking ids pending
       → IsWalking (system_of c) (nodes_of before) (stacked roots) (nodes_of ids) (type_term r.now ∷ stacked ss)
   shown ids pending ss r p x =
       subst (λ xs. IsWalking (system_of c) (nodes_of before) (stacked roots) (nodes_of ids) xs) (ap stacked p ∙ stacked_pop ss r) x
 
-  pub passes : (ids : List TypeId) (pending ss : List (Bor MetaType)) (r : Bor MetaType) (id : TypeId) → pending ≡ ss ++ r ∷ [] → id ≡ r.now.identity
+  pub passes :
+      (ids : List TypeId) (pending ss : List (Bor MetaType)) (r : Bor MetaType) (id : TypeId)
+      → pending ≡ ss ++ r ∷ [] → id ≡ r.now.identity
       → IsKnown equals.eq ids id → Walking ids pending → Walking ids ss
   passes ids pending ss r id p e k x =
       walk_passes (system_of c) (nodes_of before) (stacked roots) (nodes_of ids) (stacked ss) (type_term r.now)
       (subst (λ i. Contains (nodes_of ids) (term_of i)) e ((known ids id).0 k)) (shown ids pending ss r p x)
 
-  fresh : (ids : List TypeId) (r : Bor MetaType) (id : TypeId) → id ≡ r.now.identity → ¬ (IsKnown equals.eq ids id) → ¬ (Contains (nodes_of ids) (type_term r.now))
+  fresh :
+      (ids : List TypeId) (r : Bor MetaType) (id : TypeId) → id ≡ r.now.identity → ¬ (IsKnown equals.eq ids id)
+      → ¬ (Contains (nodes_of ids) (type_term r.now))
   fresh ids r id e u k = u ((known ids id).1 (subst (λ i. Contains (nodes_of ids) (term_of i)) (sym e) k))
 
-  pub meets : (ids : List TypeId) (pending ss : List (Bor MetaType)) (r : Bor MetaType) (id : TypeId) → pending ≡ ss ++ r ∷ [] → id ≡ r.now.identity
-      → ¬ (IsKnown equals.eq ids id) → Walking ids pending → IsReachedPast (system_of c) (nodes_of before) (stacked roots) (term_of id)
+  pub meets :
+      (ids : List TypeId) (pending ss : List (Bor MetaType)) (r : Bor MetaType) (id : TypeId)
+      → pending ≡ ss ++ r ∷ [] → id ≡ r.now.identity
+      → ¬ (IsKnown equals.eq ids id) → Walking ids pending
+      → IsReachedPast (system_of c) (nodes_of before) (stacked roots) (term_of id)
   meets ids pending ss r id p e u x =
       subst (λ i. IsReachedPast (system_of c) (nodes_of before) (stacked roots) (term_of i)) (sym e)
       (walk_meets (system_of c) (nodes_of before) (stacked roots) (nodes_of ids) (stacked ss) (type_term r.now) (fresh ids r id e u) (shown ids pending ss r p x))
 
   pub adds :
       (ids more : List TypeId) (pending ss all found : List (Bor MetaType)) (r : Bor MetaType) (id : TypeId) (d : MetaDescription)
-      → pending ≡ ss ++ r ∷ [] → id ≡ r.now.identity → ¬ (IsKnown equals.eq ids id) → described c (term_of id) ≡ Some d → more ≡ ids ++ id ∷ []
+      → pending ≡ ss ++ r ∷ [] → id ≡ r.now.identity → ¬ (IsKnown equals.eq ids id)
+      → described c (term_of id) ≡ Some d → more ≡ ids ++ id ∷ []
       → reverse all ≡ found ++ reverse ss → targets found ≡ references d → Walking ids pending → Walking more all
   adds ids more pending ss all found r id d p e u s m a f x =
       let here : system_of c (type_term r.now) ≡ Some (entry_of d) = ap (λ i. system_of c (term_of i)) (sym e) ∙ ap (option_map entry_of) s in
@@ -116,14 +135,19 @@ module _ (c : Catalogue) (before : List TypeId) (roots : List (Bor MetaType)) wh
       (subst (λ n. work_left c (nodes_of more) n < work_left c (nodes_of ids) (suc (length ss))) (sym (length_more all found ss d a f))
       (subst (λ xs. work_left c xs (length (entry_of d).refs + length ss) < work_left c (nodes_of ids) (suc (length ss))) (sym grown) less))
 
-  pub ends : (ids : List TypeId) (pending : List (Bor MetaType)) → pending ≡ [] → Walking ids pending → IsExtension (system_of c) (nodes_of before) (stacked roots) (nodes_of ids)
+  pub ends :
+      (ids : List TypeId) (pending : List (Bor MetaType)) → pending ≡ [] → Walking ids pending
+      → IsExtension (system_of c) (nodes_of before) (stacked roots) (nodes_of ids)
   ends ids pending e x =
       walk_ends (system_of c) (nodes_of before) (stacked roots) (nodes_of ids)
       (subst (λ (ps : List (Bor MetaType)). IsWalking (system_of c) (nodes_of before) (stacked roots) (nodes_of ids) (stacked ps)) e x)
 
   -- the identities and the new one are too many
-  pub overflows : (ids : List TypeId) (pending ss : List (Bor MetaType)) (r : Bor MetaType) (id : TypeId) → pending ≡ ss ++ r ∷ [] → id ≡ r.now.identity
-      → ¬ (IsKnown equals.eq ids id) → length ids ≡ 4294967295 → Walking ids pending → IsCause (system_of c) (nodes_of before) (stacked roots) Full
+  pub overflows :
+      (ids : List TypeId) (pending ss : List (Bor MetaType)) (r : Bor MetaType) (id : TypeId)
+      → pending ≡ ss ++ r ∷ [] → id ≡ r.now.identity
+      → ¬ (IsKnown equals.eq ids id) → length ids ≡ 4294967295 → Walking ids pending
+      → IsCause (system_of c) (nodes_of before) (stacked roots) Full
   overflows ids pending ss r id p e u l x =
       let new = fresh ids r id e u in
       let all = nodes_of ids ++ type_term r.now ∷ [] in (

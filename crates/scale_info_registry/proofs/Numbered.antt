@@ -1,5 +1,6 @@
 -- The place of an identity.
-use Rattle.std.proofs.Common.{◌≡◌, ℕ, zero, suc, Bool, true, false, cond, List, [], ◌∷◌, length, Some, slice_get, map, refl, ap, sym, ◌∙◌, subst}
+use Rattle.std.proofs.Common.{◌≡◌, ℕ, zero, suc, Bool, true, false, cond, List, [], ◌∷◌, length, Some}
+use Rattle.std.proofs.Common.{slice_get, map, refl, ap, sym, ◌∙◌, subst}
 use Rattle.std.proofs.lemmas.Bool.{false≢true}
 use Rattle.std.proofs.lemmas.Option.{same_Some, none-some}
 use Rattle.scale_info_identities.specs.Interned.{IsIndexOf, IsKnown}
@@ -21,29 +22,38 @@ indexed x ids id false e k h f (zero, (y, p, q)) = absurd (false≢true (sym e �
 indexed x ids id false e k h f (suc i, (y, p, q)) = subst (λ n. IsIndexOf equals.eq (x ∷ ids) id n) h (f (i, (y, p, q)))
 
 -- a known identity stands at its place
-pub index_is : (ids : List TypeId) (id : TypeId) → IsKnown equals.eq ids id → IsIndexOf equals.eq ids id (index_in equals.eq ids id)
+pub index_is :
+    (ids : List TypeId) (id : TypeId) → IsKnown equals.eq ids id
+    → IsIndexOf equals.eq ids id (index_in equals.eq ids id)
 index_is [] id k = absurd (none-some k.1.0 k.1.1)
 index_is (x ∷ ids) id k = indexed x ids id (equals.eq id x) refl _ refl (index_is ids id) k
 
-missed : (x : TypeId) (ids : List TypeId) (id : TypeId) (b : Bool) → equals.eq id x ≡ b → (¬ (IsKnown equals.eq ids id) → index_in equals.eq ids id ≡ length ids)
+missed :
+    (x : TypeId) (ids : List TypeId) (id : TypeId) (b : Bool) → equals.eq id x ≡ b
+    → (¬ (IsKnown equals.eq ids id) → index_in equals.eq ids id ≡ length ids)
     → ¬ (IsKnown equals.eq (x ∷ ids) id) → cond b 0 (suc (index_in equals.eq ids id)) ≡ length (x ∷ ids)
 missed x ids id true e f u = absurd (u (0, (x, refl, e)))
 missed x ids id false e f u = ap suc (f (λ k. u (suc k.0, k.1)))
 
 -- one that is not known has the next place
-pub index_past : (ids : List TypeId) (id : TypeId) → ¬ (IsKnown equals.eq ids id) → index_in equals.eq ids id ≡ length ids
+pub index_past :
+    (ids : List TypeId) (id : TypeId) → ¬ (IsKnown equals.eq ids id) → index_in equals.eq ids id ≡ length ids
 index_past [] id u = refl
 index_past (x ∷ ids) id u = missed x ids id (equals.eq id x) refl (index_past ids id) u
 
 -- its number is that place
-pub one_number : (ids : List TypeId) (id : TypeId) (i : ℕ) → interned.AreDistinctBy equals.eq ids → IsIndexOf equals.eq ids id i → i ≡ index_in equals.eq ids id
+pub one_number :
+    (ids : List TypeId) (id : TypeId) (i : ℕ) → interned.AreDistinctBy equals.eq ids → IsIndexOf equals.eq ids id i
+    → i ≡ index_in equals.eq ids id
 one_number ids id i distinct p =
     let q = index_is ids id (i, p) in
     let same : term_of p.0 ≡ term_of q.0 =
     same_Some (term_of p.0) (term_of q.0) (sym (at_node ids i p.0 p.1) ∙ ((known_by_term ids id i).0 p ∙ (sym ((known_by_term ids id (index_in equals.eq ids id)).0 q) ∙ at_node ids _ q.0 q.1))) in
     distinct i (index_in equals.eq ids id) p.0 q.0 p.1 q.1 ((same_type_ids p.0 q.0).1 same)
   where
-    at_node : (ids : List TypeId) (i : ℕ) (x : TypeId) → slice_get ids i ≡ Some x → slice_get (map term_of ids) i ≡ Some (term_of x)
+    at_node :
+        (ids : List TypeId) (i : ℕ) (x : TypeId) → slice_get ids i ≡ Some x
+        → slice_get (map term_of ids) i ≡ Some (term_of x)
     at_node [] i x e = absurd (none-some x e)
     at_node (y ∷ ids) zero x e = ap Some (ap term_of (same_Some y x e))
     at_node (y ∷ ids) (suc i) x e = at_node ids i x e

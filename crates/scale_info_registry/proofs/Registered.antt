@@ -1,5 +1,7 @@
 -- What a registration has done, once all new identities are described.
-use Rattle.std.proofs.Common.{take, ◌≡◌, ℕ, zero, suc, ◌+◌, ◌<◌, ◌≤◌, List, [], ◌∷◌, ◌++◌, length, Option, Some, None, option_map, slice_get, map, refl, ap, sym, ◌∙◌, subst, arith, Contains, inl, inr, length-append, Bor}
+use Rattle.std.proofs.Common.{take, ◌≡◌, ℕ, zero, suc, ◌+◌, ◌<◌, ◌≤◌, List, [], ◌∷◌, ◌++◌, length, Option}
+use Rattle.std.proofs.Common.{Some, None, option_map, slice_get, map, refl, ap, sym, ◌∙◌, subst, arith}
+use Rattle.std.proofs.Common.{Contains, inl, inr, length-append, Bor}
 use Rattle.std.proofs.lemmas.Bool.{cases_lt}
 use Rattle.std.proofs.lemmas.List.{length_push}
 use Rattle.std.proofs.lemmas.Option.{same_Some, none-some, slice_get_within}
@@ -25,18 +27,23 @@ use Rattle.scale_info_types.specs.declared.meta_type.descriptions.Catalogue.{Cat
 use Rattle.scale_info_types.specs.MetaDescriptions.{MetaDescription, type_term}
 use Rattle.scale_info_types.specs.Catalogues.{described}
 use Rattle.scale_info_registry.specs.CatalogueSystems.{entry_of, system_of}
-use Rattle.scale_info_registry.specs.Registrations.{nodes_of, roots_of, index_in, ids_in, Registered, registered, IsClosed, IsRegistration, AreDescribed, Keeps}
+use Rattle.scale_info_registry.specs.Registrations.{nodes_of, roots_of, index_in, ids_in, Registered}
+use Rattle.scale_info_registry.specs.Registrations.{registered, IsClosed, IsRegistration, AreDescribed, Keeps}
 use Rattle.scale_info_references.specs.Conversions.{with_ids}
 use Rattle.scale_info_registry.proofs.Numbered.{index_is}
 use Rattle.scale_info_references.proofs.Replaced.{shape_stays, ids_replaced}
 use Rattle.scale_info_registry.proofs.Terms.{known_by_term, known}
 
-pub at_node : (ids : List TypeId) (i : ℕ) (id : TypeId) → slice_get ids i ≡ Some id → slice_get (nodes_of ids) i ≡ Some (term_of id)
+pub at_node :
+    (ids : List TypeId) (i : ℕ) (id : TypeId) → slice_get ids i ≡ Some id
+    → slice_get (nodes_of ids) i ≡ Some (term_of id)
 at_node [] i id e = absurd (none-some id e)
 at_node (x ∷ ids) zero id e = ap Some (ap term_of (same_Some x id e))
 at_node (x ∷ ids) (suc i) id e = at_node ids i id e
 
-pub from_node : (ids : List TypeId) (i : ℕ) (n : Term) → slice_get (nodes_of ids) i ≡ Some n → (id : TypeId) × (slice_get ids i ≡ Some id) × (term_of id ≡ n)
+pub from_node :
+    (ids : List TypeId) (i : ℕ) (n : Term) → slice_get (nodes_of ids) i ≡ Some n
+    → (id : TypeId) × (slice_get ids i ≡ Some id) × (term_of id ≡ n)
 from_node [] i n e = absurd (none-some n e)
 from_node (x ∷ ids) zero n e = (x, refl, same_Some (term_of x) n e)
 from_node (x ∷ ids) (suc i) n e = from_node ids i n e
@@ -57,7 +64,8 @@ some_inside f (Some a) b e = (a, refl)
 
 pub all_described :
     (c : Catalogue) (old new : List TypeId) (roots : List Term) (from : ℕ) → from ≡ length old → IsExtension (system_of c) (nodes_of old) roots (nodes_of new)
-    → (i : ℕ) (id : TypeId) → from ≤ i → slice_get new i ≡ Some id → (d : MetaDescription) × (described c (term_of id) ≡ Some d)
+    → (i : ℕ) (id : TypeId) → from ≤ i → slice_get new i ≡ Some id
+    → (d : MetaDescription) × (described c (term_of id) ≡ Some d)
 all_described c old new roots from f x i id h e =
     let l = length_nodes old in
     let d = x.1.nodes i (term_of id) (omega arith) (at_node new i id e) in
@@ -65,7 +73,8 @@ all_described c old new roots from f x i id h e =
 
 pub described_more :
     (c : Catalogue) (ids : List TypeId) (from : ℕ) (types : List portable.Description) (id : TypeId) (d : MetaDescription) (ty : portable.Description)
-    → slice_get ids (length types) ≡ Some id → described c (term_of id) ≡ Some d → ty ≡ with_ids (λ ty. index_in equals.eq ids ty.identity) (λ text. text.now) d
+    → slice_get ids (length types) ≡ Some id → described c (term_of id) ≡ Some d
+    → ty ≡ with_ids (λ ty. index_in equals.eq ids ty.identity) (λ text. text.now) d
     → AreDescribed c ids from types → AreDescribed c ids from (types ++ ty ∷ [])
 described_more c ids from types id d ty e s t f i other h b g =
     let long = length_push types ty in
@@ -78,7 +87,8 @@ described_more c ids from types id d ty e s t f i other h b g =
     ]
 
 -- the ids of known types are their places
-pub places : (ids : List TypeId) (rs : List MetaType) → ((n : Term) → Contains (roots_of rs) n → Contains (nodes_of ids) n)
+pub places :
+    (ids : List TypeId) (rs : List MetaType) → ((n : Term) → Contains (roots_of rs) n → Contains (nodes_of ids) n)
     → ArePlaces (nodes_of ids) (roots_of rs) (map (λ ty. index_in equals.eq ids ty.identity) rs)
 places ids [] f = tt
 places ids (r ∷ rs) f = (
@@ -122,7 +132,9 @@ is_registration c old new roots before after long all kept kept_types x describe
     }
 
 -- a registration leaves a closed registry
-pub stays_closed : (S : System Shape Term) (old new : Registered) (roots : List Term) → IsClosed old → length new.types ≡ length new.identities → IsRegistration S old roots new → IsClosed new
+pub stays_closed :
+    (S : System Shape Term) (old new : Registered) (roots : List Term) → IsClosed old
+    → length new.types ≡ length new.identities → IsRegistration S old roots new → IsClosed new
 stays_closed S old new roots closed long x = (
   long,
   λ i ty e p k.
@@ -149,7 +161,9 @@ stays_closed S old new roots closed long x = (
     element (x ∷ xs) (suc i) h = element xs i (omega arith)
 
 -- what is cut back is what was there
-pub cut_back : {A : Type 0} (old new cut : List A) (k : ℕ) → (more : List A) × (new ≡ old ++ more) → k ≡ length old → cut ≡ take k new → cut ≡ old
+pub cut_back :
+    {A : Type 0} (old new cut : List A) (k : ℕ) → (more : List A) × (new ≡ old ++ more) → k ≡ length old
+    → cut ≡ take k new → cut ≡ old
 cut_back old new cut k m l e = e ∙ (λ i. take (l i) (m.1 i)) ∙ take_at old m.0
   where
     take_at : {A : Type 0} (xs ys : List A) → take (length xs) (xs ++ ys) ≡ xs
@@ -177,7 +191,9 @@ registers_known S r id distinct k =
     }
 
 -- what no look-up finds is not known
-pub unknown : (r s : Registered) (id : TypeId) → r ≡ s → ¬ (interned.IsKnown equals.eq r.identities id) → ¬ (Contains (nodes_of s.identities) (term_of id))
+pub unknown :
+    (r s : Registered) (id : TypeId) → r ≡ s → ¬ (interned.IsKnown equals.eq r.identities id)
+    → ¬ (Contains (nodes_of s.identities) (term_of id))
 unknown r s id e u k = u ((known r.identities id).1 (subst (λ z. Contains (nodes_of z.identities) (term_of id)) (sym e) k))
 
 -- a registered type has a place
@@ -190,7 +206,9 @@ root_index S old new id x =
     (index_is new.identities id ((known new.identities id).1 (contains_at (nodes_of new.identities) (term_of id) p.0 p.1)))
 
 -- nothing is registered
-pub registers_nothing : (S : System Shape Term) (r : Registered) → interned.AreDistinctBy equals.eq r.identities → IsRegistration S r [] r
+pub registers_nothing :
+    (S : System Shape Term) (r : Registered) → interned.AreDistinctBy equals.eq r.identities
+    → IsRegistration S r [] r
 registers_nothing S r distinct =
     record {
       nodes = extends_by_none S (nodes_of r.identities) (distinct_nodes r.identities distinct);
@@ -202,7 +220,8 @@ registers_nothing S r distinct =
 -- the same, where registries are targets as values
 pub cut_kept :
     (old new : Registered) (ids new_ids cut_ids : List TypeId) (types new_types cut_types : List portable.Description) (k : ℕ)
-    → registered ids types ≡ old → registered new_ids new_types ≡ new → Keeps old new → k ≡ length types → IsClosed (registered ids types)
+    → registered ids types ≡ old → registered new_ids new_types ≡ new → Keeps old new → k ≡ length types
+    → IsClosed (registered ids types)
     → cut_ids ≡ take k new_ids → cut_types ≡ take k new_types → IsClosed (registered cut_ids cut_types)
 cut_kept old new ids new_ids cut_ids types new_types cut_types k a b kept l closed e f =
     let same : Keeps (registered ids types) (registered new_ids new_types) = subst (λ r. Keeps r (registered new_ids new_types)) (sym a) (subst (λ s. Keeps old s) (sym b) kept) in
@@ -217,7 +236,9 @@ root_indices S old new rs x =
     let p = walk_members (nodes_of new.identities) x.nodes.0 (roots_of rs) (length (nodes_of old.identities)) (length (nodes_of new.identities)) x.nodes.1.from_roots n k in
     contains_at (nodes_of new.identities) n p.0 p.1)
 
-pub keeps : (S : System Shape Term) (old new : Registered) (roots : List Term) → IsRegistration S old roots new → Keeps old new
+pub keeps :
+    (S : System Shape Term) (old new : Registered) (roots : List Term) → IsRegistration S old roots new
+    → Keeps old new
 keeps S old new roots x = (x.identities, x.types)
 
 pub keeps_itself : (old new : Registered) → new ≡ old → Keeps old new
@@ -227,7 +248,8 @@ keeps_itself old new e =
 -- what is cut back keeps what was there
 pub cut_keeps :
     (old new : Registered) (ids new_ids cut_ids : List TypeId) (types new_types cut_types : List portable.Description) (k : ℕ)
-    → registered ids types ≡ old → registered new_ids new_types ≡ new → Keeps old new → k ≡ length types → IsClosed (registered ids types)
+    → registered ids types ≡ old → registered new_ids new_types ≡ new → Keeps old new → k ≡ length types
+    → IsClosed (registered ids types)
     → cut_ids ≡ take k new_ids → cut_types ≡ take k new_types → Keeps old (registered cut_ids cut_types)
 cut_keeps old new ids new_ids cut_ids types new_types cut_types k a b kept l closed e f =
     let same : Keeps (registered ids types) (registered new_ids new_types) = subst (λ r. Keeps r (registered new_ids new_types)) (sym a) (subst (λ s. Keeps old s) (sym b) kept) in

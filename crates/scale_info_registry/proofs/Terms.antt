@@ -10,7 +10,9 @@ use Rattle.scale_info_identities.specs.declared.type_id.TypeId.{TypeId}
 use Rattle.scale_info_numberings.proofs.Places.{place_of, contains_at}
 
 -- known, by term
-pub known_by_term : (ids : List TypeId) (id : TypeId) (i : ℕ) → IsIndexOf equals.eq ids id i ↔ (slice_get (map term_of ids) i ≡ Some (term_of id))
+pub known_by_term :
+    (ids : List TypeId) (id : TypeId) (i : ℕ)
+    → IsIndexOf equals.eq ids id i ↔ (slice_get (map term_of ids) i ≡ Some (term_of id))
 known_by_term [] id i = ((λ h. absurd (none-some h.0 h.1)), (λ h. absurd (none-some (term_of id) h)))
 known_by_term (x ∷ ids) id zero = (
   (λ h. ap Some (ap term_of (same_Some x h.0 h.1) ∙ sym ((same_type_ids id h.0).0 h.2))),

@@ -1,5 +1,6 @@
 -- What a walk by a list of work keeps.
-use Rattle.std.proofs.Common.{◌≡◌, ℕ, zero, suc, ◌+◌, ◌<◌, ◌≤◌, List, [], ◌∷◌, ◌++◌, length, Some, slice_get, ap, sym, ◌∙◌, subst, arith, ◌⊎◌, inl, inr, Contains}
+use Rattle.std.proofs.Common.{◌≡◌, ℕ, zero, suc, ◌+◌, ◌<◌, ◌≤◌, List, [], ◌∷◌, ◌++◌, length, Some, slice_get}
+use Rattle.std.proofs.Common.{ap, sym, ◌∙◌, subst, arith, ◌⊎◌, inl, inr, Contains}
 use Rattle.std.proofs.lemmas.Bool.{cases_lt}
 use Rattle.std.proofs.lemmas.List.{length_push}
 use Rattle.std.proofs.lemmas.List.Elements.{Contains-append_left, Contains-append_cases}
@@ -45,7 +46,9 @@ module _ {Sh N : Type 0} (S : System Sh N) (old roots : List N) where
   walk_starts distinct =
       record { distinct = distinct; then = λ M x. x; grown = λ n c. c; held = λ n c. inl c; reached = λ n c u. root n c u }
 
-  pub walk_passes : (order rest : List N) (n : N) → Contains order n → IsWalking S old roots order (n ∷ rest) → IsWalking S old roots order rest
+  pub walk_passes :
+      (order rest : List N) (n : N) → Contains order n → IsWalking S old roots order (n ∷ rest)
+      → IsWalking S old roots order rest
   walk_passes order rest n c x =
       record {
         distinct = x.distinct;
@@ -56,7 +59,9 @@ module _ {Sh N : Type 0} (S : System Sh N) (old roots : List N) where
       }
 
   -- what is met and not yet numbered is reached
-  pub walk_meets : (order rest : List N) (n : N) → ¬ (Contains order n) → IsWalking S old roots order (n ∷ rest) → IsReachedPast S old roots n
+  pub walk_meets :
+      (order rest : List N) (n : N) → ¬ (Contains order n) → IsWalking S old roots order (n ∷ rest)
+      → IsReachedPast S old roots n
   walk_meets order rest n fresh x = x.reached n (contains_head n rest) (λ g. fresh (x.grown n g))
 
   pub kept_below :

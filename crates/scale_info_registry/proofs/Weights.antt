@@ -1,5 +1,7 @@
 -- The work that a walk has left.
-use Rattle.std.proofs.Common.{◌≡◌, ℕ, zero, suc, ◌+◌, ◌-◌, ◌<◌, ◌≤◌, List, [], ◌∷◌, ◌++◌, length, Option, Some, None, slice_get, sum_by, refl, ap, sym, ◌∙◌, subst, arith, ◌⊎◌, inl, inr, Contains, map, cond, true, false, Bool}
+use Rattle.std.proofs.Common.{◌≡◌, ℕ, zero, suc, ◌+◌, ◌-◌, ◌<◌, ◌≤◌, List, [], ◌∷◌, ◌++◌, length, Option}
+use Rattle.std.proofs.Common.{Some, None, slice_get, sum_by, refl, ap, sym, ◌∙◌, subst, arith, ◌⊎◌, inl, inr}
+use Rattle.std.proofs.Common.{Contains, map, cond, true, false, Bool}
 use Rattle.std.proofs.lemmas.List.Sums.{sum_by_push, sum_by-cons}
 use Rattle.std.proofs.lemmas.Option.{same_Some, none-some}
 use Rattle.std.specs.Map.{lookup}
@@ -32,7 +34,9 @@ without i [] = []
 without zero (x ∷ xs) = xs
 without (suc i) (x ∷ xs) = x ∷ without i xs
 
-pub kept_without : {N : Type 0} (i j : ℕ) (xs : List N) (n : N) → (i ≡ j → ⊥) → slice_get xs j ≡ Some n → (k : ℕ) × (slice_get (without i xs) k ≡ Some n)
+pub kept_without :
+    {N : Type 0} (i j : ℕ) (xs : List N) (n : N) → (i ≡ j → ⊥) → slice_get xs j ≡ Some n
+    → (k : ℕ) × (slice_get (without i xs) k ≡ Some n)
 unfolding without
 kept_without i j [] n ne e = absurd (none-some n e)
 kept_without zero zero (x ∷ xs) n ne e = absurd (ne refl)
@@ -41,14 +45,18 @@ kept_without (suc i) zero (x ∷ xs) n ne e = (zero, e)
 kept_without (suc i) (suc j) (x ∷ xs) n ne e =
     let r = kept_without i j xs n (λ q. ne (ap suc q)) e in (suc r.0, r.1)
 
-sum-without : {N : Type 0} (w : N → ℕ) (xs : List N) (i : ℕ) (x : N) → slice_get xs i ≡ Some x → sum_by w (without i xs) + w x ≡ sum_by w xs
+sum-without :
+    {N : Type 0} (w : N → ℕ) (xs : List N) (i : ℕ) (x : N) → slice_get xs i ≡ Some x
+    → sum_by w (without i xs) + w x ≡ sum_by w xs
 unfolding without
 sum-without w [] i x e = absurd (none-some x e)
 sum-without w (y ∷ xs) zero x e = let s : w y ≡ w x = ap w (same_Some y x e) in let c = sum_by-cons w y xs in omega arith
 sum-without w (y ∷ xs) (suc i) x e = let r = sum-without w xs i x e in let c = sum_by-cons w y xs in let k = sum_by-cons w y (without i xs) in omega arith
 
 -- distinct elements, of which those that weigh anything stand in K, weigh no more than K
-pub distinct_sums : {N : Type 0} (w : N → ℕ) (L K : List N) → AreDistinct L → ((n : N) → Contains L n → (w n ≡ 0) ⊎ Contains K n) → sum_by w L ≤ sum_by w K
+pub distinct_sums :
+    {N : Type 0} (w : N → ℕ) (L K : List N) → AreDistinct L → ((n : N) → Contains L n → (w n ≡ 0) ⊎ Contains K n)
+    → sum_by w L ≤ sum_by w K
 distinct_sums w [] K distinct f = omega arith
 distinct_sums {N} w (x ∷ L) K distinct f =
     let rest_distinct : AreDistinct L = λ i j n e h. let q : suc i ≡ suc j = distinct (suc i) (suc j) n e h in omega arith in
@@ -82,7 +90,9 @@ distinct_sums {N} w (x ∷ L) K distinct f =
 abbrev pub terms_in : Catalogue → List Term
 terms_in c = map (λ e. term_of e.0) c.entries.entries
 
-looked_at : {X : Type 0} (p : TypeId × X) (es : List (TypeId × X)) (t : Term) (d : X) (b : Bool) → is_at (ghosts.cmp (identity_of t)) p.0 ≡ b
+looked_at :
+    {X : Type 0} (p : TypeId × X) (es : List (TypeId × X)) (t : Term) (d : X) (b : Bool)
+    → is_at (ghosts.cmp (identity_of t)) p.0 ≡ b
     → cond b (Some p.1) (lookup (is_at (ghosts.cmp (identity_of t))) es) ≡ Some d
     → (lookup (is_at (ghosts.cmp (identity_of t))) es ≡ Some d → Contains (map (λ e. term_of e.0) es) t)
     → Contains (map (λ (e : TypeId × X). term_of e.0) (p ∷ es)) t
@@ -91,7 +101,9 @@ looked_at {X} p es t d true h e f =
     (contains_head (term_of p.0) (map (λ (e : TypeId × X). term_of e.0) es))
 looked_at {X} p es t d false h e f = contains_tail (term_of p.0) (map (λ (e : TypeId × X). term_of e.0) es) t (f e)
 
-looked_up : {X : Type 0} (es : List (TypeId × X)) (t : Term) (d : X) → lookup (is_at (ghosts.cmp (identity_of t))) es ≡ Some d → Contains (map (λ e. term_of e.0) es) t
+looked_up :
+    {X : Type 0} (es : List (TypeId × X)) (t : Term) (d : X)
+    → lookup (is_at (ghosts.cmp (identity_of t))) es ≡ Some d → Contains (map (λ e. term_of e.0) es) t
 looked_up [] t d e = absurd (none-some d e)
 looked_up (p ∷ es) t d e = looked_at p es t d (is_at (ghosts.cmp (identity_of t)) p.0) refl e (λ f. looked_up es t d f)
 

@@ -24,6 +24,7 @@ use Rattle.scale_info_types.specs.declared.ty.path.Path.{Path}
 use Rattle.scale_info_types.specs.declared.ty.variant.TypeDefVariant.{TypeDefVariant}
 use Rattle.scale_info_types.specs.declared.ty.variant.Variant.{Variant}
 
+-- a text of a program
 abbrev MetaText : Type 0
 MetaText = Bor (List ℕ)
 

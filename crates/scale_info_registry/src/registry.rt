@@ -1,7 +1,26 @@
 //! Registries: types of the program become descriptions with ids.
 ghost use Rattle.std.specs.Iterator.{IsFinite};
 ghost use Rattle.std.specs.List.{AllZip, enumerate_from, flat_map};
-ghost use Rattle.std.specs.Prelude.{◌≡◌, ◌≤◌, ◌++◌, ◌⊎◌, ◌∷◌, [], ℕ, List, Some, OnOk, OnErr, IfErr, IfOk, IsOk, Contains, length, map, slice_get};
+ghost use Rattle.std.specs.Prelude.{
+  ◌≡◌,
+  ◌≤◌,
+  ◌++◌,
+  ◌⊎◌,
+  ◌∷◌,
+  [],
+  ℕ,
+  List,
+  Some,
+  OnOk,
+  OnErr,
+  IfErr,
+  IfOk,
+  IsOk,
+  Contains,
+  length,
+  map,
+  slice_get,
+};
 ghost use Rattle.scale_info_identities.specs.Interned.{AreDistinctBy};
 ghost use Rattle.scale_info_identities.specs.TypeIds.{term_of};
 ghost use Rattle.scale_info_identities.specs.declared.interner.UntrackedSymbol.{UntrackedSymbol};
@@ -13,8 +32,23 @@ ghost use Rattle.scale_info_types.specs.declared.meta_type.MetaType.{MetaType};
 ghost use Rattle.scale_info_registry.specs.CatalogueSystems.{system_of};
 ghost use Rattle.scale_info_types.specs.Catalogues.{described};
 ghost use Rattle.scale_info_types.specs.MetaDescriptions.{MetaDescription, type_term};
-ghost use Rattle.scale_info_registry.specs.Registrations.{nodes_of, roots_of, stacked, IsCause, Registered, registered, IsClosed, IsRegistration, AreDescribed, HasIds, Keeps, IsConverted};
-ghost use Rattle.scale_info_registry.specs.declared.registry.discovery.RegisterError.TheVariants.{Memory};
+ghost use Rattle.scale_info_registry.specs.Registrations.{
+  nodes_of,
+  roots_of,
+  stacked,
+  IsCause,
+  Registered,
+  registered,
+  IsClosed,
+  IsRegistration,
+  AreDescribed,
+  HasIds,
+  Keeps,
+  IsConverted,
+};
+ghost use Rattle.scale_info_registry.specs.declared.registry.discovery.RegisterError.TheVariants.{
+  Memory,
+};
 
 use conversion::{HasTypes, Identities, alone};
 use discovery::{discover, stack_up};

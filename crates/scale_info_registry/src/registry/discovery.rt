@@ -5,7 +5,9 @@ ghost use Rattle.scale_info_numberings.specs.Extensions.{IsExtension};
 ghost use Rattle.scale_info_numberings.specs.Numberings.{AreDistinct};
 ghost use Rattle.scale_info_registry.specs.CatalogueSystems.{system_of};
 ghost use Rattle.scale_info_registry.specs.Registrations.{nodes_of, stacked, IsCause};
-ghost use Rattle.scale_info_registry.specs.declared.registry.discovery.RegisterError.TheVariants.{Memory};
+ghost use Rattle.scale_info_registry.specs.declared.registry.discovery.RegisterError.TheVariants.{
+  Memory,
+};
 
 use scale_info_collections::try_clone::TryClone;
 use scale_info_identities::interner::{InternError, Interner};

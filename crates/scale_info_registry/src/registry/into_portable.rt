@@ -32,7 +32,15 @@ ghost use Rattle.scale_info_registry.specs.Parts.{
 };
 ghost use Rattle.scale_info_registry.specs.CatalogueSystems.{system_of};
 ghost use Rattle.scale_info_types.specs.MetaDescriptions.{type_term};
-ghost use Rattle.scale_info_registry.specs.Registrations.{nodes_of, IsCause, IsRegistration, Keeps, IsConverted, HasIds, roots_of};
+ghost use Rattle.scale_info_registry.specs.Registrations.{
+  nodes_of,
+  IsCause,
+  IsRegistration,
+  Keeps,
+  IsConverted,
+  HasIds,
+  roots_of,
+};
 
 use super::Registry;
 use super::conversion::TypePair;
