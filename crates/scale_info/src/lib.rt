@@ -16,6 +16,8 @@ pub use scale_info_identities::{interner, utils};
 pub use scale_info_json::{JsonError, append_json, from_json, to_json};
 pub use scale_info_prune::prune as export;
 pub use scale_info_prune::prune::{PruneError, append_pruned, prune};
+pub use scale_info_registry::registry;
+pub use scale_info_registry::registry::{IntoPortable, Registry};
 pub use scale_info_tables::portable;
 pub use scale_info_tables::portable::{PortableRegistry, PortableRegistryBuilder};
 pub use scale_info_types::meta_type::{MetaType, StaticTypeInfo, TypeInfo};

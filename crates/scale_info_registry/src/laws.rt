@@ -47,7 +47,7 @@ pub fn registered_afresh()
 /// order, and the descriptions are its table.
 ///
 /// So it makes no difference whether `bool` and `Vec<u8>` are registered in two calls or in one.
-pub fn any_registrations()
+pub fn registrations_afresh()
     ensures { (first : Step) (later : List Step)
         → IsRegistration first.catalogue (registered [] []) first.roots first.registry
         → AreSteps first later
