@@ -58,10 +58,7 @@ fn gather_parameters<'a, T: Form>(
 }
 
 /// Adds these types, in order.
-fn gather_types<'a, X>(
-    types: &'a [X],
-    found: &mut Vec<&'a X>,
-) -> Result<(), AllocFailed<&'a X>>
+fn gather_types<'a, X>(types: &'a [X], found: &mut Vec<&'a X>) -> Result<(), AllocFailed<&'a X>>
     ensures { OnOk result (AddsReferences found.old.items types.now found.new.items) }
 {
     for ty in types {
@@ -182,10 +179,7 @@ pub fn references_of_variants<'a, T: Form>(
 /// These types, in order.
 ///
 /// Errors: `AllocError`, if an allocation failed.
-pub fn references_of_types<'a, X>(
-    alloc: Global,
-    types: &'a [X],
-) -> Result<Vec<&'a X>, AllocError>
+pub fn references_of_types<'a, X>(alloc: Global, types: &'a [X]) -> Result<Vec<&'a X>, AllocError>
     ensures { IfOk result (λ found. targets found.items ≡ types.now) }
 {
     let mut found = Vec::new(alloc);

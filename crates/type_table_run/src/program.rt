@@ -65,8 +65,8 @@ fn report<F: Write>(errors: &mut F, line: &str)
 /// - `check`: the input is written to the output again.
 /// - `json`: the compact JSON text of the table and a line feed are written to the output.
 ///
-/// The status is 0 if that was done. It is 2 if the arguments are not a command: then the usage line
-/// is written to `errors`. It is 1 if an error came up: then one of these lines is written to
+/// The status is 0 if that was done. It is 2 if the arguments are not a command: then the usage
+/// line is written to `errors`. It is 1 if an error came up: then one of these lines is written to
 /// `errors`, and nothing to the output.
 ///
 /// - `type_table: malformed`: no prefix of the input is a table.

@@ -64,8 +64,8 @@ fn read_piece<R: Read>(reader: &mut R, buf: &mut Vec<u8>, filled: usize) -> io::
 /// It is written out, since std's own call doesn't say whether an error came from a read or from a
 /// failed allocation.
 ///
-/// Errors: `Memory`, if an allocation failed; `Input`, if a read fails, or if the input does not end
-/// within 4294967296 reads.
+/// Errors: `Memory`, if an allocation failed; `Input`, if a read fails, or if the input does not
+/// end within 4294967296 reads.
 pub fn read_to_end<R: Read>(alloc: Global, reader: &mut R) -> Result<Vec<u8>, RunError>
     ensures whole { IfOk result (λ input.
         IfSome (R.remaining reader.old) (λ bytes. input.items ≡ bytes)) }

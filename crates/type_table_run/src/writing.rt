@@ -11,7 +11,8 @@ use std::io::{ErrorKind, Write};
 /// A write that was interrupted is tried again. On an Err a prefix of the bytes was written, which
 /// may be empty.
 ///
-/// It is written out, since no clause of std's own call says which bytes were written before an error.
+/// It is written out, since no clause of std's own call says which bytes were written before an
+/// error.
 ///
 /// Errors: that of a write that fails; `WriteZero`, if a write takes nothing.
 pub fn write_all<W: Write>(writer: &mut W, bytes: &[u8]) -> io::Result<()>

@@ -1,9 +1,9 @@
 //! Lists and texts.
 use crate::asserts::{holds, is};
-use type_vectors_common::parts::text;
 use scale_info::{Items, TryClone};
 use std::alloc::Global;
 use std::test::Fail;
+use type_vectors_common::parts::text;
 
 #[test]
 fn a_list_has_what_was_pushed(rt: HostRuntime) -> Result<(), Fail> {

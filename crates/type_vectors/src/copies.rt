@@ -2,12 +2,12 @@
 use crate::asserts::holds;
 use crate::descriptions::meta_description;
 use crate::identities::bytes_identity;
-use type_vectors_common::parts::{id, text};
-use type_vectors_common::rows::{TABLES, decoded, rows};
 use scale_info::{Items, PortableType, TryClone};
 use std::alloc::Global;
 use std::process::Abort;
 use std::test::Fail;
+use type_vectors_common::parts::{id, text};
+use type_vectors_common::rows::{TABLES, decoded, rows};
 
 /// Asserts that a copy of the value equals it.
 fn is_copied<T: TryClone + PartialEq + Drop>(

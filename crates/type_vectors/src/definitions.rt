@@ -1,7 +1,5 @@
 //! Definitions in the portable form: constructors, conversions and getters.
 use crate::asserts::is;
-use type_vectors_common::parts::{id, sequence, unnamed_fields, variant};
-use type_vectors_common::rows::rows;
 use scale_info::form::PortableForm;
 use scale_info::{
     Scale, TypeDef, TypeDefArray, TypeDefBitSequence, TypeDefCompact, TypeDefComposite,
@@ -9,6 +7,8 @@ use scale_info::{
 };
 use std::alloc::Global;
 use std::test::Fail;
+use type_vectors_common::parts::{id, sequence, unnamed_fields, variant};
+use type_vectors_common::rows::rows;
 
 /// What `definition` makes, with its encoding.
 const ENCODINGS: &str = "\

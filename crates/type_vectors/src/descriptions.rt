@@ -1,10 +1,12 @@
 //! Descriptions and their parts but definitions: constructors, conversions and getters.
 use crate::asserts::{holds, is};
-use type_vectors_common::parts::{description, field, id, parameter, path, sequence, text, texts, variant};
 use scale_info::form::{MetaForm, PortableForm};
 use scale_info::{Field, Path, PortableType, Type, TypeDef, TypeDefComposite, TypeParameter};
 use std::alloc::{AllocError, Global};
 use std::test::Fail;
+use type_vectors_common::parts::{
+    description, field, id, parameter, path, sequence, text, texts, variant,
+};
 
 #[test]
 fn a_field_returns_its_parts(rt: HostRuntime) -> Result<(), Fail> {

@@ -2,7 +2,6 @@
 //!
 //! Fields are compared in the order of their declaration: lists lexicographically, None before
 //! Some, variants of an enum as declared, texts by their bytes. The values of each test ascend.
-use type_vectors_common::parts::*;
 use scale_info::form::PortableForm;
 use scale_info::impls::Compact;
 use scale_info::{
@@ -12,6 +11,7 @@ use scale_info::{
 use std::alloc::Global;
 use std::process::Abort;
 use std::test::Fail;
+use type_vectors_common::parts::*;
 
 /// Asserts that each value is greater than all before it, and equal to itself alone.
 fn ascends<T: Ord>(rt: &impl Abort, values: &[T]) {

@@ -1,10 +1,10 @@
 //! Paths and identifiers.
 use crate::asserts::{holds, is};
-use type_vectors_common::parts::path;
 use scale_info::form::MetaForm;
 use scale_info::utils::is_rust_identifier;
 use scale_info::{Path, PathError};
 use std::test::Fail;
+use type_vectors_common::parts::path;
 
 /// The segment at this index is no identifier.
 fn bad_at(segment: usize) -> Option<PathError> {
