@@ -10,7 +10,9 @@ use scale_info_identities::type_id::TypeId;
 
 /// What visits the pieces of an encoding, one after another.
 ///
-/// A visitor never fails: one that allocates remembers that an allocation failed.
+/// A visitor never fails: one that allocates remembers that an allocation failed. Any type may
+/// implement it. An implementor states what a visit of pieces does, and owes the contracts of both
+/// functions and the proofs of the two laws.
 pub trait Visitor {
     /// What the pieces do to the visitor.
     ghost visited: { List Piece → Self → Self → Type 0 };
@@ -32,6 +34,9 @@ pub trait Visitor {
 }
 
 /// A value over whose encoding a visitor can be led, with no value made.
+///
+/// Any type that implements `Scale` may implement it. An implementor states the references of a
+/// value and the value with other references, and owes the contract of `pass`.
 pub trait Pass: Scale {
     /// The references of the value, in the order of its encoding.
     ghost references_of: { Self → List Id };

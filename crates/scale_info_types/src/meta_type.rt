@@ -48,6 +48,8 @@ impl<T: Drop> From<AllocFailed<T>> for InfoError {
 /// A type has one term: `type_id` always returns an identity with this term. Types with one term
 /// are one type to descriptions and catalogues, so a program's own type takes a head that contains
 /// `::`, such as `shapes::Point`. Nothing checks it.
+///
+/// Any type may implement it. An implementor states its term, and owes the contract of `type_id`.
 pub trait Identified {
     /// The type's own term.
     ghost own: { Term };
@@ -64,6 +66,8 @@ pub trait Identified {
 ///
 /// `Box<u8>` is described as `u8` is, so its identity is that of `u8`; the identity of a type that
 /// stands for itself is its own.
+///
+/// Any type with a term may implement it, and owes nothing more.
 pub trait HasIdentity: Identified {
     /// The type whose own identity this type is known by.
     type Identity: Identified;
@@ -71,8 +75,9 @@ pub trait HasIdentity: Identified {
 
 /// A type that can be described.
 ///
-/// A type has one description, or none: that is so for an array that is too long alone. A type may
-/// lead back to itself:
+/// A type has one description, or none: that is so for an array that is too long alone. Any type
+/// with an identity may implement it. An implementor states its description by contents, and owes
+/// the contract of `type_info`. A type may lead back to itself:
 ///
 /// ```text
 /// struct Tree(Vec<Box<Tree>>);

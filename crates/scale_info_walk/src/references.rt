@@ -10,6 +10,9 @@ use std::alloc::{AllocError, Global};
 
 /// Something that has references at each index from 0 up to a count: the entries of a table, or an
 /// index of its bytes. A walk asks for nothing else.
+///
+/// Any type may implement it. An implementor states the system that it stands for, and owes the
+/// contracts of both functions.
 pub trait References {
     /// What stands at an index beside its references.
     ghost Shape: { Type 0 };

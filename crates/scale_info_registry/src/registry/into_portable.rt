@@ -58,6 +58,9 @@ use scale_info_types::ty::{
 };
 
 /// A value that holds types, and has a portable form with ids in their place.
+///
+/// Any type may implement it, by calls of a registry for what it holds. An implementor states its
+/// types, and when an output is the value with their ids, and owes the contract of `into_portable`.
 pub trait IntoPortable {
     /// The portable form.
     type Output;
