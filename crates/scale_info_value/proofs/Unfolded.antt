@@ -10,7 +10,8 @@ use Rattle.scale_info_types.specs.References.{references}
 use Rattle.scale_info_types.specs.declared.ty.PortableType.{PortableType}
 use Rattle.scale_info_numberings.specs.Systems.{Entry, System}
 use Rattle.scale_info_numberings.specs.Unfoldings.{Tree, node, tree, trees, tree_of, unfold_to}
-use Rattle.scale_info_tables.specs.TableSystems.{entry_of, system_of}
+use Rattle.scale_info_tables.specs.TableSystems.{system_of}
+use Rattle.scale_info_walk.specs.TypeSystems.{entry_of}
 use Rattle.scale_info_tables.specs.declared.portable.PortableRegistry.{PortableRegistry}
 use Rattle.scale_info_value.specs.Outcomes.{Decoder, failed, too_deep}
 use Rattle.scale_info_value.specs.Definitions.{Part, value_by, compact_by}

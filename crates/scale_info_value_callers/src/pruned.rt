@@ -1,7 +1,8 @@
 //! A caller that decodes by a pruned table what the whole table describes.
 ghost use Rattle.std.specs.Prelude.{◌≡◌, Some, List, ℕ, IfOk, IfErr, map, slice_get};
 ghost use Rattle.scale_info_numberings.specs.Tables.{IsTable};
-ghost use Rattle.scale_info_tables.specs.TableSystems.{entry_of, system_of};
+ghost use Rattle.scale_info_tables.specs.TableSystems.{system_of};
+ghost use Rattle.scale_info_walk.specs.TypeSystems.{entry_of};
 ghost use Rattle.scale_info_tables.specs.declared.portable.PortableRegistry.{PortableRegistry};
 ghost use Rattle.scale_info_value.specs.Outcomes.{decoded, IsErrorOf};
 ghost use Rattle.scale_info_value.specs.Readings.{reading};
