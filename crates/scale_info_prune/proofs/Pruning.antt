@@ -21,6 +21,7 @@ use Rattle.scale_info_prune.specs.TableIndexes.{AppendsKeptTable, IsTableIndex}
 use Rattle.scale_info_prune.specs.declared.prune.PruneError.{PruneError}
 use Rattle.scale_info_prune.specs.declared.prune.PruneError.TheVariants.{Decode, Trailing, NoSuchType, Retain, Encode, Memory}
 
+-- why the input is not found to be one table is also why it is not pruned
 pub table_error : (input given : List ℕ) (e : PruneError) → IsTableError input e → IsPruneError input given e
 table_error input given (Decode decode.Malformed) x = x
 table_error input given (Decode decode.Memory) x = x

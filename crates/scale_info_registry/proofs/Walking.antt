@@ -11,6 +11,7 @@ use Rattle.scale_info_numberings.specs.Extensions.{IsExtension}
 use Rattle.scale_info_numberings.proofs.Places.{place_of, contains_at, contains_head, contains_tail, from_left, at_seam}
 use Rattle.scale_info_numberings.proofs.FirstReference.{extension_unfolds, extends_by_none}
 
+-- distinct elements, and one more that is none of them, are distinct
 pub distinct_push : {N : Type 0} (L : List N) (n : N) → AreDistinct L → ¬ (Contains L n) → AreDistinct (L ++ n ∷ [])
 distinct_push {N} L n distinct new i j m e h =
     let push : length (L ++ n ∷ []) ≡ length L + 1 = length_push L n in

@@ -24,6 +24,7 @@ use Rattle.scale_info_walk.specs.Pruned.{IsPruned}
 use Rattle.scale_info_walk.specs.TypeSystems.{entry_of, ids_in, types_system}
 use Rattle.scale_info_walk.specs.Walks.{AreNumbers}
 
+-- kept entries, and the entry at index k with the next id, are the kept ones of one index more
 pub kept_more :
     (types : List PortableType) (order : List ℕ) (f : Id → ℕ) (kept : List PortableType) (k : ℕ)
     (old new : PortableType)
@@ -173,6 +174,7 @@ HasNumbers numbers n m =
     (old new : ℕ) → (get nat_cmp m old ≡ Some new)
     ↔ ((old < n) × (slice_get numbers old ≡ Some new) × (new ≢ 4294967295))
 
+-- a map with the numbers of the indices below n has those below n + 1, if index n has none
 pub map_skips :
     (numbers : List ℕ) (n : ℕ) (m : BTreeMap ℕ ℕ) → HasNumbers numbers n m
     → slice_get numbers n ≡ Some 4294967295 → HasNumbers numbers (n + 1) m
@@ -189,6 +191,7 @@ map_skips numbers n m x e old new = (
       ]),
 )
 
+-- a map with the numbers below n has those below n + 1, once it takes index n to its number
 pub map_adds :
     (numbers : List ℕ) (n v : ℕ) (m after : BTreeMap ℕ ℕ) → HasNumbers numbers n m
     → slice_get numbers n ≡ Some v → v ≢ 4294967295 → Updates nat_cmp m after n (Some v)
@@ -213,6 +216,7 @@ map_adds numbers n v m after x e some u old new =
           )
     ]
 
+-- where n is past the last index, the map has the numbers of all indices, and no other keys
 pub map_all :
     (numbers : List ℕ) (n : ℕ) (m : BTreeMap ℕ ℕ) → length numbers ≤ n → HasNumbers numbers n m
     → (old new : ℕ) → (get nat_cmp m old ≡ Some new)

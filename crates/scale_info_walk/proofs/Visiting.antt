@@ -25,12 +25,14 @@ use Rattle.scale_info_walk.specs.declared.walk.RetainError.TheVariants.{Dangling
 
 -- ---- the references that are left
 
+-- where r is the next reference, the list is r and those left, and one more is counted
 pub next_some :
     (xs left : List ℕ) (r before after : ℕ) → IsNextOf xs (Some r) left before after
     → (xs ≡ r ∷ left) × (after ≡ before + 1)
 next_some [] left r before after h = absurd (none-some r (sym h.0))
 next_some (x ∷ xs) left r before after h = ((λ i. same_Some x r (sym h.0) i ∷ sym h.1 i), h.2)
 
+-- where there is no next reference, the list is empty, and nothing more is counted
 pub next_none :
     (xs left : List ℕ) (before after : ℕ) → IsNextOf xs None left before after
     → (xs ≡ []) × (left ≡ []) × (after ≡ before)
@@ -99,6 +101,7 @@ set_at xs i v h =
     let l = length-set xs i v in
     slice_get-get_or (set xs i v) i v (omega arith) ∙ ap Some (get_or-set_same xs i v v h)
 
+-- setting the element at one place leaves those at other places as they were
 pub set_other :
     {A : Type 0} (xs : List A) (i j : ℕ) (v : A) → j ≢ i
     → slice_get (set xs i v) j ≡ slice_get xs j
@@ -111,6 +114,7 @@ set_other xs i j v ne =
       | inr h ↦ slice_get_past (set xs i v) j (omega arith) ∙ sym (slice_get_past xs j h)
     ]
 
+-- two natural numbers are equal, or they are not
 pub same_or_not : (i j : ℕ) → (i ≡ j) ⊎ (i ≢ j)
 same_or_not i j =
     elim (cases_lt i j) [
