@@ -71,6 +71,7 @@ HasReferencesOf {Sh} {Sh'} S T =
     (i : ℕ) (d : Entry Sh ℕ) → S i ≡ Some d → (e : Entry Sh' ℕ) × (T i ≡ Some e) × (d.refs ≡ e.refs)
 
 module _ {Sh Sh' : Type 0} (S : System Sh ℕ) (T : System Sh' ℕ) (alike : HasReferencesOf S T) where
+  -- a numbering of the first system is one of the second
   pub same_numbering : (R L : List ℕ) → IsNumbering S R L → IsNumbering T R L
   same_numbering R L x = (
     x.0,
@@ -84,6 +85,7 @@ module _ {Sh Sh' : Type 0} (S : System Sh ℕ) (T : System Sh' ℕ) (alike : Has
     },
   )
 
+  -- what is reached in the first system is reached in the second
   pub same_reached : (K R : List ℕ) (n : ℕ) → IsReachedPast S K R n → IsReachedPast T K R n
   same_reached K R n (root m c u) = root m c u
   same_reached K R n (next m k d x s c u) =

@@ -91,6 +91,7 @@ module _ (c : Catalogue) (before : List TypeId) (roots : List (Bor MetaType)) wh
   shown ids pending ss r p x =
       subst (λ xs. IsWalking (system_of c) (nodes_of before) (stacked roots) (nodes_of ids) xs) (ap stacked p ∙ stacked_pop ss r) x
 
+  -- a type on top of the stack whose identity is known is passed over
   pub passes :
       (ids : List TypeId) (pending ss : List (Bor MetaType)) (r : Bor MetaType) (id : TypeId)
       → pending ≡ ss ++ r ∷ [] → id ≡ r.now.identity
@@ -104,6 +105,7 @@ module _ (c : Catalogue) (before : List TypeId) (roots : List (Bor MetaType)) wh
       → ¬ (Contains (nodes_of ids) (type_term r.now))
   fresh ids r id e u k = u ((known ids id).1 (subst (λ i. Contains (nodes_of ids) (term_of i)) (sym e) k))
 
+  -- a type on top of the stack whose identity is not known is reached from the roots
   pub meets :
       (ids : List TypeId) (pending ss : List (Bor MetaType)) (r : Bor MetaType) (id : TypeId)
       → pending ≡ ss ++ r ∷ [] → id ≡ r.now.identity
@@ -113,6 +115,7 @@ module _ (c : Catalogue) (before : List TypeId) (roots : List (Bor MetaType)) wh
       subst (λ i. IsReachedPast (system_of c) (nodes_of before) (stacked roots) (term_of i)) (sym e)
       (walk_meets (system_of c) (nodes_of before) (stacked roots) (nodes_of ids) (stacked ss) (type_term r.now) (fresh ids r id e u) (shown ids pending ss r p x))
 
+  -- an unknown identity is appended, and what its description refers to is pushed
   pub adds :
       (ids more : List TypeId) (pending ss all found : List (Bor MetaType)) (r : Bor MetaType) (id : TypeId) (d : MetaDescription)
       → pending ≡ ss ++ r ∷ [] → id ≡ r.now.identity → ¬ (IsKnown equals.eq ids id)
@@ -128,6 +131,7 @@ module _ (c : Catalogue) (before : List TypeId) (roots : List (Bor MetaType)) wh
       (subst (λ xs. IsWalking (system_of c) (nodes_of before) (stacked roots) xs ((entry_of d).refs ++ stacked ss))
       (sym (nodes_push ids more id m ∙ ap (λ i. nodes_of ids ++ term_of i ∷ []) e)) y)
 
+  -- appending an identity and pushing what its description refers to leaves less work
   pub shrinks :
       (ids more : List TypeId) (pending ss all found : List (Bor MetaType)) (r : Bor MetaType) (id : TypeId) (d : MetaDescription)
       → pending ≡ ss ++ r ∷ [] → described c (term_of id) ≡ Some d → more ≡ ids ++ id ∷ []
@@ -142,6 +146,7 @@ module _ (c : Catalogue) (before : List TypeId) (roots : List (Bor MetaType)) wh
       (subst (λ n. work_left c (nodes_of more) n < work_left c (nodes_of ids) (suc (length ss))) (sym (length_more all found ss d a f))
       (subst (λ xs. work_left c xs (length (entry_of d).refs + length ss) < work_left c (nodes_of ids) (suc (length ss))) (sym grown) less))
 
+  -- with nothing on the stack, the identities extend the earlier ones by the roots
   pub ends :
       (ids : List TypeId) (pending : List (Bor MetaType)) → pending ≡ [] → Walking ids pending
       → IsExtension (system_of c) (nodes_of before) (stacked roots) (nodes_of ids)

@@ -102,6 +102,7 @@ module _ (types : List PortableType) (roots order numbers : List ℕ) (f : Id �
       let exact = reached_exactly (types_system types) roots order numbering in
       (exact r).1 (next n r (entry_of old) ((exact n).0 c) (ap (option_map entry_of) s) h (λ z. let p = place_of [] r z in none-some r p.1))
 
+  -- the kept entries are the table of the numbering
   pub kept_table : IsTable (types_system types) order (map entry_of kept)
   kept_table =
       record {
@@ -121,6 +122,7 @@ module _ (types : List PortableType) (roots order numbers : List ℕ) (f : Id �
             );
       }
 
+  -- each kept entry has its new index as id
   pub kept_ids : (i : ℕ) (entry : PortableType) → slice_get kept i ≡ Some entry → entry.id ≡ i
   kept_ids i entry e =
       let within = slice_get_within kept i entry e in
@@ -129,6 +131,7 @@ module _ (types : List PortableType) (roots order numbers : List ℕ) (f : Id �
       let r = x.1 i n.0 n.1 in
       ap (λ (t : PortableType). t.id) (same_Some entry (kept_entry f i r.0) (sym e ∙ r.2))
 
+  -- a map with the dense list's numbers takes each index of the order to its place, and no other
   pub kept_indices :
       (new_ids : BTreeMap ℕ ℕ) → length order ≤ 4294967295
       → ((old new : ℕ) → (get nat_cmp new_ids old ≡ Some new)
@@ -141,6 +144,7 @@ module _ (types : List PortableType) (roots order numbers : List ℕ) (f : Id �
         (m old new).1 (dense.placed new old e, λ same. omega arith)),
   )
 
+  -- the kept entries, with such a map, are the table pruned from the roots
   pub is_pruned :
       (new_ids : BTreeMap ℕ ℕ) → length order ≤ 4294967295
       → ((old new : ℕ) → (get nat_cmp new_ids old ≡ Some new)

@@ -69,13 +69,16 @@ fits L n distinct all =
     omega arith
 
 module _ (order numbers : List ℕ) (x : AreNumbers order numbers) where
+  -- no index stands in the order twice
   pub numbers_distinct : AreDistinct order
   numbers_distinct i j n e h = same_Some i j (sym (x.placed i n e) ∙ x.placed j n h)
 
+  -- each index in the order is one of the dense list
   pub numbers_within : (k : ℕ) → Contains order k → k < length numbers
   numbers_within k c =
       let p = place_of order k c in slice_get_within numbers k p.0 (x.placed p.0 k p.1)
 
+  -- the order is no longer than the dense list
   pub numbers_long : length order ≤ length numbers
   numbers_long = fits order (length numbers) numbers_distinct numbers_within
 
@@ -175,6 +178,7 @@ work_left S n order pending =
     (sum_by (weight S) (range_with_len 0 n) - sum_by (weight S) order) + pending
 
 module _ {Sh : Type 0} (S : System Sh ℕ) where
+  -- an index added to the order adds as many looks as it has references
   pub looks_more :
       (order : List ℕ) (id : ℕ) (d : Entry Sh ℕ) → S id ≡ Some d
       → looks S (order ++ id ∷ []) ≡ looks S order + length d.refs
@@ -314,10 +318,12 @@ module _ {Sh : Type 0} (S : System Sh ℕ) where
 -- ---- the walk of a list of roots, root by root
 
 module _ {Sh : Type 0} (S : System Sh ℕ) where
+  -- the empty order extends nothing by no roots
   pub roots_none : (order : List ℕ) → order ≡ [] → IsExtension S [] [] order
   roots_none order e =
       rw e (extends_by_none S [] (λ i j n p q. absurd (none-some n p)))
 
+  -- an extension by the first i roots, extended by the next root, is one by the first i + 1
   pub roots_more :
       (roots order new : List ℕ) (i d : ℕ) → i < length roots
       → IsExtension S [] (take i roots) order
@@ -326,6 +332,7 @@ module _ {Sh : Type 0} (S : System Sh ℕ) where
       subst (λ qs. IsExtension S [] qs new) (sym (take_more roots i d h))
       (extension_composes S [] (take i roots) order (get_or roots i d ∷ []) new x y)
 
+  -- an extension of nothing by all roots is a numbering from them
   pub roots_all :
       (roots order : List ℕ) (i : ℕ) → length roots ≤ i → IsExtension S [] (take i roots) order
       → IsNumbering S roots order
@@ -346,6 +353,7 @@ module _ {Sh : Type 0} (S : System Sh ℕ) where
   reached_root order roots r c m (next p q d h s k u) =
       next p q d (reached_root order roots r c p h) s k (λ z. let w = place_of [] q z in none-some q w.1)
 
+  -- a cause at one of the roots, past an order, is one for all of them, with nothing known
   pub cause_at_root :
       (n : ℕ) (order roots : List ℕ) (r : ℕ) (e : RetainError) → Contains roots r
       → IsCause S n order (r ∷ []) e → IsCause S n [] roots e
