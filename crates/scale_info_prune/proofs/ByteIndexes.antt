@@ -24,6 +24,7 @@ drop_min n xs =
       | inr h ↦ drop_of_length-le xs (omega arith) ∙ sym (drop_of_length-le xs h)
     ]
 
+-- cutting the number of elements to take to the length changes nothing
 pub take_min : {A : Type 0} (n : ℕ) (xs : List A) → take (min n (length xs)) xs ≡ take n xs
 take_min n xs =
     elim (cases_lt n (length xs)) [
@@ -31,6 +32,7 @@ take_min n xs =
       | inr h ↦ take_all (min n (length xs)) xs (omega arith) ∙ sym (take_all n xs h)
     ]
 
+-- a part whose start and length are cut to what there is, is the part from start to stop
 pub part_is :
     {A : Type 0} (refs : List A) (start stop first count : ℕ) → first ≡ min start (length refs)
     → count ≡ min (stop - start) (length (take (length refs - first) (drop first refs)))
@@ -46,6 +48,7 @@ part_is refs start stop first count p q =
 abbrev index_entry : List ℕ → List ℕ → ℕ → ℕ → Entry (Unit {0}) ℕ
 index_entry starts references i start = record { shape = tt; refs = references_from starts references i start }
 
+-- on success, the references of the id's entry in the index now precede the old list
 pub prepended :
     {A E : Type 0} (starts references : List ℕ) (id start stop first count : ℕ) (old new : List ℕ)
     (r : Result A E)
@@ -68,6 +71,7 @@ HasReferencesOf {Sh} {Sh'} S T =
     (i : ℕ) (d : Entry Sh ℕ) → S i ≡ Some d → (e : Entry Sh' ℕ) × (T i ≡ Some e) × (d.refs ≡ e.refs)
 
 module _ {Sh Sh' : Type 0} (S : System Sh ℕ) (T : System Sh' ℕ) (alike : HasReferencesOf S T) where
+  -- a numbering of the first system is one of the second
   pub same_numbering : (R L : List ℕ) → IsNumbering S R L → IsNumbering T R L
   same_numbering R L x = (
     x.0,
@@ -81,6 +85,7 @@ module _ {Sh Sh' : Type 0} (S : System Sh ℕ) (T : System Sh' ℕ) (alike : Has
     },
   )
 
+  -- what is reached in the first system is reached in the second
   pub same_reached : (K R : List ℕ) (n : ℕ) → IsReachedPast S K R n → IsReachedPast T K R n
   same_reached K R n (root m c u) = root m c u
   same_reached K R n (next m k d x s c u) =
@@ -135,6 +140,7 @@ starts_long k [] starts a = ap length a
 starts_long k (x ∷ es) [] a = absurd a
 starts_long k (x ∷ es) (s ∷ ss) a = ap suc (starts_long (k + length (reference_ids x)) es ss a.1)
 
+-- there are as many starts as entries
 pub index_long :
     (types : List PortableType) (starts : List ℕ) → AreStarts 0 types starts
     → length starts ≡ length types

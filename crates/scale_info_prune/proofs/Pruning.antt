@@ -21,6 +21,7 @@ use Rattle.scale_info_prune.specs.TableIndexes.{AppendsKeptTable, IsTableIndex}
 use Rattle.scale_info_prune.specs.declared.prune.PruneError.{PruneError}
 use Rattle.scale_info_prune.specs.declared.prune.PruneError.TheVariants.{Decode, Trailing, NoSuchType, Retain, Encode, Memory}
 
+-- why the input is not found to be one table is also why it is not pruned
 pub table_error : (input given : List ℕ) (e : PruneError) → IsTableError input e → IsPruneError input given e
 table_error input given (Decode decode.Malformed) x = x
 table_error input given (Decode decode.Memory) x = x
@@ -32,9 +33,11 @@ table_error input given Memory x = x
 
 module _ (count : ℕ) (input body offsets starts references : List ℕ)
     (x : IsTableIndex count input body offsets starts references) where
+  -- there are as many starts as the count says
   pub starts_count : length starts ≡ count
   starts_count = index_long x.types starts x.are_starts ∙ x.long
 
+  -- why the index is not numbered is also why the input is not pruned
   pub index_error : (given : List ℕ) (e : PruneError) → IsIndexError count starts references given e → IsPruneError input given e
   index_error given (Decode e) h = absurd h
   index_error given Trailing h = absurd h
@@ -69,10 +72,12 @@ module _ (count : ℕ) (input body offsets starts references : List ℕ)
   zip_long (e ∷ es) [] a = absurd a
   zip_long (e ∷ es) (o ∷ os) a = ap suc (zip_long es os a.1)
 
+  -- the descriptions of the table's entries are at the offsets
   pub has_entries : HasEntriesAt body offsets
   has_entries = record { entries = x.types; at_offsets = x.at_offsets }
 
   module _ (given order numbers : List ℕ) (y : IsIndexNumbering count starts references given order numbers) where
+    -- each index in the order is that of an entry
     pub order_within : All (λ index. index < length offsets) order
     order_within k d h =
         let inside = numbers_within order numbers y.dense (get_or order k d) (Contains-get_or order k d h) in
@@ -82,6 +87,7 @@ module _ (count : ℕ) (input body offsets starts references : List ℕ)
         let e = x.long in
         omega arith
 
+    -- the order has no more than 4294967295 indices
     pub order_few : length order ≤ 4294967295
     order_few =
         let long = numbers_long order numbers y.dense in
@@ -89,6 +95,7 @@ module _ (count : ℕ) (input body offsets starts references : List ℕ)
         let few = y.few in
         omega arith
 
+    -- a kept table of the order, appended, is that of the input pruned to the given ids
     pub is_pruned :
         (old new : List ℕ)
         → ((entries : List PortableType) → AreAtOffsets body entries offsets
@@ -116,6 +123,7 @@ module _ (count : ℕ) (input body offsets starts references : List ℕ)
           appends = k.appends;
         }
 
+    -- a map with the dense list's numbers takes each index of the order to its place, and no other
     pub new_ids_of :
         (new_ids : BTreeMap ℕ ℕ)
         → ((old new : ℕ) → (get nat_cmp new_ids old ≡ Some new)

@@ -23,6 +23,7 @@ table_prefix :
     → (x : IsEntryIndex n b r p s rs) → HasPrefix (EncodesTypes x.at.entries) a r
 table_prefix n a b r p s rs f x = prefix_list EncodesPortableType x.at.entries n a b r x.at.count f x.at.prefix
 
+-- a count, and an index of so many entries with nothing after them, are an index of a table
 pub is_index :
     (n : ℕ) (a b r p s rs : List ℕ) → r ≡ [] → HasPrefix (EncodesCompact n) a b
     → IsEntryIndex n b r p s rs → IsTableIndex n a b p s rs
@@ -39,15 +40,18 @@ is_index n a b r p s rs e f x =
       are_references = x.references;
     }
 
+-- a count and so many entries, with a rest that is not empty, are a table and trailing bytes
 pub has_trailing :
     (n : ℕ) (a b r p s rs : List ℕ) → r ≢ [] → HasPrefix (EncodesCompact n) a b
     → IsEntryIndex n b r p s rs → HasTrailing a
 has_trailing n a b r p s rs more f x =
     record { types = x.at.entries; rest = r; prefix = table_prefix n a b r p s rs f x; more = more }
 
+-- a list whose length is found to be 0 is empty
 pub is_empty : (r : List ℕ) → true ≡ (length r == 0) → r ≡ []
 is_empty r e = nil_from_length r (eqb-true (length r) 0 (sym e))
 
+-- a list whose length is found not to be 0 is not empty
 pub is_not_empty : (r : List ℕ) → false ≡ (length r == 0) → r ≢ []
 is_not_empty r e h =
     let bad : false ≡ (length {A = ℕ} [] == 0) = subst (λ t. false ≡ (length t == 0)) h e in cc
@@ -60,6 +64,7 @@ kept_long entries f k [] kept a = ap length a
 kept_long entries f k (i ∷ is) [] a = absurd a
 kept_long entries f k (i ∷ is) (e ∷ es) a = ap suc (kept_long entries f (k + 1) is es a.1)
 
+-- the count appended, and then the kept entries, are the kept table appended
 pub appends_table :
     (entries : List PortableType) (f : Id → Id) (indices : List ℕ) (n : ℕ) (old mid new : List ℕ)
     → n ≡ length indices → AppendsEncoding (EncodesCompact n) old mid
@@ -77,6 +82,7 @@ appends_table entries f indices n old mid new e p x =
 abbrev pub written_number : List ℕ → Id → ℕ
 written_number numbers symbol = get_or numbers symbol.id symbol.id
 
+-- a pass writes the numbers that a dense list has
 pub written_agrees : (numbers : List ℕ) → Agrees numbers (written_number numbers)
 written_agrees numbers r p e = get_or_from_slice_get numbers r.id p r.id e
 
@@ -100,6 +106,7 @@ kept_at entries numbers k (x ∷ is) (y ∷ ys) a (suc i) n e =
     let later : k + 1 + i ≡ k + suc i = omega arith in
     (r.0, r.1, r.2 ∙ ap (λ j. Some (kept_entry (written_number numbers) j r.0)) later)
 
+-- entries that a pass keeps, with ids from 0 on, are kept with the numbers that it writes
 pub kept_entries :
     (entries : List PortableType) (numbers indices : List ℕ) (kept : List PortableType)
     → AreKeptEntries entries (renumbered numbers) 0 indices kept

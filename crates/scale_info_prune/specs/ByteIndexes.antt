@@ -1,5 +1,6 @@
 -- An index of a table's bytes, as a reference system.
-use Rattle.std.specs.Prelude.{ℕ, ◌+◌, ◌-◌, List, length, drop, take, option_map, slice_get, slice_index_or}
+use Rattle.std.specs.Prelude.{ℕ, ◌+◌, ◌-◌, List, length, drop, take, option_map, slice_get}
+use Rattle.std.specs.Prelude.{slice_index_or}
 use Rattle.scale_info_numberings.specs.Systems.{System}
 
 -- the references of the entry whose first reference has this index: up to those of the next entry

@@ -15,7 +15,9 @@ use Rattle.scale_info_prune.specs.ByteIndexes.{index_system}
 use Rattle.scale_info_prune.specs.Roots.{AreRoots, IsNoSuchType}
 use Rattle.scale_info_prune.specs.TableIndexes.{EncodesTypes, HasTrailing}
 use Rattle.scale_info_prune.specs.declared.prune.PruneError.{PruneError}
-use Rattle.scale_info_prune.specs.declared.prune.PruneError.TheVariants.{Decode, Trailing, NoSuchType, Retain, Encode, Memory}
+use Rattle.scale_info_prune.specs.declared.prune.PruneError.TheVariants.{Decode, Trailing}
+use Rattle.scale_info_prune.specs.declared.prune.PruneError.TheVariants.{NoSuchType, Retain}
+use Rattle.scale_info_prune.specs.declared.prune.PruneError.TheVariants.{Encode, Memory}
 
 -- why the input is not found to be one table
 abbrev pub IsTableError : List ℕ → PruneError → Type 0
@@ -54,8 +56,8 @@ IsPruneError input given (Retain retain.Memory) = ⊥
 IsPruneError input given (Encode e) = ⊥
 IsPruneError input given Memory = Unit {0}
 
--- new is old followed by an encoding of the table of the numbering, in this order, of the table that
--- the input encodes, from the given ids in ascending order, each once
+-- new is old followed by an encoding of the table of the numbering, in this order, of the table
+-- that the input encodes, from the given ids in ascending order, each once
 pub record IsPrunedEncoding (input given order old new : List ℕ) : Type 0 where
   pub types : List PortableType
   pub encodes : EncodesTypes types input
@@ -73,7 +75,8 @@ HasNewIds order new_ids =
     (old new : ℕ) → (get nat_cmp new_ids old ≡ Some new) ↔ (slice_get order new ≡ Some old)
 
 -- a numbering of an index from the given ids, with its dense list
-pub record IsIndexNumbering (count : ℕ) (starts references given order numbers : List ℕ) : Type 0 where
+pub record IsIndexNumbering (count : ℕ)
+    (starts references given order numbers : List ℕ) : Type 0 where
   pub roots : List ℕ
   pub are_roots : AreRoots count given roots
   pub numbering : IsNumbering (index_system starts references) roots order

@@ -35,6 +35,7 @@ joined_more :
     → (more : List A) × (zs ≡ xs ++ more)
 joined_more xs ys zs m n = (m.0 ++ n.0, n.1 ∙ ap (λ ws. ws ++ n.0) m.1 ∙ append_assoc xs m.0 n.0)
 
+-- two registrations, one after the other, are one of the roots of both, in order
 pub registrations_compose :
     (S : System Shape Term) (a b c : Registered) (R Q : List Term) → IsRegistration S a R b → IsRegistration S b Q c → IsRegistration S a (R ++ Q) c
 registrations_compose S a b c R Q x y =
@@ -59,6 +60,7 @@ registrations_compose S a b c R Q x y =
           ];
     }
 
+-- what is converted in a registry is still so after one more registration
 pub converted_stays :
     {X O : Type 0} (replaced : X → List ℕ → O → Type 0) (S : System Shape Term) (b c : Registered) (roots Q : List Term) (value : X) (output : O)
     → IsRegistration S b Q c → IsConverted replaced roots b value output → IsConverted replaced roots c value output
@@ -73,6 +75,7 @@ zip_push P [] (b ∷ ys) x y z p = absurd z
 zip_push P (a ∷ xs) [] x y z p = absurd z
 zip_push P (a ∷ xs) (b ∷ ys) x y z p = (z.0, zip_push P xs ys x y z.1 p)
 
+-- where an element is appended, its list is appended to the joined lists
 pub flat_map_push :
     {X A : Type 0} (f : X → List A) (xs : List X) (x : X) → flat_map f (xs ++ x ∷ []) ≡ flat_map f xs ++ f x
 flat_map_push f xs x = flat_map-append f xs (x ∷ []) ∙ ap (λ ys. flat_map f xs ++ ys) (append-nil (f x))
@@ -127,13 +130,14 @@ cause_before S a b done Q all e x f g = by e
       c.3,
     )
 
--- what the iterator of a vector has given is a front of its items
+-- what the iterator of a vector has given is a prefix of its items
 pub taken_front :
     {X A : Type 0} (s : IntoIter X A) (xs : List X) (t : IntoIter X A) → Yields into_iter_steps s xs t
     → into_iter_items s ≡ xs ++ into_iter_items t
 taken_front s [] t y = ap into_iter_items y
 taken_front s (x ∷ xs) t y = y.1.0 ∙ ap (λ ys. x ∷ ys) (taken_front y.0 xs t y.2)
 
+-- the roots of the values so far, and those of the next value, are among the roots of all
 pub roots_so_far : {X : Type 0} (f : X → List Term) (all xs rest : List X) (x : X) → all ≡ xs ++ x ∷ rest
     → ((n : Term) → Contains (flat_map f xs) n → Contains (flat_map f all) n) × ((n : Term) → Contains (f x) n → Contains (flat_map f all) n)
 roots_so_far f all xs rest x e =
@@ -142,6 +146,7 @@ roots_so_far f all xs rest x e =
       (λ n k. subst (λ (ys : List Term). Contains ys n) (sym same) (Contains-append_right (flat_map f xs) (f x ++ flat_map f rest) n (Contains-append_left (f x) (flat_map f rest) n k))),
     )
 
+-- a registration over a system is one over each system that grows it
 pub registration_grows :
     (S T : System Shape Term) (a b : Registered) (R : List Term) → Grows S T → IsRegistration S a R b
     → IsRegistration T a R b
@@ -153,6 +158,7 @@ registration_grows S T a b R g x =
       entries = λ i n h e. let k = x.entries i n h e in (k.0, k.1, g n k.0 k.2, k.3, k.4, k.5);
     }
 
+-- two registrations, the second over a grown system, are one over that system
 pub registrations_compose_grown :
     (S T : System Shape Term) (a b c : Registered) (R Q : List Term) → Grows S T → IsRegistration S a R b → IsRegistration T b Q c → IsRegistration T a (R ++ Q) c
 registrations_compose_grown S T a b c R Q g x y = registrations_compose T a b c R Q (registration_grows S T a b R g x) y
@@ -168,6 +174,7 @@ length_map : {A B : Type 0} (f : A → B) (xs : List A) → length (map f xs) �
 length_map f [] = refl
 length_map f (x ∷ xs) = let r = length_map f xs in omega arith
 
+-- a registration in an empty registry gives a numbering from the roots, and its table
 pub registered_afresh :
     (S : System Shape Term) (R : List Term) (r : Registered) → IsRegistration S (registered [] []) R r → length r.types ≡ length r.identities
     → IsNumbering S R (nodes_of r.identities) × IsTable S (nodes_of r.identities) (map portable_entry r.types)
@@ -191,6 +198,7 @@ symbols_are_indices L r (ty ∷ tys) (s ∷ symbols) e z =
     let k = subst (λ ids. ArePlaces (nodes_of r.identities) (type_term ty ∷ []) ids) z.0.2 z.0.1 in
     (subst (λ (M : List Term). slice_get M s.id ≡ Some (type_term ty)) (sym e) k.0, symbols_are_indices L r tys symbols e z.1)
 
+-- the roots of types, each with its own term alone, are the types' terms, in order
 pub roots_alone : (tys : List MetaType) → flat_map (λ ty. type_term ty ∷ []) tys ≡ map type_term tys
 roots_alone [] = refl
 roots_alone (ty ∷ tys) = ap (λ ns. type_term ty ∷ ns) (roots_alone tys)

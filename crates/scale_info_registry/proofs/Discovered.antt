@@ -26,6 +26,7 @@ use Rattle.scale_info_registry.proofs.Walking.{IsWalking, walk_adds, walk_meets,
 use Rattle.scale_info_registry.proofs.Walking.{kept_below, distinct_push}
 use Rattle.scale_info_registry.proofs.Weights.{work_left, adds_less}
 
+-- the terms on a stack are that of its top, then those of the rest
 pub stacked_pop : (ss : List (Bor MetaType)) (r : Bor MetaType) → stacked (ss ++ r ∷ []) ≡ type_term r.now ∷ stacked ss
 stacked_pop ss r = ap (map (λ (r : Bor MetaType). type_term r.now)) (reverse-append ss (r ∷ []))
 
@@ -34,6 +35,7 @@ map_targets :
 map_targets [] = refl
 map_targets (r ∷ found) = ap (λ xs. type_term r.now ∷ xs) (map_targets found)
 
+-- where a description's references are pushed, their terms come first, then those pending
 pub stacked_more :
     (all found pending : List (Bor MetaType)) (d : MetaDescription) → reverse all ≡ found ++ reverse pending → targets found ≡ references d
     → stacked all ≡ (entry_of d).refs ++ stacked pending
@@ -41,6 +43,7 @@ stacked_more all found pending d e s =
     ap (map (λ (r : Bor MetaType). type_term r.now)) e ∙ map-append (λ (r : Bor MetaType). type_term r.now) found (reverse pending)
     ∙ ap (λ xs. xs ++ stacked pending) (map_targets found ∙ ap roots_of s)
 
+-- where a description's references are pushed, the stack grows by their number
 pub length_more :
     (all found pending : List (Bor MetaType)) (d : MetaDescription) → reverse all ≡ found ++ reverse pending → targets found ≡ references d
     → length all ≡ length (entry_of d).refs + length pending
@@ -55,21 +58,25 @@ length_more all found pending d e s =
     length-stacked : (ss : List (Bor MetaType)) → length (stacked ss) ≡ length ss
     length-stacked ss = length_map (λ (r : Bor MetaType). type_term r.now) (reverse ss) ∙ length-reverse ss
 
+-- where an identity is appended, its term is the last
 pub nodes_push :
     (ids more : List TypeId) (id : TypeId) → more ≡ ids ++ id ∷ [] → nodes_of more ≡ nodes_of ids ++ term_of id ∷ []
 nodes_push ids more id e = ap nodes_of e ∙ map-append term_of ids (id ∷ [])
 
+-- an unknown identity is appended, where an equal copy of it is appended if unknown
 pub pushed_one :
     (ids more : List TypeId) (copy id : TypeId) → copy ≡ id → ¬ (IsKnown equals.eq ids id)
     → (¬ (IsKnown equals.eq ids copy) → more ≡ ids ++ copy ∷ []) → more ≡ ids ++ id ∷ []
 pushed_one ids more copy id e u f =
     subst (λ i. (¬ (IsKnown equals.eq ids i) → more ≡ ids ++ i ∷ []) → more ≡ ids ++ id ∷ []) (sym e) (λ g. g u) f
 
+-- identities that begin with earlier ones still do, once one more is appended
 pub kept_more :
     (before ids new : List TypeId) (id : TypeId) → (more : List TypeId) × (ids ≡ before ++ more)
     → new ≡ ids ++ id ∷ [] → (more : List TypeId) × (new ≡ before ++ more)
 kept_more before ids new id m e = (m.0 ++ id ∷ [], e ∙ ap (λ xs. xs ++ id ∷ []) m.1 ∙ append_assoc before m.0 (id ∷ []))
 
+-- if a value would make the flag true, and the flag is false, there is no value
 pub not_some : {A : Type 0} (o : Option A) (b : Bool) → (IsSome o → b ≡ true) → b ≡ false → IsSome o → ⊥
 not_some o b f e s = false≢true (sym e ∙ f s)
 
@@ -84,6 +91,7 @@ module _ (c : Catalogue) (before : List TypeId) (roots : List (Bor MetaType)) wh
   shown ids pending ss r p x =
       subst (λ xs. IsWalking (system_of c) (nodes_of before) (stacked roots) (nodes_of ids) xs) (ap stacked p ∙ stacked_pop ss r) x
 
+  -- a type on top of the stack whose identity is known is passed over
   pub passes :
       (ids : List TypeId) (pending ss : List (Bor MetaType)) (r : Bor MetaType) (id : TypeId)
       → pending ≡ ss ++ r ∷ [] → id ≡ r.now.identity
@@ -97,6 +105,7 @@ module _ (c : Catalogue) (before : List TypeId) (roots : List (Bor MetaType)) wh
       → ¬ (Contains (nodes_of ids) (type_term r.now))
   fresh ids r id e u k = u ((known ids id).1 (subst (λ i. Contains (nodes_of ids) (term_of i)) (sym e) k))
 
+  -- a type on top of the stack whose identity is not known is reached from the roots
   pub meets :
       (ids : List TypeId) (pending ss : List (Bor MetaType)) (r : Bor MetaType) (id : TypeId)
       → pending ≡ ss ++ r ∷ [] → id ≡ r.now.identity
@@ -106,6 +115,7 @@ module _ (c : Catalogue) (before : List TypeId) (roots : List (Bor MetaType)) wh
       subst (λ i. IsReachedPast (system_of c) (nodes_of before) (stacked roots) (term_of i)) (sym e)
       (walk_meets (system_of c) (nodes_of before) (stacked roots) (nodes_of ids) (stacked ss) (type_term r.now) (fresh ids r id e u) (shown ids pending ss r p x))
 
+  -- an unknown identity is appended, and what its description refers to is pushed
   pub adds :
       (ids more : List TypeId) (pending ss all found : List (Bor MetaType)) (r : Bor MetaType) (id : TypeId) (d : MetaDescription)
       → pending ≡ ss ++ r ∷ [] → id ≡ r.now.identity → ¬ (IsKnown equals.eq ids id)
@@ -121,6 +131,7 @@ module _ (c : Catalogue) (before : List TypeId) (roots : List (Bor MetaType)) wh
       (subst (λ xs. IsWalking (system_of c) (nodes_of before) (stacked roots) xs ((entry_of d).refs ++ stacked ss))
       (sym (nodes_push ids more id m ∙ ap (λ i. nodes_of ids ++ term_of i ∷ []) e)) y)
 
+  -- appending an identity and pushing what its description refers to leaves less work
   pub shrinks :
       (ids more : List TypeId) (pending ss all found : List (Bor MetaType)) (r : Bor MetaType) (id : TypeId) (d : MetaDescription)
       → pending ≡ ss ++ r ∷ [] → described c (term_of id) ≡ Some d → more ≡ ids ++ id ∷ []
@@ -135,6 +146,7 @@ module _ (c : Catalogue) (before : List TypeId) (roots : List (Bor MetaType)) wh
       (subst (λ n. work_left c (nodes_of more) n < work_left c (nodes_of ids) (suc (length ss))) (sym (length_more all found ss d a f))
       (subst (λ xs. work_left c xs (length (entry_of d).refs + length ss) < work_left c (nodes_of ids) (suc (length ss))) (sym grown) less))
 
+  -- with nothing on the stack, the identities extend the earlier ones by the roots
   pub ends :
       (ids : List TypeId) (pending : List (Bor MetaType)) → pending ≡ [] → Walking ids pending
       → IsExtension (system_of c) (nodes_of before) (stacked roots) (nodes_of ids)

@@ -34,6 +34,7 @@ use Rattle.scale_info_registry.proofs.Numbered.{index_is}
 use Rattle.scale_info_references.proofs.Replaced.{shape_stays, ids_replaced}
 use Rattle.scale_info_registry.proofs.Terms.{known_by_term, known}
 
+-- the term of an identity has the index that the identity has
 pub at_node :
     (ids : List TypeId) (i : ℕ) (id : TypeId) → slice_get ids i ≡ Some id
     → slice_get (nodes_of ids) i ≡ Some (term_of id)
@@ -41,6 +42,7 @@ at_node [] i id e = absurd (none-some id e)
 at_node (x ∷ ids) zero id e = ap Some (ap term_of (same_Some x id e))
 at_node (x ∷ ids) (suc i) id e = at_node ids i id e
 
+-- each term is that of the identity at its index
 pub from_node :
     (ids : List TypeId) (i : ℕ) (n : Term) → slice_get (nodes_of ids) i ≡ Some n
     → (id : TypeId) × (slice_get ids i ≡ Some id) × (term_of id ≡ n)
@@ -48,10 +50,12 @@ from_node [] i n e = absurd (none-some n e)
 from_node (x ∷ ids) zero n e = (x, refl, same_Some (term_of x) n e)
 from_node (x ∷ ids) (suc i) n e = from_node ids i n e
 
+-- there are as many terms as identities
 pub length_nodes : (ids : List TypeId) → length (nodes_of ids) ≡ length ids
 length_nodes [] = refl
 length_nodes (x ∷ ids) = let r = length_nodes ids in omega arith
 
+-- distinct identities have distinct terms
 pub distinct_nodes : (ids : List TypeId) → interned.AreDistinctBy equals.eq ids → AreDistinct (nodes_of ids)
 distinct_nodes ids distinct i j n e h =
     let a = from_node ids i n e in
@@ -62,6 +66,7 @@ some_inside : {A B : Type 0} (f : A → B) (o : Option A) (b : B) → option_map
 some_inside f None b e = absurd (none-some b e)
 some_inside f (Some a) b e = (a, refl)
 
+-- each identity that an extension adds has a description in the catalogue
 pub all_described :
     (c : Catalogue) (old new : List TypeId) (roots : List Term) (from : ℕ) → from ≡ length old → IsExtension (system_of c) (nodes_of old) roots (nodes_of new)
     → (i : ℕ) (id : TypeId) → from ≤ i → slice_get new i ≡ Some id
@@ -71,6 +76,7 @@ all_described c old new roots from f x i id h e =
     let d = x.1.nodes i (term_of id) (omega arith) (at_node new i id e) in
     some_inside entry_of (described c (term_of id)) d.0 d.1
 
+-- descriptions, and that of the next identity, are those of their identities
 pub described_more :
     (c : Catalogue) (ids : List TypeId) (from : ℕ) (types : List portable.Description) (id : TypeId) (d : MetaDescription) (ty : portable.Description)
     → slice_get ids (length types) ≡ Some id → described c (term_of id) ≡ Some d
@@ -97,6 +103,7 @@ places ids (r ∷ rs) f = (
   places ids rs (λ n k. f n (contains_tail (type_term r) (roots_of rs) n k)),
 )
 
+-- an extension that keeps what was there, with its new identities described, is a registration
 pub is_registration :
     (c : Catalogue) (old new : List TypeId) (roots : List Term) (before after : List portable.Description)
     → length before ≡ length old → length after ≡ length new
@@ -170,6 +177,7 @@ cut_back old new cut k m l e = e ∙ (λ i. take (l i) (m.1 i)) ∙ take_at old 
     take_at [] ys = refl
     take_at (x ∷ xs) ys = ap (λ zs. x ∷ zs) (take_at xs ys)
 
+-- a closed registry that has grown is closed once it is cut back to its old length
 pub cut_closed :
     (ids new_ids cut_ids : List TypeId) (types new_types cut_types : List portable.Description) (k : ℕ) → k ≡ length types → IsClosed (registered ids types)
     → (more : List TypeId) × (new_ids ≡ ids ++ more) → (more : List portable.Description) × (new_types ≡ types ++ more)
@@ -236,11 +244,13 @@ root_indices S old new rs x =
     let p = walk_members (nodes_of new.identities) x.nodes.0 (roots_of rs) (length (nodes_of old.identities)) (length (nodes_of new.identities)) x.nodes.1.from_roots n k in
     contains_at (nodes_of new.identities) n p.0 p.1)
 
+-- a registration keeps what was there
 pub keeps :
     (S : System Shape Term) (old new : Registered) (roots : List Term) → IsRegistration S old roots new
     → Keeps old new
 keeps S old new roots x = (x.identities, x.types)
 
+-- a registry that stays the same keeps what was there
 pub keeps_itself : (old new : Registered) → new ≡ old → Keeps old new
 keeps_itself old new e =
     subst (λ r. Keeps old r) (sym e) (([], sym (append-nil old.identities)), ([], sym (append-nil old.types)))

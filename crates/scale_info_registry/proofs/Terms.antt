@@ -20,6 +20,7 @@ known_by_term (x ∷ ids) id zero = (
 )
 known_by_term (x ∷ ids) id (suc i) = known_by_term ids id i
 
+-- an identity is known exactly if its term is one of the known identities' terms
 pub known : (ids : List TypeId) (id : TypeId) → IsKnown equals.eq ids id ↔ Contains (map term_of ids) (term_of id)
 known ids id = (
   (λ h. contains_at (map term_of ids) (term_of id) h.0 ((known_by_term ids id h.0).0 h.1)),

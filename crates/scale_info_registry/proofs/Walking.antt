@@ -11,6 +11,7 @@ use Rattle.scale_info_numberings.specs.Extensions.{IsExtension}
 use Rattle.scale_info_numberings.proofs.Places.{place_of, contains_at, contains_head, contains_tail, from_left, at_seam}
 use Rattle.scale_info_numberings.proofs.FirstReference.{extension_unfolds, extends_by_none}
 
+-- distinct elements, and one more that is none of them, are distinct
 pub distinct_push : {N : Type 0} (L : List N) (n : N) → AreDistinct L → ¬ (Contains L n) → AreDistinct (L ++ n ∷ [])
 distinct_push {N} L n distinct new i j m e h =
     let push : length (L ++ n ∷ []) ≡ length L + 1 = length_push L n in
@@ -42,10 +43,12 @@ pub record IsWalking {Sh N : Type 0} (S : System Sh N) (old roots order pending 
   pub reached : (n : N) → Contains pending n → ¬ (Contains old n) → IsReachedPast S old roots n
 
 module _ {Sh N : Type 0} (S : System Sh N) (old roots : List N) where
+  -- a walk starts with what is known, and the roots pending
   pub walk_starts : AreDistinct old → IsWalking S old roots old roots
   walk_starts distinct =
       record { distinct = distinct; then = λ M x. x; grown = λ n c. c; held = λ n c. inl c; reached = λ n c u. root n c u }
 
+  -- a pending node that is in the order is passed over
   pub walk_passes :
       (order rest : List N) (n : N) → Contains order n → IsWalking S old roots order (n ∷ rest)
       → IsWalking S old roots order rest
@@ -64,6 +67,7 @@ module _ {Sh N : Type 0} (S : System Sh N) (old roots : List N) where
       → IsReachedPast S old roots n
   walk_meets order rest n fresh x = x.reached n (contains_head n rest) (λ g. fresh (x.grown n g))
 
+  -- with the node that is met added, each node in the order was known or is reached
   pub kept_below :
       (order rest : List N) (n : N) → ¬ (Contains order n) → IsWalking S old roots order (n ∷ rest)
       → (m : N) → Contains (order ++ n ∷ []) m → Contains old m ⊎ IsReachedPast S old roots m
@@ -80,6 +84,7 @@ module _ {Sh N : Type 0} (S : System Sh N) (old roots : List N) where
       only n m zero e = same_Some n m e
       only n m (suc i) e = absurd (none-some m e)
 
+  -- a pending node of the system that is not in the order is added, and its references come first
   pub walk_adds :
       (order rest : List N) (n : N) (d : Entry Sh N) → ¬ (Contains order n) → S n ≡ Some d → IsWalking S old roots order (n ∷ rest)
       → IsWalking S old roots (order ++ n ∷ []) (d.refs ++ rest)
@@ -96,5 +101,6 @@ module _ {Sh N : Type 0} (S : System Sh N) (old roots : List N) where
             ];
       }
 
+  -- with nothing pending, the order extends what is known by the roots
   pub walk_ends : (order : List N) → IsWalking S old roots order [] → IsExtension S old roots order
   walk_ends order x = x.then order (extends_by_none S order x.distinct)

@@ -25,6 +25,7 @@ abbrev pub weight_in : {Sh N : Type 0} → Option (Entry Sh N) → ℕ
 weight_in None = 0
 weight_in (Some d) = length d.refs + 1
 
+-- what a node weighs in a system
 abbrev pub weight : {Sh N : Type 0} → System Sh N → N → ℕ
 weight S n = weight_in (S n)
 
@@ -34,6 +35,7 @@ without i [] = []
 without zero (x ∷ xs) = xs
 without (suc i) (x ∷ xs) = x ∷ without i xs
 
+-- without the element at i, each element at another place is still in the list
 pub kept_without :
     {N : Type 0} (i j : ℕ) (xs : List N) (n : N) → (i ≡ j → ⊥) → slice_get xs j ≡ Some n
     → (k : ℕ) × (slice_get (without i xs) k ≡ Some n)
@@ -107,6 +109,7 @@ looked_up :
 looked_up [] t d e = absurd (none-some d e)
 looked_up (p ∷ es) t d e = looked_at p es t d (is_at (ghosts.cmp (identity_of t)) p.0) refl e (λ f. looked_up es t d f)
 
+-- a term weighs nothing, or it is one of the catalogue's
 pub light_or_in : (c : Catalogue) (t : Term) → (weight (system_of c) t ≡ 0) ⊎ Contains (terms_in c) t
 light_or_in c t = by (described c t) refl
   where
@@ -118,6 +121,7 @@ light_or_in c t = by (described c t) refl
 abbrev pub work_left : Catalogue → List Term → ℕ → ℕ
 work_left c order pending = (sum_by (weight (system_of c)) (terms_in c) - sum_by (weight (system_of c)) order) + pending
 
+-- numbering a pending term leaves less work, though its references become pending
 pub adds_less :
     (c : Catalogue) (order : List Term) (n : Term) (d : Entry Shape Term) (rest : ℕ) → AreDistinct (order ++ n ∷ []) → system_of c n ≡ Some d
     → work_left c (order ++ n ∷ []) (length d.refs + rest) < work_left c order (suc rest)

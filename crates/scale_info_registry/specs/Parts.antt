@@ -7,7 +7,8 @@ use Rattle.scale_info_references.specs.Conversions.{symbol, with_ids}
 use Rattle.scale_info_types.specs.Portable as portable
 use Rattle.scale_info_types.specs.References.{field_references}
 use Rattle.scale_info_types.specs.MetaDescriptions.{MetaDescription}
-use Rattle.scale_info_types.specs.Shapes.{map_definition, map_field, map_parameter, map_path, map_variant}
+use Rattle.scale_info_types.specs.Shapes.{map_definition, map_field, map_parameter, map_path}
+use Rattle.scale_info_types.specs.Shapes.{map_variant}
 use Rattle.scale_info_types.specs.declared.form.MetaForm.{MetaForm}
 use Rattle.scale_info_types.specs.declared.meta_type.MetaType.{MetaType}
 use Rattle.scale_info_types.specs.declared.ty.TypeDef.{TypeDef}

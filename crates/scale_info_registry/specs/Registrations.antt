@@ -19,7 +19,11 @@ use Rattle.scale_info_types.specs.Catalogues.{described}
 use Rattle.scale_info_types.specs.MetaDescriptions.{MetaDescription, type_term}
 use Rattle.scale_info_types.specs.declared.meta_type.descriptions.Catalogue.{Catalogue}
 use Rattle.scale_info_registry.specs.declared.registry.discovery.RegisterError.{RegisterError}
-use Rattle.scale_info_registry.specs.declared.registry.discovery.RegisterError.TheVariants.{Undescribed, Full, Memory}
+use Rattle.scale_info_registry.specs.declared.registry.discovery.RegisterError.TheVariants.{
+  Undescribed,
+  Full,
+  Memory,
+}
 
 -- the terms of identities, in order
 abbrev pub nodes_of : List TypeId → List Term
@@ -80,7 +84,8 @@ pub record IsRegistration (S : System Shape Term) (old : Registered) (roots : Li
   pub identities : (more : List TypeId) × (new.identities ≡ old.identities ++ more)
   pub types : (more : List portable.Description) × (new.types ≡ old.types ++ more)
   pub entries :
-      (i : ℕ) (n : Term) → length old.identities ≤ i → slice_get (nodes_of new.identities) i ≡ Some n
+      (i : ℕ) (n : Term)
+      → length old.identities ≤ i → slice_get (nodes_of new.identities) i ≡ Some n
       → (d : Entry Shape Term) × (ty : portable.Description)
       × (S n ≡ Some d) × (slice_get new.types i ≡ Some ty)
       × (shape (λ bytes. bytes) ty ≡ d.shape)
@@ -127,8 +132,8 @@ pub record Step : Type 0 where
   pub roots : List Term
   pub registry : Registered
 
--- after the first registration each one's catalogue holds the one before unchanged, and its registry
--- is the one before after a registration of its roots
+-- after the first registration each one's catalogue holds the one before unchanged, and its
+-- registry is the one before after a registration of its roots
 abbrev pub AreSteps : Step → List Step → Type 0
 AreSteps x [] = ⊤
 AreSteps x (y ∷ ys) =

@@ -24,6 +24,7 @@ use Rattle.scale_info_walk.specs.Pruned.{IsPruned}
 use Rattle.scale_info_walk.specs.TypeSystems.{entry_of, ids_in, types_system}
 use Rattle.scale_info_walk.specs.Walks.{AreNumbers}
 
+-- kept entries, and the entry at index k with the next id, are the kept ones of one index more
 pub kept_more :
     (types : List PortableType) (order : List ℕ) (f : Id → ℕ) (kept : List PortableType) (k : ℕ)
     (old new : PortableType)
@@ -101,6 +102,7 @@ module _ (types : List PortableType) (roots order numbers : List ℕ) (f : Id �
       let exact = reached_exactly (types_system types) roots order numbering in
       (exact r).1 (next n r (entry_of old) ((exact n).0 c) (ap (option_map entry_of) s) h (λ z. let p = place_of [] r z in none-some r p.1))
 
+  -- the kept entries are the table of the numbering
   pub kept_table : IsTable (types_system types) order (map entry_of kept)
   kept_table =
       record {
@@ -120,6 +122,7 @@ module _ (types : List PortableType) (roots order numbers : List ℕ) (f : Id �
             );
       }
 
+  -- each kept entry has its new index as id
   pub kept_ids : (i : ℕ) (entry : PortableType) → slice_get kept i ≡ Some entry → entry.id ≡ i
   kept_ids i entry e =
       let within = slice_get_within kept i entry e in
@@ -128,6 +131,7 @@ module _ (types : List PortableType) (roots order numbers : List ℕ) (f : Id �
       let r = x.1 i n.0 n.1 in
       ap (λ (t : PortableType). t.id) (same_Some entry (kept_entry f i r.0) (sym e ∙ r.2))
 
+  -- a map with the dense list's numbers takes each index of the order to its place, and no other
   pub kept_indices :
       (new_ids : BTreeMap ℕ ℕ) → length order ≤ 4294967295
       → ((old new : ℕ) → (get nat_cmp new_ids old ≡ Some new)
@@ -140,6 +144,7 @@ module _ (types : List PortableType) (roots order numbers : List ℕ) (f : Id �
         (m old new).1 (dense.placed new old e, λ same. omega arith)),
   )
 
+  -- the kept entries, with such a map, are the table pruned from the roots
   pub is_pruned :
       (new_ids : BTreeMap ℕ ℕ) → length order ≤ 4294967295
       → ((old new : ℕ) → (get nat_cmp new_ids old ≡ Some new)
@@ -173,6 +178,7 @@ HasNumbers numbers n m =
     (old new : ℕ) → (get nat_cmp m old ≡ Some new)
     ↔ ((old < n) × (slice_get numbers old ≡ Some new) × (new ≢ 4294967295))
 
+-- a map with the numbers of the indices below n has those below n + 1, if index n has none
 pub map_skips :
     (numbers : List ℕ) (n : ℕ) (m : BTreeMap ℕ ℕ) → HasNumbers numbers n m
     → slice_get numbers n ≡ Some 4294967295 → HasNumbers numbers (n + 1) m
@@ -189,6 +195,7 @@ map_skips numbers n m x e old new = (
       ]),
 )
 
+-- a map with the numbers below n has those below n + 1, once it takes index n to its number
 pub map_adds :
     (numbers : List ℕ) (n v : ℕ) (m after : BTreeMap ℕ ℕ) → HasNumbers numbers n m
     → slice_get numbers n ≡ Some v → v ≢ 4294967295 → Updates nat_cmp m after n (Some v)
@@ -213,6 +220,7 @@ map_adds numbers n v m after x e some u old new =
           )
     ]
 
+-- where n is past the last index, the map has the numbers of all indices, and no other keys
 pub map_all :
     (numbers : List ℕ) (n : ℕ) (m : BTreeMap ℕ ℕ) → length numbers ≤ n → HasNumbers numbers n m
     → (old new : ℕ) → (get nat_cmp m old ≡ Some new)

@@ -25,12 +25,14 @@ use Rattle.scale_info_walk.specs.declared.walk.RetainError.TheVariants.{Dangling
 
 -- ---- the references that are left
 
+-- where r is the next reference, the list is r and those left, and one more is counted
 pub next_some :
     (xs left : List ℕ) (r before after : ℕ) → IsNextOf xs (Some r) left before after
     → (xs ≡ r ∷ left) × (after ≡ before + 1)
 next_some [] left r before after h = absurd (none-some r (sym h.0))
 next_some (x ∷ xs) left r before after h = ((λ i. same_Some x r (sym h.0) i ∷ sym h.1 i), h.2)
 
+-- where there is no next reference, the list is empty, and nothing more is counted
 pub next_none :
     (xs left : List ℕ) (before after : ℕ) → IsNextOf xs None left before after
     → (xs ≡ []) × (left ≡ []) × (after ≡ before)
@@ -67,13 +69,16 @@ fits L n distinct all =
     omega arith
 
 module _ (order numbers : List ℕ) (x : AreNumbers order numbers) where
+  -- no index stands in the order twice
   pub numbers_distinct : AreDistinct order
   numbers_distinct i j n e h = same_Some i j (sym (x.placed i n e) ∙ x.placed j n h)
 
+  -- each index in the order is one of the dense list
   pub numbers_within : (k : ℕ) → Contains order k → k < length numbers
   numbers_within k c =
       let p = place_of order k c in slice_get_within numbers k p.0 (x.placed p.0 k p.1)
 
+  -- the order is no longer than the dense list
   pub numbers_long : length order ≤ length numbers
   numbers_long = fits order (length numbers) numbers_distinct numbers_within
 
@@ -99,6 +104,7 @@ set_at xs i v h =
     let l = length-set xs i v in
     slice_get-get_or (set xs i v) i v (omega arith) ∙ ap Some (get_or-set_same xs i v v h)
 
+-- setting the element at one place leaves those at other places as they were
 pub set_other :
     {A : Type 0} (xs : List A) (i j : ℕ) (v : A) → j ≢ i
     → slice_get (set xs i v) j ≡ slice_get xs j
@@ -111,6 +117,7 @@ set_other xs i j v ne =
       | inr h ↦ slice_get_past (set xs i v) j (omega arith) ∙ sym (slice_get_past xs j h)
     ]
 
+-- two natural numbers are equal, or they are not
 pub same_or_not : (i j : ℕ) → (i ≡ j) ⊎ (i ≢ j)
 same_or_not i j =
     elim (cases_lt i j) [
@@ -171,6 +178,7 @@ work_left S n order pending =
     (sum_by (weight S) (range_with_len 0 n) - sum_by (weight S) order) + pending
 
 module _ {Sh : Type 0} (S : System Sh ℕ) where
+  -- an index added to the order adds as many looks as it has references
   pub looks_more :
       (order : List ℕ) (id : ℕ) (d : Entry Sh ℕ) → S id ≡ Some d
       → looks S (order ++ id ∷ []) ≡ looks S order + length d.refs
@@ -310,10 +318,12 @@ module _ {Sh : Type 0} (S : System Sh ℕ) where
 -- ---- the walk of a list of roots, root by root
 
 module _ {Sh : Type 0} (S : System Sh ℕ) where
+  -- the empty order extends nothing by no roots
   pub roots_none : (order : List ℕ) → order ≡ [] → IsExtension S [] [] order
   roots_none order e =
       rw e (extends_by_none S [] (λ i j n p q. absurd (none-some n p)))
 
+  -- an extension by the first i roots, extended by the next root, is one by the first i + 1
   pub roots_more :
       (roots order new : List ℕ) (i d : ℕ) → i < length roots
       → IsExtension S [] (take i roots) order
@@ -322,6 +332,7 @@ module _ {Sh : Type 0} (S : System Sh ℕ) where
       subst (λ qs. IsExtension S [] qs new) (sym (take_more roots i d h))
       (extension_composes S [] (take i roots) order (get_or roots i d ∷ []) new x y)
 
+  -- an extension of nothing by all roots is a numbering from them
   pub roots_all :
       (roots order : List ℕ) (i : ℕ) → length roots ≤ i → IsExtension S [] (take i roots) order
       → IsNumbering S roots order
@@ -342,6 +353,7 @@ module _ {Sh : Type 0} (S : System Sh ℕ) where
   reached_root order roots r c m (next p q d h s k u) =
       next p q d (reached_root order roots r c p h) s k (λ z. let w = place_of [] q z in none-some q w.1)
 
+  -- a cause at one of the roots, past an order, is one for all of them, with nothing known
   pub cause_at_root :
       (n : ℕ) (order roots : List ℕ) (r : ℕ) (e : RetainError) → Contains roots r
       → IsCause S n order (r ∷ []) e → IsCause S n [] roots e

@@ -11,6 +11,7 @@ abbrev pub weight_in : {Sh N : Type 0} → Option (Entry Sh N) → ℕ
 weight_in None = 0
 weight_in (Some d) = length d.refs + 1
 
+-- what a node weighs in a system
 abbrev pub weight : {Sh N : Type 0} → System Sh N → N → ℕ
 weight S n = weight_in (S n)
 
@@ -20,6 +21,7 @@ without i [] = []
 without zero (x ∷ xs) = xs
 without (suc i) (x ∷ xs) = x ∷ without i xs
 
+-- without the element at i, each element at another place is still in the list
 pub kept_without : {N : Type 0} (i j : ℕ) (xs : List N) (n : N) → (i ≡ j → ⊥) → slice_get xs j ≡ Some n → (k : ℕ) × (slice_get (without i xs) k ≡ Some n)
 unfolding without
 kept_without i j [] n ne e = absurd (none-some n e)

@@ -1,6 +1,6 @@
 -- Tables that keep what some of their entries reach.
-use Rattle.std.specs.Prelude.{◌≡◌, ◌↔◌, ℕ, zero, suc, ◌<◌, ◌≤◌, List, [], ◌∷◌, ◌++◌, Bool, Some, cond, length, map}
-use Rattle.std.specs.Prelude.{slice_get, ⊤}
+use Rattle.std.specs.Prelude.{◌≡◌, ◌↔◌, ℕ, zero, suc, ◌<◌, ◌≤◌, List, [], ◌∷◌, ◌++◌, Bool}
+use Rattle.std.specs.Prelude.{Some, cond, length, map, slice_get, ⊤}
 use Rattle.std.specs.BTreeMap.{BTreeMap, get}
 use Rattle.std.specs.Ordering.{nat_cmp}
 use Rattle.scale_info_types.specs.declared.ty.PortableType.{PortableType}
@@ -9,7 +9,8 @@ use Rattle.scale_info_numberings.specs.Systems.{IsReached}
 use Rattle.scale_info_numberings.specs.Tables.{IsTable}
 use Rattle.scale_info_walk.specs.TypeSystems.{entry_of, types_system}
 use Rattle.scale_info_walk.specs.declared.walk.RetainError.{RetainError}
-use Rattle.scale_info_walk.specs.declared.walk.RetainError.TheVariants.{Dangling, TooManyTypes, Memory}
+use Rattle.scale_info_walk.specs.declared.walk.RetainError.TheVariants.{Dangling, TooManyTypes}
+use Rattle.scale_info_walk.specs.declared.walk.RetainError.TheVariants.{Memory}
 
 -- A filter that is asked once for each id below n, from 0 up: it begins in the state `first`,
 -- returns true for the chosen ids and false for the others, and ends in the state `last`.
@@ -29,11 +30,14 @@ pub record IsPruned (types : List PortableType) (roots : List ℕ) (kept : List 
   pub numbering : IsNumbering (types_system types) roots order
   pub table : IsTable (types_system types) order (map entry_of kept)
   pub ids : (i : ℕ) (entry : PortableType) → slice_get kept i ≡ Some entry → entry.id ≡ i
-  pub indices : (old new : ℕ) → (get nat_cmp new_ids old ≡ Some new) ↔ (slice_get order new ≡ Some old)
+  pub indices :
+      (old new : ℕ) → (get nat_cmp new_ids old ≡ Some new) ↔ (slice_get order new ≡ Some old)
 
 -- why a table is not pruned to what a filter chooses: an id is reached from the chosen ones that is
 -- no index; there are more than 4294967295 entries; or an allocation failed
-abbrev pub IsRetainError : {F : Type 0} → (F → ℕ → Bool → F → Type 0) → F → List PortableType → RetainError → Type 0
+abbrev pub IsRetainError :
+    {F : Type 0}
+    → (F → ℕ → Bool → F → Type 0) → F → List PortableType → RetainError → Type 0
 IsRetainError {F} step first types (Dangling id) =
     (chosen : List ℕ) × (last : F) × IsChosen step first (length types) chosen last
     × IsReached (types_system types) chosen id × (length types ≤ id)

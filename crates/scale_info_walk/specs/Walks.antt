@@ -1,9 +1,10 @@
 -- Walks along references: what they keep, and why they stop.
-use Rattle.std.specs.Prelude.{◌≡◌, ◌≢◌, ℕ, ◌+◌, ◌*◌, ◌^◌, ◌<◌, ◌≤◌, List, [], ◌∷◌, ◌++◌, Option, Some, None}
-use Rattle.std.specs.Prelude.{◌⊎◌, ⊤, Contains, length, slice_get}
+use Rattle.std.specs.Prelude.{◌≡◌, ◌≢◌, ℕ, ◌+◌, ◌*◌, ◌^◌, ◌<◌, ◌≤◌, List, [], ◌∷◌, ◌++◌, Option}
+use Rattle.std.specs.Prelude.{Some, None, ◌⊎◌, ⊤, Contains, length, slice_get}
 use Rattle.scale_info_numberings.specs.Systems.{Entry, System, IsReachedPast, looks}
 use Rattle.scale_info_walk.specs.declared.walk.RetainError.{RetainError}
-use Rattle.scale_info_walk.specs.declared.walk.RetainError.TheVariants.{Dangling, TooManyTypes, Memory}
+use Rattle.scale_info_walk.specs.declared.walk.RetainError.TheVariants.{Dangling, TooManyTypes}
+use Rattle.scale_info_walk.specs.declared.walk.RetainError.TheVariants.{Memory}
 
 -- the next of these is taken out and counted; where there is none, nothing changes
 abbrev pub IsNextOf : List ℕ → Option ℕ → List ℕ → ℕ → ℕ → Type 0
@@ -13,7 +14,8 @@ IsNextOf (r ∷ rs) next left before after = (next ≡ Some r) × (left ≡ rs) 
 -- a dense list of an order: at each index that the order has, its place in the order; at each other
 -- one the number 4294967295
 pub record AreNumbers (order numbers : List ℕ) : Type 0 where
-  pub numbered : (k n : ℕ) → slice_get numbers k ≡ Some n → n ≢ 4294967295 → slice_get order n ≡ Some k
+  pub numbered :
+      (k n : ℕ) → slice_get numbers k ≡ Some n → n ≢ 4294967295 → slice_get order n ≡ Some k
   pub placed : (n k : ℕ) → slice_get order n ≡ Some k → slice_get numbers k ≡ Some n
 
 -- Why a numbering of what the roots reach can stop, where there are count indices and the known
