@@ -12,13 +12,13 @@ use type_vectors_common::rows::{TABLES, decoded, rows};
 /// Whether the ids of a table are its indices: each resolves to the description there, and no
 /// greater one to any.
 fn resolves_by_index(table: &PortableRegistry) -> bool {
-    let entries = table.types();
-    for index in 0..entries.len() {
-        if table.resolve(index as u32) != Some(entries[index].ty()) {
+    for (index, ty) in table.entries() {
+        if table.resolve(index) != Some(ty) {
             return false;
         }
     }
-    table.resolve(entries.len() as u32).is_none() && table.resolve(4294967295).is_none()
+    let past = u32::try_from(table.len()).unwrap_or(4294967295);
+    table.resolve(past).is_none() && table.resolve(4294967295).is_none()
 }
 
 #[test]
