@@ -22,8 +22,10 @@ use std::alloc::{AllocError, Global};
 
 /// What has an id for each type of descriptions in the form `F`, and copies their strings.
 ///
-/// A registry numbers identities so, and the pruning of a table numbers the ids of the old table. Any
-/// type may implement it. An implementor states the ids, and owes the contracts of both functions.
+/// A registry numbers identities so, and the pruning of a table numbers the ids of the old table.
+///
+/// Any type may implement it. An implementor states the ids, and owes the contracts of both
+/// functions.
 pub trait Numbers<F: Form> {
     /// The id of each type.
     ghost id_of: { Self → F.Ty → ℕ };
