@@ -1,7 +1,9 @@
 //! Portable registries of types: tables by which a client in any language decodes SCALE values.
 #![tactic(auto)]
 
+pub mod impls;
 pub mod laws;
+pub mod meta_type;
 pub mod walk;
 
 pub use scale_info_codec as codec;
@@ -20,7 +22,8 @@ pub use scale_info_registry::registry;
 pub use scale_info_registry::registry::{IntoPortable, Registry};
 pub use scale_info_tables::portable;
 pub use scale_info_tables::portable::{PortableRegistry, PortableRegistryBuilder};
-pub use scale_info_types::meta_type::{MetaType, StaticTypeInfo, TypeInfo};
+pub use scale_info_type_info::type_info::{StaticTypeInfo, TypeInfo};
+pub use scale_info_types::meta_type::MetaType;
 pub use scale_info_types::ty::path::{Path, PathError};
 pub use scale_info_types::ty::variant::Variant;
 pub use scale_info_types::ty::{
@@ -28,6 +31,6 @@ pub use scale_info_types::ty::{
     TypeDefComposite, TypeDefMap, TypeDefPrimitive, TypeDefSequence, TypeDefTuple, TypeDefVariant,
     TypeParameter,
 };
-pub use scale_info_types::{form, impls, meta_type, ty};
+pub use scale_info_types::{form, ty};
 pub use scale_info_value::value;
 pub use scale_info_walk::walk::RetainError;

@@ -2,7 +2,7 @@
 use Rattle.std.specs.Prelude.{◌≡◌, ℕ, List, [], ◌∷◌, Option}
 use Rattle.scale_info_types.specs.Portable as portable
 use Rattle.scale_info_types.specs.Portable.{Id, Text}
-use Rattle.scale_info_types.specs.declared.impls.Compact.{Compact}
+use Rattle.scale_info_type_ids.specs.declared.impls.Compact.{Compact}
 use Rattle.scale_info_types.specs.declared.ty.PortableType.{PortableType}
 use Rattle.scale_info_types.specs.declared.ty.TypeDef.TheVariants as def
 use Rattle.scale_info_types.specs.declared.ty.TypeDefPrimitive.{TypeDefPrimitive}

@@ -18,7 +18,7 @@ use crate::scale::Scale;
 use crate::tuple::{encode_four, encode_two, encode_with_index};
 use scale_info_bytes::error::{DecodeError, EncodeError};
 use scale_info_types::form::PortableForm;
-use scale_info_types::impls::Compact;
+use scale_info_type_ids::impls::Compact;
 use scale_info_types::ty::composite::TypeDefComposite;
 use scale_info_types::ty::variant::TypeDefVariant;
 use scale_info_types::ty::{

@@ -11,7 +11,7 @@ use Rattle.scale_info_types.specs.Shapes.{map_description}
 use Rattle.scale_info_passes.specs.Visits.{AppendsRenumbered, AppendsReferences}
 use Rattle.std.proofs.Math.Seq.{drop-append_seam}
 use Rattle.scale_info_types.specs.declared.ty.PortableType.{PortableType}
-use Rattle.scale_info_types.specs.declared.impls.Compact.{Compact}
+use Rattle.scale_info_type_ids.specs.declared.impls.Compact.{Compact}
 use Rattle.scale_info_bytes.specs.Encodings.{HasPrefix, HasNoPrefix, IsEncoding, AppendsEncoding}
 use Rattle.scale_info_bytes.specs.Numbers.{EncodesCompact}
 use Rattle.scale_info_bytes.specs.Parts.{EncodesItems}

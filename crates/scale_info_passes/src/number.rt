@@ -5,7 +5,7 @@ ghost use Rattle.scale_info_bytes.specs.Numbers.{EncodesU8, EncodesU32};
 
 use crate::pass::{Pass, Visitor, visit_verbatim};
 use scale_info_bytes::number::decode_compact;
-use scale_info_types::impls::Compact;
+use scale_info_type_ids::impls::Compact;
 
 /// The byte at the start of the input, and the rest.
 fn decode_u8(input: &[u8]) -> Option<(u8, &[u8])>

@@ -15,7 +15,7 @@ use scale_info_collections::text::Text;
 use scale_info_identities::interner::UntrackedSymbol;
 use scale_info_identities::type_id::TypeId;
 use scale_info_types::form::PortableForm;
-use scale_info_types::impls::Compact;
+use scale_info_type_ids::impls::Compact;
 use scale_info_types::ty::fields::Field;
 use scale_info_types::ty::path::Path;
 use scale_info_types::ty::variant::Variant;

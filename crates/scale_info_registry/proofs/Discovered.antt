@@ -16,9 +16,9 @@ use Rattle.scale_info_identities.specs.declared.type_id.TypeId.{TypeId}
 use Rattle.scale_info_identities.specs.contracts.type_id.TypeIdPartialEq.TheImpl.{ghosts as equals}
 use Rattle.scale_info_types.specs.MetaDescriptions.{MetaDescription, type_term}
 use Rattle.scale_info_registry.specs.CatalogueSystems.{entry_of, system_of}
-use Rattle.scale_info_types.specs.Catalogues.{described}
+use Rattle.scale_info_catalogue.specs.Catalogues.{described}
 use Rattle.scale_info_registry.specs.Registrations.{nodes_of, roots_of, stacked, IsCause}
-use Rattle.scale_info_types.specs.declared.meta_type.descriptions.Catalogue.{Catalogue}
+use Rattle.scale_info_catalogue.specs.declared.catalogue.Catalogue.{Catalogue}
 use Rattle.scale_info_registry.specs.declared.registry.discovery.RegisterError.TheVariants.{Full}
 use Rattle.scale_info_references.specs.Gathered.{targets}
 use Rattle.scale_info_registry.proofs.Terms.{known}

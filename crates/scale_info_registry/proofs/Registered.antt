@@ -23,9 +23,9 @@ use Rattle.scale_info_numberings.proofs.PlacesOf.{places_below}
 use Rattle.scale_info_numberings.proofs.FirstReference.{extends_by_known, extends_by_none}
 use Rattle.std.proofs.Common.{append-nil}
 use Rattle.scale_info_numberings.proofs.Walking.{walk_members}
-use Rattle.scale_info_types.specs.declared.meta_type.descriptions.Catalogue.{Catalogue}
+use Rattle.scale_info_catalogue.specs.declared.catalogue.Catalogue.{Catalogue}
 use Rattle.scale_info_types.specs.MetaDescriptions.{MetaDescription, type_term}
-use Rattle.scale_info_types.specs.Catalogues.{described}
+use Rattle.scale_info_catalogue.specs.Catalogues.{described}
 use Rattle.scale_info_registry.specs.CatalogueSystems.{entry_of, system_of}
 use Rattle.scale_info_registry.specs.Registrations.{nodes_of, roots_of, index_in, ids_in, Registered}
 use Rattle.scale_info_registry.specs.Registrations.{registered, IsClosed, IsRegistration, AreDescribed, Keeps}

@@ -4,9 +4,9 @@ use Rattle.std.proofs.Common.{append_assoc, append-nil, option_map}
 use Rattle.std.proofs.lemmas.Option.{none-some}
 use Rattle.scale_info_identities.specs.TypeIds.{Term}
 use Rattle.scale_info_numberings.specs.Systems.{Grows}
-use Rattle.scale_info_types.specs.Catalogues.{AreSame, HasOneMore, described}
+use Rattle.scale_info_catalogue.specs.Catalogues.{AreSame, HasOneMore, described}
 use Rattle.scale_info_types.specs.MetaDescriptions.{MetaDescription}
-use Rattle.scale_info_types.specs.declared.meta_type.descriptions.Catalogue.{Catalogue}
+use Rattle.scale_info_catalogue.specs.declared.catalogue.Catalogue.{Catalogue}
 use Rattle.scale_info_registry.specs.CatalogueSystems.{entry_of, system_of}
 use Rattle.scale_info_registry.specs.Registrations.{AreSteps, IsRegistration, Registered, Step}
 use Rattle.scale_info_registry.specs.Registrations.{last_step, step_roots}

@@ -14,11 +14,11 @@ use Rattle.scale_info_identities.specs.TypeIds.{Term, term_of}
 use Rattle.scale_info_types.specs.Shapes.{Shape}
 use Rattle.scale_info_identities.specs.declared.type_id.TypeId.{TypeId}
 use Rattle.scale_info_identities.specs.contracts.type_id.TypeIdOrd.TheImpl.{ghosts}
-use Rattle.scale_info_types.specs.declared.meta_type.descriptions.Catalogue.{Catalogue}
-use Rattle.scale_info_types.specs.Catalogues.{identity_of, described}
+use Rattle.scale_info_catalogue.specs.declared.catalogue.Catalogue.{Catalogue}
+use Rattle.scale_info_catalogue.specs.Catalogues.{identity_of, described}
 use Rattle.scale_info_registry.specs.CatalogueSystems.{entry_of, system_of}
 use Rattle.scale_info_types.specs.MetaDescriptions.{MetaDescription}
-use Rattle.scale_info_types.proofs.Catalogues.{term_of_identity, found_by_term}
+use Rattle.scale_info_catalogue.proofs.Catalogues.{term_of_identity, found_by_term}
 
 -- what a node weighs: its references and one, if it is in the system
 abbrev pub weight_in : {Sh N : Type 0} → Option (Entry Sh N) → ℕ

@@ -4,9 +4,9 @@ use Rattle.scale_info_identities.specs.TypeIds.{Term}
 use Rattle.scale_info_numberings.specs.Systems.{Entry, System}
 use Rattle.scale_info_types.specs.References.{references}
 use Rattle.scale_info_types.specs.Shapes.{Shape, shape}
-use Rattle.scale_info_types.specs.Catalogues.{described}
+use Rattle.scale_info_catalogue.specs.Catalogues.{described}
 use Rattle.scale_info_types.specs.MetaDescriptions.{MetaDescription, type_term}
-use Rattle.scale_info_types.specs.declared.meta_type.descriptions.Catalogue.{Catalogue}
+use Rattle.scale_info_catalogue.specs.declared.catalogue.Catalogue.{Catalogue}
 
 -- the shape of a description, and the terms of the types that it refers to, in order
 abbrev pub entry_of : MetaDescription → Entry Shape Term

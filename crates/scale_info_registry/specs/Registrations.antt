@@ -15,9 +15,9 @@ use Rattle.scale_info_types.specs.Portable as portable
 use Rattle.scale_info_types.specs.References.{references}
 use Rattle.scale_info_types.specs.Shapes.{Shape, shape}
 use Rattle.scale_info_types.specs.declared.meta_type.MetaType.{MetaType}
-use Rattle.scale_info_types.specs.Catalogues.{described}
+use Rattle.scale_info_catalogue.specs.Catalogues.{described}
 use Rattle.scale_info_types.specs.MetaDescriptions.{MetaDescription, type_term}
-use Rattle.scale_info_types.specs.declared.meta_type.descriptions.Catalogue.{Catalogue}
+use Rattle.scale_info_catalogue.specs.declared.catalogue.Catalogue.{Catalogue}
 use Rattle.scale_info_registry.specs.declared.registry.discovery.RegisterError.{RegisterError}
 use Rattle.scale_info_registry.specs.declared.registry.discovery.RegisterError.TheVariants.{
   Undescribed,

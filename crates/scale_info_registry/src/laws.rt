@@ -4,10 +4,10 @@ ghost use Rattle.scale_info_identities.specs.TypeIds.{Term};
 ghost use Rattle.scale_info_numberings.specs.Numberings.{IsNumbering};
 ghost use Rattle.scale_info_numberings.specs.Systems.{System, Grows};
 ghost use Rattle.scale_info_numberings.specs.Tables.{IsTable};
-ghost use Rattle.scale_info_types.specs.Catalogues.{AreSame, HasOneMore};
+ghost use Rattle.scale_info_catalogue.specs.Catalogues.{AreSame, HasOneMore};
 ghost use Rattle.scale_info_types.specs.MetaDescriptions.{MetaDescription};
 ghost use Rattle.scale_info_types.specs.Shapes.{Shape};
-ghost use Rattle.scale_info_types.specs.declared.meta_type.descriptions.Catalogue.{Catalogue};
+ghost use Rattle.scale_info_catalogue.specs.declared.catalogue.Catalogue.{Catalogue};
 ghost use Rattle.scale_info_registry.specs.CatalogueSystems.{system_of};
 ghost use Rattle.scale_info_registry.specs.Registrations.{
   AreSteps,

@@ -30,7 +30,7 @@ ghost use Rattle.scale_info_types.specs.Iterators.{GivesAll};
 ghost use Rattle.scale_info_types.specs.Portable as portable;
 ghost use Rattle.scale_info_types.specs.declared.meta_type.MetaType.{MetaType};
 ghost use Rattle.scale_info_registry.specs.CatalogueSystems.{system_of};
-ghost use Rattle.scale_info_types.specs.Catalogues.{described};
+ghost use Rattle.scale_info_catalogue.specs.Catalogues.{described};
 ghost use Rattle.scale_info_types.specs.MetaDescriptions.{MetaDescription, type_term};
 ghost use Rattle.scale_info_registry.specs.Registrations.{
   nodes_of,
@@ -56,7 +56,8 @@ use scale_info_identities::interner::{Interner, UntrackedSymbol};
 use scale_info_identities::type_id::TypeId;
 use scale_info_references::conversion::{Numbers, convert};
 use scale_info_types::form::PortableForm;
-use scale_info_types::meta_type::{Catalogue, MetaType};
+use scale_info_catalogue::catalogue::Catalogue;
+use scale_info_types::meta_type::MetaType;
 use scale_info_types::ty::Type;
 use std::alloc::{AllocError, Global};
 use std::marker::Model;

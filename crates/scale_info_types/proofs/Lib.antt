@@ -1,4 +1,3 @@
-pub mod Catalogues
 pub mod ShapeAndReferences
 pub mod Contents
 pub mod Injective

@@ -1,4 +1,3 @@
-pub mod Catalogues
 pub mod Iterators
 pub mod MetaDescriptions
 pub mod Orders
@@ -7,6 +6,5 @@ pub mod Portable
 pub mod Primitives
 pub mod References
 pub mod Shapes
-pub mod StandardTypes
 pub use Rattle.scale_info_identities.specs.Identifiers
 pub use Rattle.scale_info_identities.specs.TypeIds

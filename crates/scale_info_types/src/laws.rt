@@ -12,10 +12,8 @@ use crate::form::{Form, PortableForm};
 use crate::ty::Type;
 
 mod comparisons;
-mod identities;
 
 pub use comparisons::{equal_path_errors, ordered_definitions, ordered_primitives};
-pub use identities::{own_identities, shared_identities};
 
 /// Two definitions are equal, in any form, exactly if their contents are.
 pub fn equal_definitions<T: Form>()

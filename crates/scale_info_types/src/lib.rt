@@ -1,8 +1,7 @@
-//! Types described as data: descriptions, the two forms they come in, and identities.
+//! Types described as data: descriptions, and the two forms they come in.
 #![tactic(auto)]
 
 pub mod form;
-pub mod impls;
 pub mod laws;
 pub mod meta_type;
 pub mod ty;

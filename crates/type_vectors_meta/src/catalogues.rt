@@ -17,8 +17,8 @@ fn primitive(ty: Option<&Type>) -> Option<&'static str> {
 fn each_identity_has_one_description(rt: HostRuntime) -> Result<(), Fail> {
     let alloc = rt.alloc();
     let mut catalogue = Catalogue::new(alloc);
-    is(&rt, "u8", catalogue.add::<u8>(alloc), Ok(true));
-    is(&rt, "Box<u8>", catalogue.add::<Box<u8>>(alloc), Ok(false));
+    is(&rt, "u8", catalogue.add::<u8>(), Ok(true));
+    is(&rt, "Box<u8>", catalogue.add::<Box<u8>>(), Ok(false));
     let refused = catalogue.add_described(plain(alloc, "u8"), bool::type_info(alloc)?);
     is(&rt, "bool", refused, Err(CatalogueError::Conflict));
     let known = catalogue.get(&plain(alloc, "u8"));
@@ -31,7 +31,7 @@ fn each_identity_has_one_description(rt: HostRuntime) -> Result<(), Fail> {
 fn a_type_finds_its_description(rt: HostRuntime) -> Result<(), Fail> {
     let alloc = rt.alloc();
     let mut catalogue = Catalogue::new(alloc);
-    is(&rt, "add", catalogue.add::<char>(alloc), Ok(true));
+    is(&rt, "add", catalogue.add::<char>(), Ok(true));
     let known = MetaType::new::<Box<char>>(alloc)?;
     is(
         &rt,
@@ -53,7 +53,7 @@ fn a_type_finds_its_description(rt: HostRuntime) -> Result<(), Fail> {
 fn a_type_without_description_is_not_added(rt: HostRuntime) -> Result<(), Fail> {
     let alloc = rt.alloc();
     let mut catalogue = Catalogue::new(alloc);
-    let refused = catalogue.add::<Box<[u8; 4294967296]>>(alloc);
+    let refused = catalogue.add::<Box<[u8; 4294967296]>>();
     is(&rt, "too long", refused, Err(CatalogueError::TooLong));
     is(&rt, "len", catalogue.len(), 0);
     Ok(())

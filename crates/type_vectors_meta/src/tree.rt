@@ -1,6 +1,7 @@
 //! A type of a program's own, which leads back to itself.
 ghost use Rattle.std.specs.Prelude.{codes};
-ghost use Rattle.scale_info_types.specs.StandardTypes.{named, slice_description};
+ghost use Rattle.scale_info_type_info.specs.StandardTypes.{slice_description};
+ghost use Rattle.scale_info_type_ids.specs.StandardTerms.{named};
 
 use crate::asserts::is;
 use crate::rows::plain;
@@ -37,8 +38,8 @@ impl TypeInfo for Tree {
 fn a_tree_is_described_by_itself(rt: HostRuntime) -> Result<(), Fail> {
     let alloc = rt.alloc();
     let mut catalogue = Catalogue::new(alloc);
-    is(&rt, "add", catalogue.add::<Tree>(alloc), Ok(true));
-    is(&rt, "Box", catalogue.add::<Box<Tree>>(alloc), Ok(false));
+    is(&rt, "add", catalogue.add::<Tree>(), Ok(true));
+    is(&rt, "Box", catalogue.add::<Box<Tree>>(), Ok(false));
     let branch = meta_type::<Box<Tree>>(alloc)?;
     is(
         &rt,

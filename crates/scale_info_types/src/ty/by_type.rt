@@ -3,9 +3,10 @@ ghost use Rattle.std.specs.Prelude.{◌≡◌, IfOk};
 ghost use Rattle.scale_info_types.specs.MetaDescriptions.{meta_definition};
 ghost use Rattle.scale_info_types.specs.declared.ty.TypeDef.TheVariants as def;
 
-use super::{TypeDef, TypeDefArray, TypeDefBitSequence, TypeDefCompact, TypeDefSequence};
+use super::{TypeDef, TypeDefBitSequence, TypeDefSequence};
 use crate::form::{Form, MetaForm};
-use crate::meta_type::{HasIdentity, MetaType};
+use crate::meta_type::MetaType;
+use scale_info_type_ids::identified::HasIdentity;
 use std::alloc::{AllocError, Global};
 
 impl TypeDefSequence<MetaForm> {
@@ -48,20 +49,6 @@ fn sequence<F: Form>(items: F::Ty) -> TypeDef<F>
     ensures { result ≡ def.Sequence (record { type_param = items }) }
 {
     TypeDef::Sequence(TypeDefSequence::new(items))
-}
-
-/// This many items of this type.
-pub(crate) fn array<F: Form>(len: u32, items: F::Ty) -> TypeDef<F>
-    ensures { result ≡ def.Array (record { len = len; type_param = items }) }
-{
-    TypeDef::Array(TypeDefArray::new(len, items))
-}
-
-/// A number of this type in the compact encoding.
-pub(crate) fn compact<F: Form>(number: F::Ty) -> TypeDef<F>
-    ensures { result ≡ def.Compact (record { type_param = number }) }
-{
-    TypeDef::Compact(TypeDefCompact::new(number))
 }
 
 /// A bit sequence with this store and order.

@@ -5,7 +5,7 @@ use Rattle.std.proofs.Common.{refl}
 use Rattle.std.proofs.lemmas.Option.{slice_get_read}
 use Rattle.scale_info_types.specs.Portable as portable
 use Rattle.scale_info_identities.specs.TypeIds.{term_of}
-use Rattle.scale_info_types.specs.Catalogues.{described}
+use Rattle.scale_info_catalogue.specs.Catalogues.{described}
 use Rattle.scale_info_registry.specs.Registrations.{AreDescribed}
 use Rattle.scale_info_registry.proofs.Registered.{described_more}
 use Rattle.scale_info_registry.proofs.registry.describe.Goals as goal

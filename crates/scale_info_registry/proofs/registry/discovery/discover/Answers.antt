@@ -4,7 +4,7 @@ use Rattle.scale_info_identities.specs.TypeIds.{term_of}
 use Rattle.scale_info_identities.specs.Interned.{IsKnown}
 use Rattle.scale_info_identities.specs.contracts.type_id.TypeIdPartialEq.TheImpl.{ghosts as equals}
 use Rattle.scale_info_registry.specs.CatalogueSystems.{system_of, entry_of}
-use Rattle.scale_info_types.specs.Catalogues.{described}
+use Rattle.scale_info_catalogue.specs.Catalogues.{described}
 use Rattle.scale_info_registry.specs.Registrations.{nodes_of, stacked}
 use Rattle.scale_info_registry.proofs.Walking.{walk_starts}
 use Rattle.scale_info_registry.proofs.Discovered.{pushed_one, kept_more, passes, meets, adds, shrinks, ends, overflows}

@@ -1,0 +1,4 @@
+//! Catalogues, which keep descriptions of types by identity.
+#![tactic(auto)]
+
+pub mod catalogue;

@@ -1,0 +1,2 @@
+pub mod StandardTerms
+pub use Rattle.scale_info_identities.specs.TypeIds
