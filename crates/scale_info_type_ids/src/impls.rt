@@ -8,11 +8,14 @@ use scale_info_identities::type_id::TypeId;
 use std::alloc::{AllocError, Global};
 use std::marker::PhantomData;
 
+mod generics;
 mod lists;
 mod pointers;
 mod primitives;
 mod slices;
 mod texts;
+mod tuples;
+mod values;
 
 /// A number in SCALE's compact encoding, which takes as few bytes as the number needs.
 ///

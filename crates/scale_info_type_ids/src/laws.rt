@@ -4,8 +4,8 @@ ghost use Rattle.std.specs.Prelude.{codes};
 ghost use Rattle.scale_info_type_ids.specs.StandardTerms.{array_term, compact_term};
 ghost use Rattle.scale_info_type_ids.specs.StandardTerms.{primitive_term, slice_term, str_term};
 
-use crate::impls::{Compact, SliceOf, StrType};
 use crate::identified::{HasIdentity, Identified};
+use crate::impls::{Compact, SliceOf, StrType};
 use std::collections::VecDeque;
 use std::rc::Rc;
 
