@@ -1,4 +1,5 @@
 pub mod Catalogues
+pub mod Phantoms
 pub mod ShapeAndReferences
 pub mod Contents
 pub mod Injective

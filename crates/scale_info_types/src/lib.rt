@@ -1,6 +1,7 @@
 //! Types described as data: descriptions, the two forms they come in, and identities.
 #![tactic(auto)]
 
+pub mod build;
 pub mod form;
 pub mod impls;
 pub mod laws;
