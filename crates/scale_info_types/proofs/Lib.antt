@@ -1,3 +1,4 @@
+pub mod Phantoms
 pub mod ShapeAndReferences
 pub mod Contents
 pub mod Injective

@@ -3,6 +3,7 @@ pub mod MetaDescriptions
 pub mod Orders
 pub mod TypePaths
 pub mod Portable
+pub mod Phantoms
 pub mod Primitives
 pub mod References
 pub mod Shapes
