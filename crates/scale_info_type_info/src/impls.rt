@@ -11,11 +11,15 @@ use scale_info_types::meta_type::meta_type;
 use scale_info_types::ty::{Type, TypeDef, TypeDefArray, TypeDefCompact};
 use std::alloc::Global;
 
+mod generics;
 mod lists;
+mod parts;
 mod pointers;
 mod primitives;
 mod slices;
 mod texts;
+mod tuples;
+mod values;
 
 impl<T: TypeInfo> TypeInfo for Compact<T> {
     ghost description = { compact_description T.Identity.own };
