@@ -46,7 +46,8 @@ pub fn retain_types<F: FnMut(u32) -> bool>(
     Ok((kept, new_ids))
 }
 
-/// The ids below `count` for which the filter returns true. It is asked once for each, from 0 up.
+/// The ids below `count` for which the filter returns true. It is asked once for each, from 0 up,
+/// after all memory is there: so on an Err it was not asked.
 fn chosen_ids<F: FnMut(u32) -> bool>(
     alloc: Global,
     count: u32,
@@ -55,10 +56,10 @@ fn chosen_ids<F: FnMut(u32) -> bool>(
     requires { F.IsAlwaysCallable filter }
     ensures { IfOk result (λ chosen. (last : F) × IsChosen F.step filter count chosen.items last) }
 {
-    let mut chosen = Vec::new(alloc);
+    let mut chosen = Vec::with_capacity(alloc, count as usize)?;
     for id in 0..count {
         if filter(id) {
-            chosen.push(id)?;
+            chosen.push_reserved(id);
         }
     }
     Ok(chosen)

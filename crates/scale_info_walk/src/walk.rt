@@ -54,7 +54,7 @@ impl<T: Drop> From<AllocFailed<T>> for RetainError {
 }
 
 /// What a walk returns.
-#[derive(Drop)]
+#[derive(Drop, PartialEq, Eq)]
 pub struct Numbering {
     /// The old indices, in new order.
     pub order: Vec<u32>,

@@ -1,5 +1,6 @@
 //! The program `type_table`: reads a table of descriptions of types from the standard input, and
-//! writes it again (`check`) or its JSON text (`json`) to the standard output.
+//! writes it again (`check`), the table of what some ids reach (`prune`) or its JSON text (`json`)
+//! to the standard output.
 #![tactic(auto)]
 
 use scale_info_collections::text::Text;

@@ -1,3 +1,5 @@
 pub mod Filled
+pub mod LineParts
 pub mod OneText
+pub mod PruneErrors
 pub mod Reports

@@ -1,4 +1,6 @@
+pub mod Ids
 pub mod Commands
+pub mod Errors
 pub mod Lines
 pub mod Tables
 pub mod Reports

@@ -1,15 +1,23 @@
 -- What each command writes for its input.
-use Rattle.std.specs.Prelude.{◌≡◌, ℕ, List, ◌++◌, codes}
+use Rattle.std.specs.Prelude.{◌≡◌, ℕ, List, [], ◌++◌, codes}
 use Rattle.std.specs.declared.option.Option.{Option}
 use Rattle.std.specs.Io.KnownBytes.{Appends}
 use Rattle.serde_json.specs.Written.{compact_text}
 use Rattle.scale_info_json.specs.Tables.{table_tree}
+use Rattle.scale_info_prune.specs.Prunes.{IsPrunedEncoding}
 use Rattle.scale_info_tables.specs.TableEncoding.{EncodesRegistry}
 use Rattle.scale_info_tables.specs.declared.portable.PortableRegistry.{PortableRegistry}
+use Rattle.type_table_run.specs.Commands.{given_ids}
 use Rattle.type_table_run.specs.declared.command.Command.{Command}
-use Rattle.type_table_run.specs.declared.command.Command.TheVariants.{Check, Json}
+use Rattle.type_table_run.specs.declared.command.Command.TheVariants.{Check, Prune, Json}
 use Rattle.type_table_run.specs.Tables.{IsTable}
 use Rattle.type_table_run.specs.Reports.{AppendsPrefix}
+
+-- the input encodes one table, and the output is an encoding of the table of the numbering of it
+-- from the given ids in ascending order, each once
+pub record IsPrunedTo (given input output : List ℕ) : Type 0 where
+  pub order : List ℕ
+  pub pruned : IsPrunedEncoding input given order [] output
 
 -- the compact text of the table's JSON tree, and a line feed
 abbrev pub json_line : PortableRegistry → List ℕ
@@ -24,6 +32,7 @@ pub record IsJsonOf (input output : List ℕ) : Type 0 where
 -- for the whole input the command has this output
 abbrev pub Outputs : Command → List ℕ → List ℕ → Type 0
 Outputs Check input output = IsTable input × (output ≡ input)
+Outputs (Prune ids) input output = IsPrunedTo (given_ids (Prune ids)) input output
 Outputs Json input output = IsJsonOf input output
 
 -- known bytes grow by the command's output for the input

@@ -2,16 +2,29 @@
 use Rattle.std.specs.Prelude.{ℕ, List, IfSome}
 use Rattle.std.specs.declared.option.Option.{Option}
 use Rattle.std.specs.Io.KnownBytes.{Keeps}
-use Rattle.scale_info_tables.specs.TableEncoding.{EncodesRegistry}
 use Rattle.scale_info_bytes.specs.Encodings.{HasNoPrefix}
+use Rattle.scale_info_prune.specs.Prunes.{HasDangling, HasNoSuchType}
+use Rattle.scale_info_tables.specs.TableEncoding.{EncodesRegistry}
+use Rattle.type_table_run.specs.Commands.{given_ids}
 use Rattle.type_table_run.specs.declared.command.Command.{Command}
 use Rattle.type_table_run.specs.declared.error.RunError.{RunError}
 use Rattle.type_table_run.specs.declared.error.RunError.TheVariants.{Malformed, TrailingBytes}
+use Rattle.type_table_run.specs.declared.error.RunError.TheVariants.{NoSuchType, Dangling}
 use Rattle.type_table_run.specs.declared.error.RunError.TheVariants.{Memory, Input, Output}
 use Rattle.type_table_run.specs.Lines.{line_of}
 use Rattle.type_table_run.specs.Outputs.{WritesPrefix}
 use Rattle.type_table_run.specs.Tables.{HasTrailing}
 use Rattle.type_table_run.specs.Reports.{AppendsPrefix}
+
+-- why there is no output for the input, where these ids are given
+abbrev pub IsErrorOf : List ℕ → List ℕ → RunError → Type 0
+IsErrorOf given input Malformed = HasNoPrefix EncodesRegistry input
+IsErrorOf given input TrailingBytes = HasTrailing input
+IsErrorOf given input (NoSuchType id) = HasNoSuchType input given id
+IsErrorOf given input (Dangling id) = HasDangling input given id
+IsErrorOf given input Memory = Unit {0}
+IsErrorOf given input Input = ⊥
+IsErrorOf given input Output = ⊥
 
 -- what an error of a command says of the known input, and of the output's known bytes before and
 -- after
@@ -19,6 +32,10 @@ abbrev pub Explains : Command → (input old new : Option (List ℕ)) → RunErr
 Explains command input old new Malformed =
     IfSome input (HasNoPrefix EncodesRegistry) × Keeps old new
 Explains command input old new TrailingBytes = IfSome input HasTrailing × Keeps old new
+Explains command input old new (NoSuchType id) =
+    IfSome input (λ bytes. HasNoSuchType bytes (given_ids command) id) × Keeps old new
+Explains command input old new (Dangling id) =
+    IfSome input (λ bytes. HasDangling bytes (given_ids command) id) × Keeps old new
 Explains command input old new Memory = Keeps old new
 Explains command input old new Input = Keeps old new
 Explains command input old new Output = IfSome input (WritesPrefix command old new)

@@ -5,6 +5,7 @@ use Rattle.scale_info_tables.specs.TableEncoding.{EncodesRegistry}
 use Rattle.scale_info_bytes.specs.Encodings.{HasPrefix, HasNoPrefix}
 use Rattle.type_table_run.specs.declared.error.RunError.{RunError}
 use Rattle.type_table_run.specs.declared.error.RunError.TheVariants.{Malformed, TrailingBytes}
+use Rattle.type_table_run.specs.declared.error.RunError.TheVariants.{NoSuchType, Dangling}
 use Rattle.type_table_run.specs.declared.error.RunError.TheVariants.{Memory, Input, Output}
 
 -- the input encodes one table, with nothing after it
@@ -20,9 +21,11 @@ pub record HasTrailing (input : List ℕ) : Type 0 where
   pub more : rest ≢ []
 
 -- why the input is not found to be one table
-abbrev pub IsErrorOf : List ℕ → RunError → Type 0
-IsErrorOf input Malformed = HasNoPrefix EncodesRegistry input
-IsErrorOf input TrailingBytes = HasTrailing input
-IsErrorOf input Memory = Unit {0}
-IsErrorOf input Input = ⊥
-IsErrorOf input Output = ⊥
+abbrev pub IsTableError : List ℕ → RunError → Type 0
+IsTableError input Malformed = HasNoPrefix EncodesRegistry input
+IsTableError input TrailingBytes = HasTrailing input
+IsTableError input (NoSuchType id) = ⊥
+IsTableError input (Dangling id) = ⊥
+IsTableError input Memory = Unit {0}
+IsTableError input Input = ⊥
+IsTableError input Output = ⊥

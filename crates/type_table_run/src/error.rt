@@ -1,6 +1,10 @@
 //! Why a command is refused.
 ghost use Rattle.std.specs.Prelude.{◌≡◌};
-ghost use Rattle.type_table_run.specs.Lines.{line_of};
+ghost use Rattle.type_table_run.specs.Errors.{error_of};
+
+use scale_info_bytes::error::DecodeError;
+use scale_info_prune::prune::PruneError;
+use scale_info_walk::walk::RetainError;
 
 /// Why a command is refused.
 #[derive(Drop, Debug)]
@@ -9,6 +13,10 @@ pub enum RunError {
     Malformed,
     /// Bytes come after the table.
     TrailingBytes,
+    /// This given id, the first such, is no index of the table.
+    NoSuchType(u32),
+    /// This id is reached from the given ones, and is no index of the table.
+    Dangling(u32),
     /// An allocation failed.
     Memory,
     /// The input could not be read to its end.
@@ -17,17 +25,20 @@ pub enum RunError {
     Output,
 }
 
-impl RunError {
-    /// The line that reports the error.
-    pub fn line(&self) -> &'static str
-        ensures { result.now ≡ line_of self.now }
-    {
-        match self {
-            RunError::Malformed => "type_table: malformed\n",
-            RunError::TrailingBytes => "type_table: trailing bytes\n",
-            RunError::Memory => "type_table: out of memory\n",
-            RunError::Input => "type_table: input failed\n",
-            RunError::Output => "type_table: output failed\n",
+impl From<PruneError> for RunError {
+    ghost from_gives = { λ from to. to ≡ error_of from };
+
+    /// The errors that `prune` says never come are as that of an allocation.
+    fn from(error: PruneError) -> RunError {
+        match error {
+            PruneError::Decode(DecodeError::Malformed) => RunError::Malformed,
+            PruneError::Trailing => RunError::TrailingBytes,
+            PruneError::NoSuchType(id) => RunError::NoSuchType(id),
+            PruneError::Retain(RetainError::Dangling { id }) => RunError::Dangling(id),
+            PruneError::Decode(DecodeError::Memory)
+            | PruneError::Retain(RetainError::TooManyTypes | RetainError::Memory)
+            | PruneError::Encode(_)
+            | PruneError::Memory => RunError::Memory,
         }
     }
 }

@@ -3,9 +3,11 @@
 
 mod command;
 mod error;
+mod id;
 mod output;
 mod program;
 mod reading;
+mod report;
 mod table;
 mod writing;
 

@@ -1,10 +1,12 @@
 //! The program over any reader and any writers.
-ghost use Rattle.std.specs.Prelude.{◌≡◌, ◌≢◌, ◌≤◌, IfSome, IfErr, OnOk};
+ghost use Rattle.std.specs.Prelude.{◌≡◌, ◌≢◌, ◌≤◌, ℕ, IfSome, IfErr, OnOk};
 ghost use Rattle.std.specs.Io.KnownBytes.{IsAtEnd, Keeps};
 ghost use Rattle.scale_info_bytes.specs.Encodings.{HasNoPrefix};
+ghost use Rattle.scale_info_prune.specs.Prunes.{HasDangling, HasNoSuchType};
 ghost use Rattle.scale_info_tables.specs.TableEncoding.{EncodesRegistry};
-ghost use Rattle.type_table_run.specs.Commands.{HasCommand, IsCommand};
+ghost use Rattle.type_table_run.specs.Commands.{HasCommand, HasIdTexts, IsCommand, given_ids};
 ghost use Rattle.type_table_run.specs.Lines.{usage_line, malformed_line, trailing_bytes_line};
+ghost use Rattle.type_table_run.specs.Lines.{no_such_type_line, dangling_line};
 ghost use Rattle.type_table_run.specs.Lines.{out_of_memory_line, input_failed_line};
 ghost use Rattle.type_table_run.specs.Lines.{output_failed_line};
 ghost use Rattle.type_table_run.specs.Outputs.{Writes, WritesPrefix};
@@ -16,6 +18,7 @@ use crate::command::{Command, command_of};
 use crate::error::RunError;
 use crate::output::output_of;
 use crate::reading::read_to_end;
+use crate::report::{report, report_error};
 use crate::writing::write_all;
 use scale_info_collections::text::Text;
 use std::alloc::Global;
@@ -32,6 +35,7 @@ fn perform<R: Read, W: Write>(
     reader: &mut R,
     output: &mut W,
 ) -> Result<(), RunError>
+    requires { HasIdTexts command.now }
     ensures ok { OnOk result (IfSome (R.remaining reader.old)
         (Writes command.now (W.contents output.old) (W.contents output.new))) }
     ensures end { OnOk result (IsAtEnd (R.remaining reader.new)) }
@@ -49,20 +53,15 @@ fn perform<R: Read, W: Write>(
     }
 }
 
-/// Writes a line to the writer for errors. A failure is ignored.
-fn report<F: Write>(errors: &mut F, line: &str)
-    ensures { AppendsPrefix (F.contents errors.old) (F.contents errors.new) line.now }
-{
-    let _ = write_all(errors, line.as_bytes());
-    let _ = errors.flush();
-}
-
 /// Runs the command that the arguments name, and returns the status.
 ///
 /// The arguments are looked at before anything is read and before memory is asked for. The input
 /// is then read to its end, and must be one table with nothing after it. The commands:
 ///
 /// - `check`: the input is written to the output again.
+/// - `prune ID ..`: the table of what the given ids reach is written to the output. The ids are
+///   taken in ascending order, each once. An id is one ASCII digit or more, of a number up to
+///   4294967295; zeros may lead.
 /// - `json`: the compact JSON text of the table and a line feed are written to the output.
 ///
 /// The status is 0 if that was done. It is 2 if the arguments are not a command: then the usage
@@ -71,6 +70,8 @@ fn report<F: Write>(errors: &mut F, line: &str)
 ///
 /// - `type_table: malformed`: no prefix of the input is a table.
 /// - `type_table: trailing bytes`: bytes come after the table.
+/// - `type_table: no such type N`: N is the first given id that is no index of the table.
+/// - `type_table: dangling id N`: N is reached from the given ids, and is no index of the table.
 /// - `type_table: out of memory`: an allocation failed.
 /// - `type_table: input failed`: a read failed, or the input did not end within 4294967296 reads.
 /// - `type_table: output failed`: a write or a flush of the output failed. This line alone may come
@@ -112,6 +113,16 @@ pub fn run<R: Read, W: Write, F: Write>(
         trailing_bytes_line
         → IfSome (R.remaining reader.old) HasTrailing
         × Keeps (W.contents output.old) (W.contents output.new) }
+    ensures no_such_type { (id : ℕ) → id ≤ 4294967295
+        → Reported (F.contents errors.old) (F.contents errors.new) (no_such_type_line id)
+        → HasCommand arguments.now (λ command. IfSome (R.remaining reader.old)
+        (λ input. HasNoSuchType input (given_ids command) id))
+        × Keeps (W.contents output.old) (W.contents output.new) }
+    ensures dangling { (id : ℕ) → id ≤ 4294967295
+        → Reported (F.contents errors.old) (F.contents errors.new) (dangling_line id)
+        → HasCommand arguments.now (λ command. IfSome (R.remaining reader.old)
+        (λ input. HasDangling input (given_ids command) id))
+        × Keeps (W.contents output.old) (W.contents output.new) }
     ensures out_of_memory { Reported (F.contents errors.old) (F.contents errors.new)
         out_of_memory_line
         → Keeps (W.contents output.old) (W.contents output.new) }
@@ -133,7 +144,7 @@ pub fn run<R: Read, W: Write, F: Write>(
     match perform(alloc, &command, reader, output) {
         Ok(()) => 0,
         Err(error) => {
-            report(errors, error.line());
+            report_error(errors, &error);
             1
         }
     }

@@ -1,7 +1,7 @@
 //! Whether bytes are one table, and which.
 ghost use Rattle.std.specs.Prelude.{IfOk, IfErr, OnOk};
 ghost use Rattle.scale_info_tables.specs.TableEncoding.{EncodesRegistry};
-ghost use Rattle.type_table_run.specs.Tables.{IsTable, IsErrorOf};
+ghost use Rattle.type_table_run.specs.Tables.{IsTable, IsTableError};
 
 use crate::error::RunError;
 use scale_info_codec::DecodeError;
@@ -17,7 +17,7 @@ use std::alloc::Global;
 /// the table.
 pub fn check_table(input: &[u8]) -> Result<(), RunError>
     ensures ok { OnOk result (IsTable input.now) }
-    ensures err { IfErr result (IsErrorOf input.now) }
+    ensures err { IfErr result (IsTableError input.now) }
 {
     match skip::<Items<PortableType>>(input) {
         Some(rest) => {
@@ -37,7 +37,7 @@ pub fn check_table(input: &[u8]) -> Result<(), RunError>
 /// the table; `Memory`, if an allocation failed.
 pub fn table_of(alloc: Global, input: &[u8]) -> Result<PortableRegistry, RunError>
     ensures ok { IfOk result (λ table. EncodesRegistry table input.now) }
-    ensures err { IfErr result (IsErrorOf input.now) }
+    ensures err { IfErr result (IsTableError input.now) }
 {
     match PortableRegistry::decode(alloc, input) {
         Ok((table, rest)) => {

@@ -5,3 +5,5 @@
 mod asserts;
 #[cfg(test)]
 mod program;
+#[cfg(test)]
+mod pruning;

@@ -201,7 +201,7 @@ fn writes_may_be_short_and_interrupted(rt: HostRuntime) -> Result<(), Fail> {
 /// The reader fails when it is asked, and that would be reported with status 1.
 #[test]
 fn other_arguments_print_the_usage_and_nothing_is_read(rt: HostRuntime) -> Result<(), Fail> {
-    let lists: [&[&str]; 10] = [
+    let lists: [&[&str]; 20] = [
         &[],
         &[""],
         &["CHECK"],
@@ -209,8 +209,18 @@ fn other_arguments_print_the_usage_and_nothing_is_read(rt: HostRuntime) -> Resul
         &["check", "check"],
         &["check", ""],
         &["prune"],
-        &["prune", "0"],
+        &["prunes", "0"],
         &["prune", "x"],
+        &["prune", ""],
+        &["prune", "+1"],
+        &["prune", "-1"],
+        &["prune", "0x1"],
+        &["prune", "1 "],
+        &["prune", "1,2"],
+        &["prune", "\u{661}"],
+        &["prune", "4294967296"],
+        &["prune", "18446744073709551616"],
+        &["prune", "0", "x"],
         &["json", "0"],
     ];
     for list in lists {

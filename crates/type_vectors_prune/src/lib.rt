@@ -1,5 +1,11 @@
-//! Tests of pruning, by rows of bytes.
+//! Tests of walks and pruning, by rows of bytes and by long chains.
 #![tactic(auto)]
 
 #[cfg(test)]
-mod bytes;
+mod asserts;
+#[cfg(test)]
+mod chains;
+#[cfg(test)]
+mod tables;
+#[cfg(test)]
+mod walks;
