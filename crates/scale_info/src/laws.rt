@@ -23,9 +23,12 @@ pub use scale_info_numberings::laws::{
 };
 pub use scale_info_references::laws::{ids_of_references, same_shape};
 pub use scale_info_registry::laws::{
-    catalogue_grows, registered_afresh, registrations_afresh, registrations_compose,
+    catalogue_grows, equal_registries, registered_afresh, registrations_afresh,
+    registrations_compose,
 };
-pub use scale_info_tables::laws::{equal_tables, old_texts_stay, one_text, spelled_within_limits};
+pub use scale_info_tables::laws::{
+    equal_tables, old_texts_stay, one_text, registered_tables, spelled_within_limits,
+};
 pub use scale_info_type_ids::laws::{own_identities, shared_identities};
 pub use scale_info_types::laws::{
     equal_contents, equal_definitions, equal_path_errors, equal_portable, one_list_of_pieces,

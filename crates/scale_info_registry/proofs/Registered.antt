@@ -28,7 +28,7 @@ use Rattle.scale_info_types.specs.MetaDescriptions.{MetaDescription, type_term}
 use Rattle.scale_info_catalogue.specs.Catalogues.{described}
 use Rattle.scale_info_registry.specs.CatalogueSystems.{entry_of, system_of}
 use Rattle.scale_info_registry.specs.Registrations.{nodes_of, roots_of, index_in, ids_in, Registered}
-use Rattle.scale_info_registry.specs.Registrations.{registered, IsClosed, IsRegistration, AreDescribed, Keeps}
+use Rattle.scale_info_registry.specs.Registrations.{registered, IsClosedRegistry, IsRegistration, AreDescribed, Keeps}
 use Rattle.scale_info_references.specs.Conversions.{with_ids}
 use Rattle.scale_info_registry.proofs.Numbered.{index_is}
 use Rattle.scale_info_references.proofs.Replaced.{shape_stays, ids_replaced}
@@ -140,8 +140,8 @@ is_registration c old new roots before after long all kept kept_types x describe
 
 -- a registration leaves a closed registry
 pub stays_closed :
-    (S : System Shape Term) (old new : Registered) (roots : List Term) → IsClosed old
-    → length new.types ≡ length new.identities → IsRegistration S old roots new → IsClosed new
+    (S : System Shape Term) (old new : Registered) (roots : List Term) → IsClosedRegistry old
+    → length new.types ≡ length new.identities → IsRegistration S old roots new → IsClosedRegistry new
 stays_closed S old new roots closed long x = (
   long,
   λ i ty e p k.
@@ -179,11 +179,11 @@ cut_back old new cut k m l e = e ∙ (λ i. take (l i) (m.1 i)) ∙ take_at old 
 
 -- a closed registry that has grown is closed once it is cut back to its old length
 pub cut_closed :
-    (ids new_ids cut_ids : List TypeId) (types new_types cut_types : List portable.Description) (k : ℕ) → k ≡ length types → IsClosed (registered ids types)
+    (ids new_ids cut_ids : List TypeId) (types new_types cut_types : List portable.Description) (k : ℕ) → k ≡ length types → IsClosedRegistry (registered ids types)
     → (more : List TypeId) × (new_ids ≡ ids ++ more) → (more : List portable.Description) × (new_types ≡ types ++ more)
-    → cut_ids ≡ take k new_ids → cut_types ≡ take k new_types → IsClosed (registered cut_ids cut_types)
+    → cut_ids ≡ take k new_ids → cut_types ≡ take k new_types → IsClosedRegistry (registered cut_ids cut_types)
 cut_closed ids new_ids cut_ids types new_types cut_types k l closed m n e f =
-    subst (λ r. IsClosed r)
+    subst (λ r. IsClosedRegistry r)
     (λ i. registered (sym (cut_back ids new_ids cut_ids k m (l ∙ closed.0) e) i) (sym (cut_back types new_types cut_types k n l f) i)) closed
 
 -- a known node changes nothing
@@ -229,8 +229,8 @@ registers_nothing S r distinct =
 pub cut_kept :
     (old new : Registered) (ids new_ids cut_ids : List TypeId) (types new_types cut_types : List portable.Description) (k : ℕ)
     → registered ids types ≡ old → registered new_ids new_types ≡ new → Keeps old new → k ≡ length types
-    → IsClosed (registered ids types)
-    → cut_ids ≡ take k new_ids → cut_types ≡ take k new_types → IsClosed (registered cut_ids cut_types)
+    → IsClosedRegistry (registered ids types)
+    → cut_ids ≡ take k new_ids → cut_types ≡ take k new_types → IsClosedRegistry (registered cut_ids cut_types)
 cut_kept old new ids new_ids cut_ids types new_types cut_types k a b kept l closed e f =
     let same : Keeps (registered ids types) (registered new_ids new_types) = subst (λ r. Keeps r (registered new_ids new_types)) (sym a) (subst (λ s. Keeps old s) (sym b) kept) in
     cut_closed ids new_ids cut_ids types new_types cut_types k l closed same.0 same.1 e f
@@ -259,7 +259,7 @@ keeps_itself old new e =
 pub cut_keeps :
     (old new : Registered) (ids new_ids cut_ids : List TypeId) (types new_types cut_types : List portable.Description) (k : ℕ)
     → registered ids types ≡ old → registered new_ids new_types ≡ new → Keeps old new → k ≡ length types
-    → IsClosed (registered ids types)
+    → IsClosedRegistry (registered ids types)
     → cut_ids ≡ take k new_ids → cut_types ≡ take k new_types → Keeps old (registered cut_ids cut_types)
 cut_keeps old new ids new_ids cut_ids types new_types cut_types k a b kept l closed e f =
     let same : Keeps (registered ids types) (registered new_ids new_types) = subst (λ r. Keeps r (registered new_ids new_types)) (sym a) (subst (λ s. Keeps old s) (sym b) kept) in

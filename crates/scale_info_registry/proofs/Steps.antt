@@ -1,5 +1,5 @@
 -- Several registrations, one after another.
-use Rattle.std.proofs.Common.{◌≡◌, ◌∙◌, ◌++◌, ◌∷◌, [], List, Option, Some, None, ap, sym, subst}
+use Rattle.std.proofs.Common.{◌∙◌, ◌++◌, ◌∷◌, [], List, ap, sym, subst}
 use Rattle.std.proofs.Common.{append_assoc, append-nil, option_map}
 use Rattle.std.proofs.lemmas.Option.{none-some}
 use Rattle.scale_info_identities.specs.TypeIds.{Term}

@@ -1,3 +1,4 @@
 pub mod CatalogueSystems
 pub mod Parts
 pub mod Registrations
+pub mod RegistryLaws

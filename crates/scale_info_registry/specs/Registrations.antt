@@ -69,8 +69,8 @@ abbrev pub ids_in : portable.Description → List ℕ
 ids_in ty = map (λ (r : portable.Id). r.id) (references ty)
 
 -- each identity has a description, and each id in a description is that of an identity
-abbrev pub IsClosed : Registered → Type 0
-IsClosed r =
+abbrev pub IsClosedRegistry : Registered → Type 0
+IsClosedRegistry r =
     (length r.types ≡ length r.identities)
     × ((i : ℕ) (ty : portable.Description) → slice_get r.types i ≡ Some ty
     → (p : ℕ) → Contains (ids_in ty) p → p < length r.identities)

@@ -1,5 +1,5 @@
 //! Laws of registrations. Nothing here does any work when it runs.
-ghost use Rattle.std.specs.Prelude.{◌≡◌, ◌++◌, ◌∷◌, [], List, length, map};
+ghost use Rattle.std.specs.Prelude.{◌≡◌, ◌↔◌, ◌++◌, ◌∷◌, [], IsTrue, List, length, map};
 ghost use Rattle.scale_info_identities.specs.TypeIds.{Term};
 ghost use Rattle.scale_info_numberings.specs.Numberings.{IsNumbering};
 ghost use Rattle.scale_info_numberings.specs.Systems.{System, Grows};
@@ -20,6 +20,10 @@ ghost use Rattle.scale_info_registry.specs.Registrations.{
   registered,
   step_roots,
 };
+
+use crate::registry::Registry;
+use scale_info_identities::laws::equal_type_ids;
+use scale_info_types::laws::equal_portable;
 
 /// One registration after another is a registration of both lists of roots, also where the
 /// catalogue grew in between.
@@ -66,3 +70,16 @@ pub fn catalogue_grows()
         → HasOneMore old new t d → Grows (system_of old) (system_of new) }
     ensures same { (old new : Catalogue) → AreSame old new → Grows (system_of old) (system_of new) }
 {}
+
+/// Registries are equal exactly where their identities have the same terms and their descriptions
+/// are the same, in order.
+///
+/// So `bool` and `u8`, registered in this order, and the same two in the other order, give two
+/// registries that are not equal.
+pub fn equal_registries()
+    ensures { (a b : Registered) → IsTrue (⟦<Registry as PartialEq>⟧.eq a b)
+        ↔ ((nodes_of a.identities ≡ nodes_of b.identities) × (a.types ≡ b.types)) }
+{
+    equal_type_ids();
+    equal_portable();
+}

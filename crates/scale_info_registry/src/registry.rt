@@ -39,7 +39,7 @@ ghost use Rattle.scale_info_registry.specs.Registrations.{
   IsCause,
   Registered,
   registered,
-  IsClosed,
+  IsClosedRegistry,
   IsRegistration,
   AreDescribed,
   HasIds,
@@ -64,6 +64,7 @@ use std::marker::Model;
 
 mod conversion;
 mod discovery;
+mod equality;
 mod into_portable;
 mod registry_types;
 
@@ -89,7 +90,7 @@ pub struct Registry {
 
 impl Model for Registry {
     ghost use Rattle.scale_info_identities.specs.contracts.type_id.TypeId as e;
-    ghost use Rattle.scale_info_registry.specs.Registrations.{Registered, IsClosed, registered};
+    ghost use Rattle.scale_info_registry.specs.Registrations.{Registered, IsClosedRegistry, registered};
     ghost use Rattle.std.specs.Coded.{codes};
 
     ghost Value = { Registered };
@@ -98,7 +99,7 @@ impl Model for Registry {
 
     ghost view = { λ s. registered s.identities s.types.items };
 
-    ghost invariant = { λ s. IsClosed (registered s.identities s.types.items) };
+    ghost invariant = { λ s. IsClosedRegistry (registered s.identities s.types.items) };
 }
 
 impl Registry {
@@ -219,7 +220,7 @@ impl Registry {
     /// The descriptions, each with its id, in ascending order of id. Does not allocate.
     pub fn types(&self) -> RegistryTypes<'_>
         ensures list { result ≡ enumerate_from 0 self.now.types }
-        ensures closed { IsClosed self.now }
+        ensures closed { IsClosedRegistry self.now }
     {
         let _bounded = self.identities.elements();
         RegistryTypes {

@@ -1,3 +1,4 @@
 pub mod Below
 pub mod IndexedEntries
 pub mod Interned
+pub mod Registries

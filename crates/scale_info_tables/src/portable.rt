@@ -5,6 +5,7 @@ ghost use Rattle.std.specs.Option.{option_copied};
 ghost use Rattle.scale_info_codec.specs.Limits.{AreEntriesWithinLimits};
 ghost use Rattle.scale_info_bytes.specs.Encodings.{AppendsEncoding, HasPrefix, HasNoPrefix};
 ghost use Rattle.scale_info_bytes.specs.Encodings.{HasNoEncoding, IfTooLong, IfMalformed};
+ghost use Rattle.scale_info_tables.specs.BuiltTables.{numbered_from};
 ghost use Rattle.scale_info_tables.specs.ClosedTables.{IsClosed};
 ghost use Rattle.scale_info_tables.specs.Entries.{indexed_from};
 ghost use Rattle.scale_info_tables.specs.TableEncoding.{EncodesRegistry};
@@ -14,6 +15,7 @@ ghost use Rattle.scale_info_walk.specs.Pruned.{IsChosen, IsPruned, IsRetainError
 use scale_info_codec::{DecodeError, EncodeError, Scale};
 use scale_info_collections::items::Items;
 use scale_info_collections::try_clone::TryClone;
+use scale_info_registry::registry::Registry;
 use scale_info_types::form::PortableForm;
 use scale_info_types::ty::{PortableType, Type};
 use scale_info_walk::pruned::retain_types;
@@ -39,6 +41,33 @@ pub struct PortableRegistry {
 }
 
 impl PortableRegistry {
+    /// The table of a registry: its descriptions in order, each with its index as `id`.
+    ///
+    /// It is closed, as the registry is. The registry stays as it is and can go on; the table has
+    /// copies. The crate `scale-info` makes it by `From<Registry>`.
+    ///
+    /// Errors: `AllocError`, where an allocation for the table failed.
+    ///
+    /// ```text
+    /// let mut registry = Registry::new(alloc);
+    /// registry.register_type(&MetaType::new::<Vec<u32>>(alloc)?, &catalogue)?;
+    /// PortableRegistry::from_registry(alloc, &registry)?  // a sequence of the type 1, and `u32`
+    /// ```
+    pub fn from_registry(alloc: Global, registry: &Registry) -> Result<PortableRegistry, AllocError>
+        ensures entries { IfOk result
+            (λ table. table.types ≡ numbered_from 0 registry.now.types) }
+        ensures long { IfOk result
+            (λ table. length table.types ≡ length registry.now.identities) }
+        ensures closed { IfOk result (λ table. IsClosed table) }
+    {
+        let entries = registry.types();
+        let mut types = Items::with_capacity(alloc, entries.size_hint().0)?;
+        for (id, ty) in entries {
+            types.push(PortableType::new(id.id, ty.try_clone(alloc)?))?;
+        }
+        Ok(PortableRegistry { types })
+    }
+
     /// The description at index `id`, counted from 0; None past the end.
     ///
     /// An id is an index, not the `id` field of a table that was read, which may be any number. The
