@@ -2,8 +2,10 @@
 #![tactic(auto)]
 
 pub mod laws;
+pub mod macros;
 pub mod walk;
 
+pub use scale_info_build as build;
 pub use scale_info_codec as codec;
 pub use scale_info_codec::{DecodeError, EncodeError, Scale};
 pub use scale_info_collections::items::Items;
