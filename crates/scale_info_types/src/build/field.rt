@@ -6,7 +6,7 @@ use crate::form::{Form, MetaForm, PortableForm};
 use crate::meta_type::{HasIdentity, MetaType};
 use crate::ty::Field;
 use scale_info_collections::items::Items;
-use scale_info_collections::text::Text;
+use scale_info_collections::marker::Marker;
 use scale_info_identities::interner::UntrackedSymbol;
 use scale_info_identities::type_id::TypeId;
 use std::alloc::{AllocError, Global};
@@ -46,6 +46,8 @@ pub struct FieldBuilder<F: Form, N, T> {
     pub ty: T,
     /// The type's name as the source writes it, if the builder has it.
     pub type_name: Option<F::String>,
+    // The borrow checker does not cover a value whose form has types that no field names.
+    form: Marker<F::Ty>,
 }
 
 impl Field<MetaForm> {
@@ -66,6 +68,7 @@ impl<F: Form> FieldBuilder<F, NameNotAssigned, TypeNotAssigned> {
             name: NameNotAssigned,
             ty: TypeNotAssigned,
             type_name: None,
+            form: Marker::new(),
         }
     }
 }
@@ -81,11 +84,13 @@ impl<F: Form, T> FieldBuilder<F, NameNotAssigned, T> {
             name: NameNotAssigned,
             ty,
             type_name,
+            form,
         } = self;
         FieldBuilder {
             name: NameAssigned { name },
             ty,
             type_name,
+            form,
         }
     }
 }
@@ -102,6 +107,7 @@ impl<F: Form, N, T> FieldBuilder<F, N, T> {
             name: self.name,
             ty: self.ty,
             type_name: Some(type_name),
+            form: self.form,
         }
     }
 }
@@ -124,6 +130,7 @@ impl<N: Drop> FieldBuilder<MetaForm, N, TypeNotAssigned> {
                 ty: MetaType::new::<T>(alloc)?,
             },
             type_name: self.type_name,
+            form: self.form,
         })
     }
 }
@@ -141,6 +148,7 @@ impl<N> FieldBuilder<PortableForm, N, TypeNotAssigned> {
                 ty: UntrackedSymbol::from(id),
             },
             type_name: self.type_name,
+            form: self.form,
         }
     }
 }
@@ -178,6 +186,7 @@ impl<F: Form> FieldBuilder<F, NameNotAssigned, TypeAssigned<F::Ty>> {
             name: NameNotAssigned,
             ty,
             type_name,
+            form: _,
         } = self;
         Field {
             name: None,
