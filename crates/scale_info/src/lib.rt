@@ -3,9 +3,11 @@
 
 pub mod impls;
 pub mod laws;
+pub mod macros;
 pub mod meta_type;
 pub mod walk;
 
+pub use scale_info_build as build;
 pub use scale_info_codec as codec;
 pub use scale_info_codec::{DecodeError, EncodeError, Scale};
 pub use scale_info_collections::items::Items;

@@ -16,8 +16,8 @@ use std::io::Write;
 /// Writes the bytes of the table of `Vec<u32>`: a sequence of the type at index 1, and `u32`.
 pub fn write_numbers<W: Write>(alloc: Global, output: &mut W) -> anyhow::Result<()> {
     let mut catalogue = Catalogue::new(alloc);
-    catalogue.add::<Vec<u32>>(alloc)?;
-    catalogue.add::<u32>(alloc)?;
+    catalogue.add::<Vec<u32>>()?;
+    catalogue.add::<u32>()?;
     let mut registry = Registry::new(alloc);
     registry.register_type(&MetaType::new::<Vec<u32>>(alloc)?, &catalogue)?;
     let mut bytes = Vec::new(alloc);
@@ -45,7 +45,7 @@ pub fn table_in_two_steps<T: TypeInfo>(
     registered_tables();
     let mut registry = Registry::new(alloc);
     registry.register_types(first, catalogue)?;
-    catalogue.add::<T>(alloc)?;
+    catalogue.add::<T>()?;
     registry.register_types(second, catalogue)?;
     Ok(PortableRegistry::from_registry(alloc, &registry)?)
 }

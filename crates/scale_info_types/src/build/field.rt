@@ -6,7 +6,7 @@ use crate::form::{Form, MetaForm, PortableForm};
 use crate::meta_type::MetaType;
 use crate::ty::Field;
 use scale_info_collections::items::Items;
-use scale_info_collections::text::Text;
+use scale_info_collections::marker::Marker;
 use scale_info_identities::interner::UntrackedSymbol;
 use scale_info_identities::type_id::TypeId;
 use scale_info_type_ids::identified::HasIdentity;
@@ -47,6 +47,8 @@ pub struct FieldBuilder<F: Form, N, T> {
     pub ty: T,
     /// The type's name as the source writes it, if the builder has it.
     pub type_name: Option<F::String>,
+    // The borrow checker does not cover a value whose form has types that no field names.
+    form: Marker<F::Ty>,
 }
 
 impl Field<MetaForm> {
@@ -67,6 +69,7 @@ impl<F: Form> FieldBuilder<F, NameNotAssigned, TypeNotAssigned> {
             name: NameNotAssigned,
             ty: TypeNotAssigned,
             type_name: None,
+            form: Marker::new(),
         }
     }
 }
@@ -82,11 +85,13 @@ impl<F: Form, T> FieldBuilder<F, NameNotAssigned, T> {
             name: NameNotAssigned,
             ty,
             type_name,
+            form,
         } = self;
         FieldBuilder {
             name: NameAssigned { name },
             ty,
             type_name,
+            form,
         }
     }
 }
@@ -103,6 +108,7 @@ impl<F: Form, N, T> FieldBuilder<F, N, T> {
             name: self.name,
             ty: self.ty,
             type_name: Some(type_name),
+            form: self.form,
         }
     }
 }
@@ -125,6 +131,7 @@ impl<N: Drop> FieldBuilder<MetaForm, N, TypeNotAssigned> {
                 ty: MetaType::new::<T>(alloc)?,
             },
             type_name: self.type_name,
+            form: self.form,
         })
     }
 }
@@ -142,6 +149,7 @@ impl<N> FieldBuilder<PortableForm, N, TypeNotAssigned> {
                 ty: UntrackedSymbol::from(id),
             },
             type_name: self.type_name,
+            form: self.form,
         }
     }
 }
@@ -179,6 +187,7 @@ impl<F: Form> FieldBuilder<F, NameNotAssigned, TypeAssigned<F::Ty>> {
             name: NameNotAssigned,
             ty,
             type_name,
+            form: _,
         } = self;
         Field {
             name: None,

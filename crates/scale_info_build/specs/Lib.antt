@@ -1,0 +1,2 @@
+pub mod BuiltFields
+pub mod Parameters

@@ -1,0 +1,76 @@
+-- What the program's types are described as.
+use Rattle.std.specs.Prelude.{ℕ, List, [], ◌∷◌, Option, Some, None, codes}
+use Rattle.scale_info_identities.specs.TypeIds.{Term}
+use Rattle.scale_info_types.specs.MetaDescriptions.{MetaContent}
+use Rattle.scale_info_type_ids.specs.StandardTerms.{named, primitive_term, slice_term}
+use Rattle.scale_info_types.specs.declared.ty.TypeDef.{TypeDef}
+use Rattle.scale_info_types.specs.declared.ty.TypeDef.TheVariants as def
+use Rattle.scale_info_types.specs.declared.ty.TypeDefPrimitive.TheVariants as kind
+use Rattle.scale_info_types.specs.declared.ty.fields.Field.{Field}
+use Rattle.scale_info_types.specs.declared.ty.variant.Variant.{Variant}
+
+-- the terms of the program's types
+abbrev pub point_term : Term
+point_term = named (codes "tutorial::Point")
+
+abbrev pub shape_term : Term
+shape_term = named (codes "tutorial::Shape")
+
+abbrev pub tree_term : Term
+tree_term = named (codes "tutorial::Tree")
+
+-- a field with a name and a type, and the name of the type as the source writes it
+abbrev pub field : List ℕ → Term → List ℕ → Field (Unit {0}) Term (List ℕ)
+field name ty type_name =
+    record { name = Some name; ty = ty; type_name = Some type_name; docs = [] }
+
+-- a variant with an index and fields
+abbrev pub variant :
+    List ℕ → ℕ → List (Field (Unit {0}) Term (List ℕ)) → Variant (Unit {0}) Term (List ℕ)
+variant name index fields = record { name = name; fields = fields; index = index; docs = [] }
+
+-- a type of the module `tutorial` with this name and definition
+abbrev pub described : List ℕ → TypeDef (Unit {0}) Term (List ℕ) → Option MetaContent
+described name definition =
+    Some (record {
+      path = record { segments = codes "tutorial" ∷ name ∷ []; form = tt };
+      type_params = [];
+      type_def = definition;
+      docs = [];
+    })
+
+-- `struct Point { x: u32, y: u32 }`
+abbrev pub point_description : Option MetaContent
+point_description =
+    described (codes "Point")
+    (def.Composite (record {
+      fields =
+          field (codes "x") (primitive_term kind.U32) (codes "u32")
+          ∷ field (codes "y") (primitive_term kind.U32) (codes "u32")
+          ∷ [];
+    }))
+
+-- `enum Shape { Empty, Circle { center: Point, radius: u32 } }`
+abbrev pub shape_description : Option MetaContent
+shape_description =
+    described (codes "Shape")
+    (def.Variant (record {
+      variants =
+          variant (codes "Empty") 0 []
+          ∷ variant (codes "Circle") 1
+          (field (codes "center") point_term (codes "Point")
+          ∷ field (codes "radius") (primitive_term kind.U32) (codes "u32")
+          ∷ [])
+          ∷ [];
+    }))
+
+-- `struct Tree { shape: Shape, branches: Vec<Tree> }`
+abbrev pub tree_description : Option MetaContent
+tree_description =
+    described (codes "Tree")
+    (def.Composite (record {
+      fields =
+          field (codes "shape") shape_term (codes "Shape")
+          ∷ field (codes "branches") (slice_term tree_term) (codes "Vec<Tree>")
+          ∷ [];
+    }))

@@ -1,0 +1,36 @@
+//! A program that describes its own types and registers them: `docs/TUTORIAL.md` shows it.
+#![tactic(auto)]
+
+mod types;
+
+use anyhow::Result;
+use scale_info::Registry;
+use scale_info::impls::meta_type;
+use scale_info::meta_type::Catalogue;
+use std::alloc::Global;
+use types::{Point, Shape, Tree};
+
+/// A catalogue of the program's types, and of what they refer to.
+fn described(alloc: Global) -> Result<Catalogue> {
+    let mut catalogue = Catalogue::new(alloc);
+    catalogue.add::<u32>()?;
+    catalogue.add::<Point>()?;
+    catalogue.add::<Shape>()?;
+    catalogue.add::<Vec<Tree>>()?;
+    catalogue.add::<Tree>()?;
+    Ok(catalogue)
+}
+
+/// Registers the tree, and prints the id and the path of each type that it leads to; a built-in type
+/// has no path.
+fn main(rt: HostRuntime) -> Result<()> {
+    let alloc = rt.alloc();
+    let catalogue = described(alloc)?;
+    let mut registry = Registry::new(alloc);
+    let tree = registry.register_type(&meta_type::<Tree>(alloc)?, &catalogue)?;
+    println!(rt; "Tree has the id {}", tree.id())?;
+    for (id, ty) in registry.types() {
+        println!(rt; "{} [{}]", id.id(), ty.path)?;
+    }
+    Ok(())
+}

@@ -1,0 +1,149 @@
+//! Fields and tuples, with types that are left out and types that only look like them.
+use crate::asserts::{holds, is};
+use crate::phantom::{Nothing, Phantom};
+use scale_info::build::{Fields, FieldsBuilder, NamedFields, UnnamedFields};
+use scale_info::form::MetaForm;
+use scale_info::impls::meta_type;
+use scale_info::{Field, MetaType, TypeDef, TypeDefComposite, TypeDefTuple, tuple_meta_type};
+use std::alloc::{AllocError, Global};
+use std::test::Fail;
+
+/// A case: the type of the second field, and whether the field stays.
+type Case = (&'static str, bool);
+
+/// Each case of a second field or member, beside a first one.
+const CASES: [Case; 5] = [
+    ("u32", true),
+    ("Phantom<u8>", false),
+    ("Box<Phantom<()>>", false),
+    ("Box<Phantom<u8>>", true),
+    ("Phantom<Phantom<()>>", false),
+];
+
+/// A struct with the field `a` of `u8`, and then the field `m` of the case.
+fn named(alloc: Global, case: &str) -> Result<FieldsBuilder<MetaForm, NamedFields>, AllocError> {
+    let fields = Fields::named::<MetaForm>(alloc).field(alloc, |f| f.name("a").ty::<u8>(alloc))?;
+    match case {
+        "u32" => fields.field(alloc, |f| f.name("m").ty::<u32>(alloc)),
+        "Phantom<u8>" => fields.field(alloc, |f| f.ty::<Phantom<u8>>(alloc).map(|f| f.name("m"))),
+        "Box<Phantom<()>>" => {
+            fields.field(alloc, |f| f.name("m").ty::<Box<Phantom<Nothing>>>(alloc))
+        }
+        "Box<Phantom<u8>>" => fields.field(alloc, |f| f.name("m").ty::<Box<Phantom<u8>>>(alloc)),
+        _ => fields.field(
+            alloc,
+            |f| f.name("m").ty::<Phantom<Phantom<Nothing>>>(alloc),
+        ),
+    }
+}
+
+/// The second type of the case.
+fn second(alloc: Global, case: &str) -> Result<MetaType, AllocError> {
+    match case {
+        "u32" => meta_type::<u32>(alloc),
+        "Phantom<u8>" => meta_type::<Phantom<u8>>(alloc),
+        "Box<Phantom<()>>" => meta_type::<Box<Phantom<Nothing>>>(alloc),
+        "Box<Phantom<u8>>" => meta_type::<Box<Phantom<u8>>>(alloc),
+        _ => meta_type::<Phantom<Phantom<Nothing>>>(alloc),
+    }
+}
+
+/// The fields that the case is to have.
+fn wanted(alloc: Global, case: Case) -> Result<TypeDefComposite, AllocError> {
+    let first = Field::new(Some("a"), meta_type::<u8>(alloc)?, None, Vec::new(alloc));
+    let mut fields = vec![in alloc; first]?;
+    if case.1 {
+        fields.push(Field::new(Some("m"), second(alloc, case.0)?, None, Vec::new(alloc)))?;
+    }
+    Ok(TypeDefComposite::from(fields))
+}
+
+#[test]
+fn fields_without_phantoms(rt: HostRuntime) -> Result<(), Fail> {
+    let alloc = rt.alloc();
+    for case in &CASES {
+        let built = TypeDefComposite::from(named(alloc, case.0)?);
+        holds(&rt, case.0, built == wanted(alloc, *case)?);
+    }
+    Ok(())
+}
+
+/// A tuple struct of `u8` and of a type, the second with a name of its type.
+fn unnamed(alloc: Global) -> Result<FieldsBuilder<MetaForm, UnnamedFields>, AllocError> {
+    Fields::unnamed::<MetaForm>(alloc)
+        .field(alloc, |f| f.ty::<u8>(alloc))?
+        .field(alloc, |f| f.ty::<Phantom<u8>>(alloc))?
+        .field(alloc, |f| f.type_name("Vec<T>").ty::<Vec<u8>>(alloc))
+}
+
+#[test]
+fn unnamed_fields_keep_type_names(rt: HostRuntime) -> Result<(), Fail> {
+    let alloc = rt.alloc();
+    let first = Field::new(None, meta_type::<u8>(alloc)?, None, Vec::new(alloc));
+    let list = meta_type::<Vec<u8>>(alloc)?;
+    let second = Field::new(None, list, Some("Vec<T>"), Vec::new(alloc));
+    let wanted = TypeDefComposite::from(vec![in alloc; first, second]?);
+    holds(
+        &rt,
+        "fields",
+        TypeDefComposite::from(unnamed(alloc)?) == wanted,
+    );
+    Ok(())
+}
+
+#[test]
+fn one_field_by_its_builder(rt: HostRuntime) -> Result<(), Fail> {
+    let alloc = rt.alloc();
+    let built = Field::builder().type_name("T").name("x").ty::<bool>(alloc)?;
+    let wanted = Field::new(
+        Some("x"),
+        meta_type::<bool>(alloc)?,
+        Some("T"),
+        Vec::new(alloc),
+    );
+    holds(&rt, "field", built.finalize(alloc) == wanted);
+    Ok(())
+}
+
+/// The members of a tuple.
+fn members(definition: &TypeDef) -> &[MetaType] {
+    match definition {
+        TypeDef::Tuple(tuple) => tuple.fields(),
+        _ => &[],
+    }
+}
+
+#[test]
+fn tuples_without_phantoms(rt: HostRuntime) -> Result<(), Fail> {
+    let alloc = rt.alloc();
+    for case in &CASES {
+        let given = vec![in alloc; second(alloc, case.0)?, meta_type::<u64>(alloc)?]?;
+        let tuple = TypeDefTuple::new(alloc, given)?;
+        is(
+            &rt,
+            case.0,
+            members(&tuple).len(),
+            if case.1 { 2 } else { 1 },
+        );
+        holds(
+            &rt,
+            "last",
+            members(&tuple).last() == Some(&meta_type::<u64>(alloc)?),
+        );
+    }
+    Ok(())
+}
+
+#[test]
+fn tuples_of_nothing(rt: HostRuntime) -> Result<(), Fail> {
+    let alloc = rt.alloc();
+    let phantoms = TypeDefTuple::new(alloc, tuple_meta_type!(alloc; Phantom<u8>)?)?;
+    holds(
+        &rt,
+        "a phantom alone",
+        phantoms == TypeDefTuple::unit(alloc),
+    );
+    let other = TypeDefTuple::new(alloc, tuple_meta_type!(alloc; u8)?)?;
+    holds(&rt, "a member", other != TypeDefTuple::unit(alloc));
+    Ok(())
+}

@@ -1,0 +1,82 @@
+//! A struct with a parameter, which is built for two types, and with docs.
+ghost use Rattle.std.specs.Prelude.{codes};
+ghost use Rattle.scale_info_type_ids.specs.StandardTerms.{applied};
+
+use crate::asserts::holds;
+use scale_info::build::Fields;
+use scale_info::form::MetaForm;
+use scale_info::impls::meta_type;
+use scale_info::meta_type::{HasIdentity, Identified};
+use scale_info::{
+    Field, MetaType, Path, Type, TypeDefComposite, TypeId, TypeParameter, named_type_params,
+};
+use std::alloc::{AllocError, Global};
+use std::marker::PhantomData;
+use std::test::Fail;
+
+/// A struct with the field `data` of type `T`.
+pub struct MyStruct<T>(PhantomData<T>);
+
+impl<T: Identified> Identified for MyStruct<T> {
+    ghost own = { applied (codes "scale_info::tests::MyStruct") T.own };
+
+    fn type_id(alloc: Global) -> Result<TypeId, AllocError> {
+        let args = vec![in alloc; T::type_id(alloc)?]?;
+        Ok(TypeId::new("scale_info::tests::MyStruct", Vec::new(alloc), args))
+    }
+}
+
+impl<T: Identified> HasIdentity for MyStruct<T> {
+    type Identity = MyStruct<T>;
+}
+
+/// The path of the struct.
+fn path(alloc: Global) -> Result<Path, Fail> {
+    Ok(Path::new(alloc, "MyStruct", "scale_info::tests")?)
+}
+
+/// The struct's description, by builders.
+fn built<T: HasIdentity>(alloc: Global) -> Result<Type, Fail> {
+    let fields = Fields::named::<MetaForm>(alloc).field(
+        alloc,
+        |f| f.name("data").type_name("T").ty::<T>(alloc),
+    )?;
+    let builder = Type::builder(alloc)
+        .type_params(named_type_params!(alloc; (T, T))?)
+        .docs(alloc, &["a struct", ""])?;
+    Ok(builder.path(path(alloc)?).composite(fields))
+}
+
+/// The struct's description where the parameter is this type, by constructors.
+fn wanted(alloc: Global, param: MetaType, data: MetaType) -> Result<Type, Fail> {
+    let field = Field::new(Some("data"), data, Some("T"), Vec::new(alloc));
+    let ty = Type::from((
+        path(alloc)?,
+        vec![in alloc; TypeParameter::new("T", Some(param))]?,
+        TypeDefComposite::from(vec![in alloc; field]?).into(),
+        vec![in alloc; "a struct", ""]?,
+    ));
+    Ok(ty)
+}
+
+#[test]
+fn a_struct_of_bool(rt: HostRuntime) -> Result<(), Fail> {
+    let alloc = rt.alloc();
+    let wanted = wanted(alloc, meta_type::<bool>(alloc)?, meta_type::<bool>(alloc)?)?;
+    holds(&rt, "of bool", built::<bool>(alloc)? == wanted);
+    Ok(())
+}
+
+#[test]
+fn a_struct_of_itself(rt: HostRuntime) -> Result<(), Fail> {
+    let alloc = rt.alloc();
+    let param = meta_type::<MyStruct<bool>>(alloc)?;
+    let data = meta_type::<Box<MyStruct<bool>>>(alloc)?;
+    let wanted = wanted(alloc, param, data)?;
+    holds(
+        &rt,
+        "of itself",
+        built::<Box<MyStruct<bool>>>(alloc)? == wanted,
+    );
+    Ok(())
+}
