@@ -90,7 +90,8 @@ pub struct Registry {
 
 impl Model for Registry {
     ghost use Rattle.scale_info_identities.specs.contracts.type_id.TypeId as e;
-    ghost use Rattle.scale_info_registry.specs.Registrations.{Registered, IsClosedRegistry, registered};
+    ghost use Rattle.scale_info_registry.specs.Registrations.{IsClosedRegistry, Registered};
+    ghost use Rattle.scale_info_registry.specs.Registrations.{registered};
     ghost use Rattle.std.specs.Coded.{codes};
 
     ghost Value = { Registered };
@@ -221,6 +222,7 @@ impl Registry {
     pub fn types(&self) -> RegistryTypes<'_>
         ensures list { result ≡ enumerate_from 0 self.now.types }
         ensures closed { IsClosedRegistry self.now }
+        ensures few { length self.now.types ≤ 4294967295 }
     {
         let _bounded = self.identities.elements();
         RegistryTypes {

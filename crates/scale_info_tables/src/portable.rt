@@ -1,5 +1,5 @@
 //! Tables of descriptions that can leave the program.
-ghost use Rattle.std.specs.Prelude.{◌≡◌, ◌↔◌, [], IsTrue, IfOk, IfErr, OnOk, OnErr, length};
+ghost use Rattle.std.specs.Prelude.{◌≡◌, ◌↔◌, ◌≤◌, [], IsTrue, IfOk, IfErr, OnOk, OnErr, length};
 ghost use Rattle.std.specs.Prelude.{option_map, slice_get, take, List, ℕ};
 ghost use Rattle.std.specs.Option.{option_copied};
 ghost use Rattle.scale_info_codec.specs.Limits.{AreEntriesWithinLimits};
@@ -59,6 +59,7 @@ impl PortableRegistry {
         ensures long { IfOk result
             (λ table. length table.types ≡ length registry.now.identities) }
         ensures closed { IfOk result (λ table. IsClosed table) }
+        ensures few { IfOk result (λ table. length table.types ≤ 4294967295) }
     {
         let entries = registry.types();
         let mut types = Items::with_capacity(alloc, entries.size_hint().0)?;

@@ -1,4 +1,4 @@
-use Rattle.std.proofs.Common.{ap, ◌∙◌, map, length}
+use Rattle.std.proofs.Common.{ap, ◌∙◌, ◌≤◌, map, length, subst, sym}
 use Rattle.std.specs.List.{enumerate_from}
 use Rattle.std.proofs.lemmas.Iterator.Consumers.{YieldsList-end, YieldsList-from_first}
 use Rattle.scale_info_tables.proofs.Interned.{length_numbered}
@@ -20,3 +20,9 @@ returns-clause-long c =
 pub returns-clause-closed : goal.returns-clause-closed
 returns-clause-closed c =
     closed_table c.args.registry.now _ (returns-clause-entries c) c.types-entries.ensures.closed
+
+pub returns-clause-few : goal.returns-clause-few
+returns-clause-few c =
+    let same = ap length (returns-clause-entries c)
+        ∙ length_numbered 0 c.args.registry.now.types in
+    subst (λ n. n ≤ 4294967295) (sym same) c.types-entries.ensures.few
