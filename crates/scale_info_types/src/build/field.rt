@@ -6,10 +6,10 @@ use crate::form::{Form, MetaForm, PortableForm};
 use crate::meta_type::{HasIdentity, MetaType};
 use crate::ty::Field;
 use scale_info_collections::items::Items;
-use scale_info_collections::marker::Marker;
 use scale_info_identities::interner::UntrackedSymbol;
 use scale_info_identities::type_id::TypeId;
 use std::alloc::{AllocError, Global};
+use std::marker::PhantomData;
 
 /// The state of a [`FieldBuilder`] that has no name yet.
 #[derive(Drop)]
@@ -47,7 +47,7 @@ pub struct FieldBuilder<F: Form, N, T> {
     /// The type's name as the source writes it, if the builder has it.
     pub type_name: Option<F::String>,
     // The borrow checker does not cover a value whose form has types that no field names.
-    form: Marker<F::Ty>,
+    form: PhantomData<F::Ty>,
 }
 
 impl Field<MetaForm> {
@@ -68,7 +68,7 @@ impl<F: Form> FieldBuilder<F, NameNotAssigned, TypeNotAssigned> {
             name: NameNotAssigned,
             ty: TypeNotAssigned,
             type_name: None,
-            form: Marker::new(),
+            form: PhantomData,
         }
     }
 }
@@ -107,7 +107,7 @@ impl<F: Form, N, T> FieldBuilder<F, N, T> {
             name: self.name,
             ty: self.ty,
             type_name: Some(type_name),
-            form: self.form,
+            form: PhantomData,
         }
     }
 }
@@ -130,7 +130,7 @@ impl<N: Drop> FieldBuilder<MetaForm, N, TypeNotAssigned> {
                 ty: MetaType::new::<T>(alloc)?,
             },
             type_name: self.type_name,
-            form: self.form,
+            form: PhantomData,
         })
     }
 }
@@ -148,7 +148,7 @@ impl<N> FieldBuilder<PortableForm, N, TypeNotAssigned> {
                 ty: UntrackedSymbol::from(id),
             },
             type_name: self.type_name,
-            form: self.form,
+            form: PhantomData,
         }
     }
 }
