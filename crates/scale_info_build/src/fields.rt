@@ -107,8 +107,8 @@ impl<F: IdentityForm> FieldsBuilder<F, NamedFields> {
             × (built : _) × B.post build fresh (Ok built)
             × (after.fields ≡ with_field F.identity self.fields (named_field built))) }
     {
-        let field = build(FieldBuilder::new())?.finalize(alloc);
-        Ok(with_fields(kept(self.fields, field)?))
+        let named = build(FieldBuilder::new())?.finalize(alloc);
+        Ok(with_fields(kept(self.fields, named)?))
     }
 }
 
@@ -127,8 +127,8 @@ impl<F: IdentityForm> FieldsBuilder<F, UnnamedFields> {
             × (built : _) × B.post build fresh (Ok built)
             × (after.fields ≡ with_field F.identity self.fields (unnamed_field built))) }
     {
-        let field = build(FieldBuilder::new())?.finalize(alloc);
-        Ok(with_fields(kept(self.fields, field)?))
+        let unnamed = build(FieldBuilder::new())?.finalize(alloc);
+        Ok(with_fields(kept(self.fields, unnamed)?))
     }
 }
 
@@ -159,9 +159,9 @@ impl<F: IdForm> FieldsBuilder<F, NamedFields> {
             × (built : _) × B.post build fresh (Ok built)
             × (after.fields ≡ self.fields ++ named_field built ∷ [])) }
     {
-        let field = build(FieldBuilder::new())?.finalize(alloc);
+        let named = build(FieldBuilder::new())?.finalize(alloc);
         let mut fields = self.fields;
-        fields.push(field)?;
+        fields.push(named)?;
         Ok(with_fields(fields))
     }
 }
@@ -180,9 +180,9 @@ impl<F: IdForm> FieldsBuilder<F, UnnamedFields> {
             × (built : _) × B.post build fresh (Ok built)
             × (after.fields ≡ self.fields ++ unnamed_field built ∷ [])) }
     {
-        let field = build(FieldBuilder::new())?.finalize(alloc);
+        let unnamed = build(FieldBuilder::new())?.finalize(alloc);
         let mut fields = self.fields;
-        fields.push(field)?;
+        fields.push(unnamed)?;
         Ok(with_fields(fields))
     }
 }

@@ -72,9 +72,10 @@ impl<F: Form, I> VariantBuilder<F, I> {
 ///
 /// ```text
 /// Variants::new(alloc)
-///     .variant_unit("None", 0)?
+///     .variant_unit(alloc, "None", 0)?
 ///     .variant(alloc, "Some", |v| {
-///         Ok(v.index(1).fields(Fields::unnamed(alloc).field(alloc, |f| f.ty::<u8>(alloc))?))
+///         let fields = Fields::unnamed::<MetaForm>(alloc);
+///         Ok(v.index(1).fields(fields.field(alloc, |f| f.ty::<u8>(alloc))?))
 ///     })?
 /// ```
 #[derive(Drop)]
@@ -87,15 +88,10 @@ impl Variants<MetaForm> {
     pub fn new(alloc: Global) -> Variants<MetaForm>
         ensures { result.variants ≡ [] }
     {
-        with_variants(Items::new(alloc))
+        Variants {
+            variants: Items::new(alloc),
+        }
     }
-}
-
-/// The builder with these variants.
-fn with_variants<F: Form>(variants: Items<Variant<F>>) -> Variants<F>
-    ensures { result.variants ≡ variants }
-{
-    Variants { variants }
 }
 
 impl<F: IdentityForm> Variants<F> {

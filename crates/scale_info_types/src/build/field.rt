@@ -6,11 +6,11 @@ use crate::form::{Form, MetaForm, PortableForm};
 use crate::meta_type::MetaType;
 use crate::ty::Field;
 use scale_info_collections::items::Items;
-use scale_info_collections::marker::Marker;
 use scale_info_identities::interner::UntrackedSymbol;
 use scale_info_identities::type_id::TypeId;
 use scale_info_type_ids::identified::HasIdentity;
 use std::alloc::{AllocError, Global};
+use std::marker::PhantomData;
 
 /// The state of a [`FieldBuilder`] that has no name yet.
 #[derive(Drop)]
@@ -48,7 +48,7 @@ pub struct FieldBuilder<F: Form, N, T> {
     /// The type's name as the source writes it, if the builder has it.
     pub type_name: Option<F::String>,
     // The borrow checker does not cover a value whose form has types that no field names.
-    form: Marker<F::Ty>,
+    form: PhantomData<F::Ty>,
 }
 
 impl Field<MetaForm> {
@@ -69,7 +69,7 @@ impl<F: Form> FieldBuilder<F, NameNotAssigned, TypeNotAssigned> {
             name: NameNotAssigned,
             ty: TypeNotAssigned,
             type_name: None,
-            form: Marker::new(),
+            form: PhantomData,
         }
     }
 }
@@ -108,7 +108,7 @@ impl<F: Form, N, T> FieldBuilder<F, N, T> {
             name: self.name,
             ty: self.ty,
             type_name: Some(type_name),
-            form: self.form,
+            form: PhantomData,
         }
     }
 }
@@ -131,7 +131,7 @@ impl<N: Drop> FieldBuilder<MetaForm, N, TypeNotAssigned> {
                 ty: MetaType::new::<T>(alloc)?,
             },
             type_name: self.type_name,
-            form: self.form,
+            form: PhantomData,
         })
     }
 }
@@ -149,7 +149,7 @@ impl<N> FieldBuilder<PortableForm, N, TypeNotAssigned> {
                 ty: UntrackedSymbol::from(id),
             },
             type_name: self.type_name,
-            form: self.form,
+            form: PhantomData,
         }
     }
 }
