@@ -1,0 +1,99 @@
+-- Tables of what chosen types of the program reach, and why there may be none.
+use Rattle.std.specs.Prelude.{◌≡◌, ◌↔◌, ◌≤◌, ℕ, List, [], Bool, Some, length, map, slice_get, ⊤}
+use Rattle.std.specs.BTreeMap.{BTreeMap, get}
+use Rattle.std.specs.Ordering.{nat_cmp}
+use Rattle.scale_info_bytes.specs.Encodings.{HasNoEncoding}
+use Rattle.scale_info_bytes.specs.declared.error.EncodeError.{EncodeError}
+use Rattle.scale_info_bytes.specs.declared.error.EncodeError.TheVariants as encode
+use Rattle.scale_info_identities.specs.TypeIds.{Term}
+use Rattle.scale_info_numberings.specs.Numberings.{IsNumbering}
+use Rattle.scale_info_numberings.specs.Systems.{System}
+use Rattle.scale_info_numberings.specs.Tables.{ArePlaces, IsTable}
+use Rattle.scale_info_registry.specs.Registrations.{IsCause}
+use Rattle.scale_info_registry.specs.declared.registry.discovery.RegisterError.{RegisterError}
+use Rattle.scale_info_registry.specs.declared.registry.discovery.RegisterError.TheVariants as register
+use Rattle.scale_info_tables.specs.TableEncoding.{EncodesRegistry}
+use Rattle.scale_info_tables.specs.declared.portable.PortableRegistry.{PortableRegistry}
+use Rattle.scale_info_types.specs.Shapes.{Shape}
+use Rattle.scale_info_types.specs.declared.ty.PortableType.{PortableType}
+use Rattle.scale_info_walk.specs.Pruned.{IsChosen}
+use Rattle.scale_info_walk.specs.TypeSystems.{entry_of}
+use Rattle.scale_info_walk.specs.declared.walk.RetainError.{RetainError}
+use Rattle.scale_info_walk.specs.declared.walk.RetainError.TheVariants as retain
+use Rattle.scale_info_export.specs.declared.export.ExportError.{ExportError}
+use Rattle.scale_info_export.specs.declared.export.ExportError.TheVariants.{Register, Retain}
+use Rattle.scale_info_export.specs.declared.export.ExportError.TheVariants.{Encode, Memory}
+
+-- The table of the one numbering of the catalogue from the roots, which stand in it at these ids.
+-- Each of its references leads to an entry, and there are no more entries than ids.
+pub record IsRegisteredTable (S : System Shape Term) (roots : List Term) (ids : List ℕ)
+    (table : PortableRegistry) : Type 0 where
+  pub order : List Term
+  pub numbering : IsNumbering S roots order
+  pub places : ArePlaces order roots ids
+  pub entries : IsTable S order (map entry_of table.types)
+  pub few : length table.types ≤ 4294967295
+
+-- The table of what a filter chooses among the types that the roots reach. `order` is the one
+-- numbering of the catalogue from the roots, and `ids` are the places of the roots in it; the
+-- filter chose some of its places, where the types `tops` stand; `kept` is the one numbering of the
+-- catalogue from these, as if they were registered afresh, and the table is its table. The map takes
+-- the place of each kept type in `order` to that in `kept`, and has no other keys.
+pub record IsExported (S : System Shape Term) (roots : List Term) {F : Type 0}
+    (step : F → ℕ → Bool → F → Type 0) (filter : F) (ids : List ℕ) (new_ids : BTreeMap ℕ ℕ)
+    (table : PortableRegistry) : Type 0 where
+  pub order : List Term
+  pub numbering : IsNumbering S roots order
+  pub places : ArePlaces order roots ids
+  pub chosen : List ℕ
+  pub last : F
+  pub asked : IsChosen step filter (length order) chosen last
+  pub tops : List Term
+  pub chosen_types : ArePlaces order tops chosen
+  pub kept : List Term
+  pub afresh : IsNumbering S tops kept
+  pub entries : IsTable S kept (map entry_of table.types)
+  pub own_ids : (i : ℕ) (entry : PortableType) → slice_get table.types i ≡ Some entry → entry.id ≡ i
+  pub indices :
+      (old new : ℕ)
+      → (get nat_cmp new_ids old ≡ Some new)
+      ↔ ((n : Term) × (slice_get order old ≡ Some n) × (slice_get kept new ≡ Some n))
+
+-- why the roots were not registered: a type that is reached has no description; there are too many;
+-- or an allocation failed
+abbrev pub IsNotRegistered : System Shape Term → List Term → ExportError → Type 0
+IsNotRegistered S roots (Register register.Memory) = ⊥
+IsNotRegistered S roots (Register (register.Undescribed id)) =
+    IsCause S [] roots (register.Undescribed id)
+IsNotRegistered S roots (Register register.Full) = IsCause S [] roots register.Full
+IsNotRegistered S roots (Retain e) = ⊥
+IsNotRegistered S roots (Encode e) = ⊥
+IsNotRegistered S roots Memory = ⊤
+
+-- why nothing was exported: the roots were not registered, or the table has no encoding
+abbrev pub IsExportError :
+    System Shape Term
+    → List Term → {F : Type 0} → (F → ℕ → Bool → F → Type 0) → F → ExportError → Type 0
+IsExportError S roots step filter (Register e) = IsNotRegistered S roots (Register e)
+IsExportError S roots step filter (Retain e) = ⊥
+IsExportError S roots step filter (Encode encode.TooLong) =
+    (ids : List ℕ) × (new_ids : BTreeMap ℕ ℕ) × (table : PortableRegistry)
+    × IsExported S roots step filter ids new_ids table × HasNoEncoding (EncodesRegistry table)
+IsExportError S roots step filter (Encode encode.Memory) = ⊥
+IsExportError S roots step filter Memory = ⊤
+
+-- the error of a registration, of pruning and of encoding as one of an export: a failed allocation
+-- is `Memory`, wherever it failed
+abbrev pub of_register : RegisterError → ExportError
+of_register (register.Undescribed id) = Register (register.Undescribed id)
+of_register register.Full = Register register.Full
+of_register register.Memory = Memory
+
+abbrev pub of_retain : RetainError → ExportError
+of_retain (retain.Dangling id) = Retain (retain.Dangling id)
+of_retain retain.TooManyTypes = Retain retain.TooManyTypes
+of_retain retain.Memory = Memory
+
+abbrev pub of_encode : EncodeError → ExportError
+of_encode encode.TooLong = Encode encode.TooLong
+of_encode encode.Memory = Memory

@@ -1,0 +1,189 @@
+//! Types of the program in, bytes of a table out.
+ghost use Rattle.std.specs.Prelude.{◌≡◌, IfErr, IfOk, map, OnErr, OnOk};
+ghost use Rattle.scale_info_bytes.specs.Encodings.{AppendsEncoding};
+ghost use Rattle.scale_info_export.specs.Exports.{IsExportError, IsExported, IsNotRegistered};
+ghost use Rattle.scale_info_export.specs.Exports.{IsRegisteredTable, of_encode, of_register};
+ghost use Rattle.scale_info_export.specs.Exports.{of_retain};
+ghost use Rattle.scale_info_export.specs.declared.export.ExportError.TheVariants as export_error;
+ghost use Rattle.scale_info_registry.specs.CatalogueSystems.{system_of};
+ghost use Rattle.scale_info_identities.specs.declared.interner.UntrackedSymbol as tracked;
+ghost use Rattle.scale_info_identities.specs.declared.type_id.TypeId.{TypeId};
+ghost use Rattle.scale_info_registry.specs.Registrations.{roots_of};
+ghost use Rattle.scale_info_tables.specs.TableEncoding.{EncodesRegistry};
+ghost use Rattle.scale_info_tables.specs.declared.portable.PortableRegistry as tables;
+
+use scale_info_bytes::error::EncodeError;
+use scale_info_catalogue::catalogue::Catalogue;
+use scale_info_identities::interner::UntrackedSymbol;
+use scale_info_identities::type_id::TypeId;
+use scale_info_registry::registry::{RegisterError, Registry};
+use scale_info_tables::laws::registered_tables;
+use scale_info_tables::portable::PortableRegistry;
+use scale_info_types::form::{Form, MetaForm};
+use scale_info_types::meta_type::MetaType;
+use scale_info_walk::walk::RetainError;
+use std::alloc::{AllocError, AllocFailed, Global};
+use std::collections::BTreeMap;
+use thiserror::Error;
+
+/// What [`export`] returns.
+#[derive(Debug, Drop)]
+pub struct Exported {
+    /// The id that each given type got, before pruning, in the order in which they were given.
+    pub ids: Vec<u32>,
+    /// The new id of each of these ids that was kept.
+    pub map: BTreeMap<u32, u32>,
+}
+
+/// Why types could not be exported. It is displayed as the name of the variant alone.
+#[derive(Debug, Drop, PartialEq, Eq, Error)]
+pub enum ExportError {
+    /// A type could not be registered.
+    #[error("Register")]
+    Register(RegisterError),
+    /// The table could not be pruned. This never comes: the table of a registry is closed, and has
+    /// at most 4294967295 types.
+    #[error("Retain")]
+    Retain(RetainError),
+    /// The pruned table has no encoding.
+    #[error("Encode")]
+    Encode(EncodeError),
+    /// An allocation failed.
+    #[error("Memory")]
+    Memory,
+}
+
+impl From<AllocError> for ExportError {
+    ghost from_gives = { λ _ e. e ≡ export_error.Memory };
+
+    fn from(_e: AllocError) -> ExportError {
+        ExportError::Memory
+    }
+}
+
+impl<T: Drop> From<AllocFailed<T>> for ExportError {
+    ghost from_gives = { λ _ e. e ≡ export_error.Memory };
+
+    fn from(_e: AllocFailed<T>) -> ExportError {
+        ExportError::Memory
+    }
+}
+
+impl From<RegisterError> for ExportError {
+    ghost from_gives = { λ cause e. e ≡ of_register cause };
+
+    fn from(e: RegisterError) -> ExportError {
+        match e {
+            RegisterError::Memory => ExportError::Memory,
+            RegisterError::Full => ExportError::Register(RegisterError::Full),
+            RegisterError::Undescribed(id) => {
+                ExportError::Register(RegisterError::Undescribed(id))
+            }
+        }
+    }
+}
+
+impl From<RetainError> for ExportError {
+    ghost from_gives = { λ cause e. e ≡ of_retain cause };
+
+    fn from(e: RetainError) -> ExportError {
+        match e {
+            RetainError::Memory => ExportError::Memory,
+            RetainError::TooManyTypes => ExportError::Retain(RetainError::TooManyTypes),
+            RetainError::Dangling { id } => ExportError::Retain(RetainError::Dangling { id }),
+        }
+    }
+}
+
+impl From<EncodeError> for ExportError {
+    ghost from_gives = { λ cause e. e ≡ of_encode cause };
+
+    fn from(e: EncodeError) -> ExportError {
+        match e {
+            EncodeError::Memory => ExportError::Memory,
+            EncodeError::TooLong => ExportError::Encode(EncodeError::TooLong),
+        }
+    }
+}
+
+/// Appends the SCALE encoding of a table of types of the program: those that a filter chooses among
+/// the given ones and all that they reach, with what the chosen ones reach in turn.
+///
+/// The given types are registered in order, in a table of their own, by which the filter is asked:
+/// once for each id, from 0 up. What is written is what one would get by registering the chosen
+/// types alone, in ascending order of id. To read it back, decode the bytes.
+///
+/// Errors: `Register(Undescribed)`, where a type that is reached has no description in the
+/// catalogue; `Register(Full)`, where more than 4294967295 types are reached; `Encode(TooLong)`,
+/// where the table has no encoding, since a list or a text of it has more than 4294967295 items or
+/// bytes; `Memory`, where an allocation failed, wherever that was. On an Err the output is as
+/// before. `Retain` never comes.
+///
+/// ```text
+/// let types = [meta_type::<bool>(alloc)?, meta_type::<Vec<u32>>(alloc)?];
+/// export(&catalogue, &types, |id| id == 1, &mut out)?
+/// // ids 0 and 1; the map {1: 0, 2: 1}; out grew by the table of Vec<u32> and u32
+/// ```
+pub fn export<F: FnMut(u32) -> bool>(
+    catalogue: &Catalogue,
+    types: &[MetaType],
+    filter: F,
+    out: &mut Vec<u8>,
+) -> Result<Exported, ExportError>
+    requires { F.IsAlwaysCallable filter }
+    ensures ok { IfOk result (λ exported. (table : tables.PortableRegistry)
+        × IsExported (system_of catalogue.now) (roots_of types.now) F.step filter
+        exported.ids.items exported.map table
+        × AppendsEncoding (EncodesRegistry table) out.old.items out.new.items) }
+    ensures err { OnErr result (out.new.items ≡ out.old.items) }
+    ensures cause { IfErr result
+        (IsExportError (system_of catalogue.now) (roots_of types.now) F.step filter) }
+{
+    let alloc = *out.allocator();
+    let (mut table, ids) = registered_table(alloc, types, catalogue)?;
+    let map = table.retain(alloc, filter)?;
+    table.encode(out)?;
+    Ok(Exported { ids, map })
+}
+
+/// The table of these types and of all that they reach, and the id of each.
+fn registered_table(
+    alloc: Global,
+    types: &[MetaType],
+    catalogue: &Catalogue,
+) -> Result<(PortableRegistry, Vec<u32>), ExportError>
+    ensures ok { IfOk result (λ made. IsRegisteredTable (system_of catalogue.now)
+        (roots_of types.now) made.1.items made.0) }
+    ensures cause { IfErr result (IsNotRegistered (system_of catalogue.now) (roots_of types.now)) }
+{
+    registered_tables();
+    let mut registry = Registry::new(alloc);
+    let symbols = registry.register_types(copies(alloc, types)?, catalogue)?;
+    let table = PortableRegistry::from_registry(alloc, &registry)?;
+    Ok((table, ids_of(alloc, &symbols)?))
+}
+
+/// Copies of these types.
+fn copies(alloc: Global, types: &[MetaType]) -> Result<Vec<MetaType>, ExportError>
+    ensures ok { IfOk result (λ copied. roots_of copied.items ≡ roots_of types.now) }
+    ensures memory { IfErr result (λ e. e ≡ export_error.Memory) }
+{
+    let mut copied = Vec::with_capacity(alloc, types.len())?;
+    for ty in types {
+        copied.push(MetaForm::copy_type(alloc, ty)?)?;
+    }
+    Ok(copied)
+}
+
+/// The ids of these symbols.
+fn ids_of(alloc: Global, symbols: &[UntrackedSymbol<TypeId>]) -> Result<Vec<u32>, ExportError>
+    ensures ok { IfOk result (λ ids. ids.items
+        ≡ map (λ (symbol : tracked.UntrackedSymbol TypeId). symbol.id) symbols.now) }
+    ensures memory { IfErr result (λ e. e ≡ export_error.Memory) }
+{
+    let mut ids = Vec::with_capacity(alloc, symbols.len())?;
+    for symbol in symbols {
+        ids.push(symbol.id)?;
+    }
+    Ok(ids)
+}
