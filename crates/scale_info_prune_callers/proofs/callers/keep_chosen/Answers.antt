@@ -1,4 +1,4 @@
-use Rattle.std.proofs.Common.{map, subst, sym}
+use Rattle.std.proofs.Common.{map, subst}
 use Rattle.std.proofs.lemmas.Result.{IfOk-weaker}
 use Rattle.scale_info_numberings.proofs.Extensions.{one_numbering}
 use Rattle.scale_info_numberings.specs.Tables.{IsTable}
