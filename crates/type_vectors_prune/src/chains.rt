@@ -84,12 +84,7 @@ fn the_recursive_walk_agrees_on_a_chain_of_1000_types(rt: HostRuntime) -> Result
 fn a_chain_is_pruned_from_its_first_type(rt: HostRuntime) -> Result<(), Fail> {
     let bytes = encoding(rt.alloc(), &chain_to_bool(rt.alloc(), 100000)?)?;
     is(&rt, "length", bytes.len(), 1134340);
-    is(
-        &rt,
-        "count",
-        &bytes[..4],
-        [0x82, 0x1a, 0x06, 0x00].as_slice(),
-    );
+    holds(&rt, "count", bytes.starts_with(&[0x82, 0x1a, 0x06, 0x00]));
     let mut output = Vec::new(rt.alloc());
     let new_ids = prune(rt.alloc(), &bytes, &[0], &mut output)?;
     is(&rt, "ids", new_ids.len(), 100000);

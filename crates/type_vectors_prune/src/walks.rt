@@ -56,13 +56,13 @@ fn tables_are_numbered_so(rt: HostRuntime) -> Result<(), Fail> {
     Ok(())
 }
 
-/// From each index alone and from one past the end.
+/// From each index alone, and from some past the end; no table has more than 15 entries.
 #[test]
 fn both_walks_agree_from_each_root(rt: HostRuntime) -> Result<(), Fail> {
     let alloc = rt.alloc();
     for row in rows(alloc, TABLES)? {
         let (table, _) = PortableRegistry::decode(alloc, &row.bytes)?;
-        for root in 0..table.len() as u32 + 1 {
+        for root in 0..16 {
             let found = number(alloc, table.types(), &[root]);
             let again = number_recursive(alloc, table.types(), &[root]);
             holds(&rt, row.name, found == again);

@@ -1,0 +1,54 @@
+//! Callers that prune, whose contracts speak of every numbering from the chosen ids. There is only
+//! one.
+ghost use Rattle.std.specs.Prelude.{List, ℕ, IfOk, OnErr, ◌≡◌, length, map};
+ghost use Rattle.scale_info_bytes.specs.Encodings.{AppendsEncoding};
+ghost use Rattle.scale_info_numberings.specs.Numberings.{IsNumbering};
+ghost use Rattle.scale_info_numberings.specs.Tables.{IsTable};
+ghost use Rattle.scale_info_prune.specs.Prunes.{HasNewIds};
+ghost use Rattle.scale_info_prune.specs.Roots.{AreRoots};
+ghost use Rattle.scale_info_prune.specs.TableIndexes.{EncodesTypes};
+ghost use Rattle.scale_info_types.specs.declared.ty.PortableType.{PortableType};
+ghost use Rattle.scale_info_walk.specs.Pruned.{IsChosen};
+ghost use Rattle.scale_info_walk.specs.TypeSystems.{entry_of, types_system};
+
+use scale_info::{PortableRegistry, PruneError, RetainError, prune};
+use std::alloc::Global;
+use std::collections::BTreeMap;
+
+/// Keeps what the filter chooses and all that it reaches. For each numbering of the old table from
+/// the chosen ids, the new table is its table, and an old id has its place there as new id.
+pub fn keep_chosen<F: FnMut(u32) -> bool>(
+    alloc: Global,
+    table: &mut PortableRegistry,
+    filter: F,
+) -> Result<BTreeMap<u32, u32>, RetainError>
+    requires { F.IsAlwaysCallable filter }
+    ensures ok { IfOk result (λ new_ids. (chosen : List ℕ) × (last : F)
+        × IsChosen F.step filter (length table.old.types) chosen last
+        × ((order : List ℕ) → IsNumbering (types_system table.old.types) chosen order
+        → IsTable (types_system table.old.types) order (map entry_of table.new.types)
+        × HasNewIds order new_ids)) }
+    ensures err { OnErr result (table.new ≡ table.old) }
+{
+    table.retain(alloc, filter)
+}
+
+/// Appends the table of what the ids reach. The input encodes a table; for each numbering of it
+/// from the ids in ascending order, each once, the output grew by an encoding of the table of that
+/// numbering, and an old id has its place there as new id.
+pub fn prune_to(
+    alloc: Global,
+    input: &[u8],
+    ids: &[u32],
+    out: &mut Vec<u8>,
+) -> Result<BTreeMap<u32, u32>, PruneError>
+    ensures ok { IfOk result (λ new_ids. (types : List PortableType) × (roots : List ℕ)
+        × EncodesTypes types input.now × AreRoots (length types) ids.now roots
+        × ((order : List ℕ) → IsNumbering (types_system types) roots order
+        → HasNewIds order new_ids × ((kept : List PortableType)
+        × IsTable (types_system types) order (map entry_of kept)
+        × AppendsEncoding (EncodesTypes kept) out.old.items out.new.items))) }
+    ensures err { OnErr result (out.new.items ≡ out.old.items) }
+{
+    prune(alloc, input, ids, out)
+}
