@@ -2,7 +2,7 @@
 use crate::asserts::is;
 use crate::described::catalogue;
 use crate::own::{A, C, Documented, References, Skipping};
-use crate::registered::{bytes, is_row, one, table};
+use crate::registered::{bytes, count, is_row, one, table};
 use scale_info::impls::meta_type;
 use scale_info::{PortableRegistry, Registry};
 use std::alloc::Global;
@@ -97,6 +97,6 @@ fn the_order_of_calls_counts(rt: HostRuntime) -> Result<(), Fail> {
     second.register_type(&meta_type::<A>(alloc)?, &known)?;
     is(&rt, "equal", first == second, false);
     second.register_type(&meta_type::<C>(alloc)?, &known)?;
-    is(&rt, "the types", second.types().count(), 4);
+    is(&rt, "the types", count(&second), 4);
     Ok(())
 }

@@ -3,14 +3,14 @@ use crate::asserts::{holds, is};
 use crate::described::{catalogue, option};
 use crate::own::Single;
 use crate::parts::{given, named, tuple, typed, unnamed, variant};
-use crate::registered::is_row;
+use crate::registered::{count, is_row};
 use scale_info::impls::meta_type;
 use scale_info::meta_type::Catalogue;
 use scale_info::{
     IntoPortable, Path, PortableRegistry, Registry, Type, TypeDef, TypeDefComposite,
     TypeDefSequence, TypeDefVariant,
 };
-use scale_info_registry_callers::call::Call;
+use scale_info_registry_callers::call::{Call, PortableCall};
 use std::alloc::Global;
 use std::process::Abort;
 use std::test::Fail;
@@ -32,7 +32,7 @@ where
     let mut registry = Registry::new(alloc);
     let output = value.into_portable(&mut registry, &known)?;
     holds(rt, name, output == wanted);
-    holds(rt, name, registry.types().count() <= 1);
+    holds(rt, name, count(&registry) <= 1);
     Ok(())
 }
 
@@ -103,6 +103,17 @@ fn definitions_leave(rt: HostRuntime) -> Result<(), Fail> {
     leaves_as(&rt, alloc, "a tuple", tuple(members), wanted)
 }
 
+/// Asserts that there is a call with this name and this id of its argument's type.
+fn is_call(rt: &impl Abort, name: &str, call: Option<&PortableCall>, id: u32) {
+    match call {
+        Some(call) => {
+            is(rt, name, call.name, name);
+            is(rt, name, call.arg.id(), id);
+        }
+        None => holds(rt, name, false),
+    }
+}
+
 #[test]
 fn calls_leave_with_their_types(rt: HostRuntime) -> Result<(), Fail> {
     let alloc = rt.alloc();
@@ -120,8 +131,8 @@ fn calls_leave_with_their_types(rt: HostRuntime) -> Result<(), Fail> {
     let mut registry = Registry::new(alloc);
     let portable = registry.map_into_portable(calls, &known)?;
     is(&rt, "the calls", portable.len(), 2);
-    is(&rt, "a", (portable[0].name, portable[0].arg.id), ("a", 0));
-    is(&rt, "b", (portable[1].name, portable[1].arg.id), ("b", 1));
+    is_call(&rt, "a", portable.first(), 0);
+    is_call(&rt, "b", portable.get(1), 1);
     let table = PortableRegistry::from_registry(alloc, &registry)?;
     is_row(&rt, alloc, &table, "Vec<u32>")
 }

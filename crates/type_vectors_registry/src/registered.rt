@@ -47,6 +47,11 @@ pub fn ids(
     Ok(ids)
 }
 
+/// The number of types of a registry.
+pub fn count(registry: &Registry) -> usize {
+    registry.types().size_hint().0
+}
+
 /// The encoding of a table.
 pub fn bytes(alloc: Global, table: &PortableRegistry) -> Result<Vec<u8>, Fail> {
     let mut bytes = Vec::new(alloc);
