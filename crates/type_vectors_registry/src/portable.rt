@@ -1,0 +1,138 @@
+//! Values that hold types, with ids in their place.
+use crate::asserts::{holds, is};
+use crate::described::{catalogue, option};
+use crate::own::Single;
+use crate::parts::{given, named, tuple, typed, unnamed, variant};
+use crate::registered::{count, is_row};
+use scale_info::impls::meta_type;
+use scale_info::meta_type::Catalogue;
+use scale_info::{
+    IntoPortable, Path, PortableRegistry, Registry, Type, TypeDef, TypeDefComposite,
+    TypeDefSequence, TypeDefVariant,
+};
+use scale_info_registry_callers::call::{Call, PortableCall};
+use std::alloc::Global;
+use std::process::Abort;
+use std::test::Fail;
+use type_vectors_common::parts;
+
+/// Asserts that a value that holds `u8` alone leaves as this one, whose id is 0.
+fn leaves_as<T: IntoPortable + Drop>(
+    rt: &impl Abort,
+    alloc: Global,
+    name: &str,
+    value: T,
+    wanted: T::Output,
+) -> Result<(), Fail>
+where
+    T::Output: PartialEq + Drop,
+{
+    let mut known = Catalogue::new(alloc);
+    known.add::<u8>(alloc)?;
+    let mut registry = Registry::new(alloc);
+    let output = value.into_portable(&mut registry, &known)?;
+    holds(rt, name, output == wanted);
+    holds(rt, name, count(&registry) <= 1);
+    Ok(())
+}
+
+#[test]
+fn an_option_registers_its_type(rt: HostRuntime) -> Result<(), Fail> {
+    let alloc = rt.alloc();
+    let none = parts::variant(alloc, "None", &[], 0, &[])?;
+    let some = parts::variant(alloc, "Some", &[0], 1, &[])?;
+    let def = TypeDef::from(TypeDefVariant::from(vec![in alloc; none, some]?));
+    let path = parts::path(alloc, &["Option"])?;
+    let params = vec![in alloc; parts::parameter(alloc, "T", Some(0))?]?;
+    let wanted = Type::new(alloc, path, params, def, Vec::new(alloc))?;
+    leaves_as(&rt, alloc, "Option<u8>", option::<u8>(alloc)?, wanted)
+}
+
+#[test]
+fn a_path_is_printed_alike(rt: HostRuntime) -> Result<(), Fail> {
+    let alloc = rt.alloc();
+    let path = Path::new(alloc, "Planet", "hello::world")?;
+    let mut registry = Registry::new(alloc);
+    let portable = path.into_portable(&mut registry, &Catalogue::new(alloc))?;
+    let printed = format!(in alloc; "{portable}")?;
+    is(&rt, "printed", printed.as_str(), "hello::world::Planet");
+    Ok(())
+}
+
+#[test]
+fn texts_and_types_leave(rt: HostRuntime) -> Result<(), Fail> {
+    let alloc = rt.alloc();
+    leaves_as(&rt, alloc, "a text", "x", parts::text(alloc, "x")?)?;
+    leaves_as(&rt, alloc, "a type", meta_type::<u8>(alloc)?, parts::id(0))?;
+    let param = parts::parameter(alloc, "T", Some(0))?;
+    leaves_as(&rt, alloc, "a parameter", given::<u8>(alloc, "T")?, param)
+}
+
+#[test]
+fn fields_and_variants_leave(rt: HostRuntime) -> Result<(), Fail> {
+    let alloc = rt.alloc();
+    let field = parts::field(alloc, Some("a"), 0, Some("A"), &[])?;
+    leaves_as(&rt, alloc, "a field", typed::<u8>(alloc, "a", "A")?, field)?;
+    let fields = vec![in alloc; unnamed::<u8>(alloc, None)?]?;
+    let wanted = parts::variant(alloc, "V", &[0], 3, &[])?;
+    leaves_as(
+        &rt,
+        alloc,
+        "a variant",
+        variant(alloc, "V", fields, 3),
+        wanted,
+    )?;
+    let fields = vec![in alloc; named::<u8>(alloc, "a")?]?;
+    let wanted = vec![in alloc; parts::field(alloc, Some("a"), 0, None, &[])?]?;
+    leaves_as(
+        &rt,
+        alloc,
+        "a composite",
+        TypeDefComposite::from(fields),
+        TypeDefComposite::from(wanted),
+    )
+}
+
+#[test]
+fn definitions_leave(rt: HostRuntime) -> Result<(), Fail> {
+    let alloc = rt.alloc();
+    let def = TypeDefSequence::of::<u8>(alloc)?;
+    leaves_as(&rt, alloc, "a sequence", def, parts::sequence(0))?;
+    let members = vec![in alloc; meta_type::<u8>(alloc)?, meta_type::<u8>(alloc)?]?;
+    let wanted = tuple(vec![in alloc; parts::id(0), parts::id(0)]?);
+    leaves_as(&rt, alloc, "a tuple", tuple(members), wanted)
+}
+
+/// Asserts that there is a call with this name and this id of its argument's type.
+fn is_call(rt: &impl Abort, name: &str, call: Option<&PortableCall>, id: u32) {
+    match call {
+        Some(call) => {
+            is(rt, name, call.name, name);
+            is(rt, name, call.arg.id(), id);
+        }
+        None => holds(rt, name, false),
+    }
+}
+
+#[test]
+fn calls_leave_with_their_types(rt: HostRuntime) -> Result<(), Fail> {
+    let alloc = rt.alloc();
+    let known = catalogue(alloc)?;
+    let calls = vec![in alloc;
+        Call {
+            name: "a",
+            arg: meta_type::<Vec<u32>>(alloc)?
+        },
+        Call {
+            name: "b",
+            arg: meta_type::<u32>(alloc)?
+        },
+    ]?;
+    let mut registry = Registry::new(alloc);
+    let portable = registry.map_into_portable(calls, &known)?;
+    is(&rt, "the calls", portable.len(), 2);
+    is_call(&rt, "a", portable.first(), 0);
+    is_call(&rt, "b", portable.get(1), 1);
+    let table = PortableRegistry::from_registry(alloc, &registry)?;
+    is_row(&rt, alloc, &table, "Vec<u32>")
+}
