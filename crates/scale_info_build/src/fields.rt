@@ -48,7 +48,7 @@ pub struct UnnamedFields;
 /// ```text
 /// Fields::named::<MetaForm>(alloc)
 ///     .field(alloc, |f| f.name("x").type_name("u32").ty::<u32>(alloc))?
-///     .field(alloc, |f| f.ty::<bool>(alloc).map(|f| f.name("visible")))?
+///     .field(alloc, |f| Ok(f.ty::<bool>(alloc)?.name("visible")))?
 /// ```
 #[derive(Drop)]
 pub struct FieldsBuilder<F: Form, K> {

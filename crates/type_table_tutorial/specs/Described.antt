@@ -1,5 +1,5 @@
 -- What the program's types are described as.
-use Rattle.std.specs.Prelude.{ℕ, List, [], ◌∷◌, Option, Some, None, codes}
+use Rattle.std.specs.Prelude.{ℕ, List, [], ◌∷◌, Option, Some, codes}
 use Rattle.scale_info_identities.specs.TypeIds.{Term}
 use Rattle.scale_info_types.specs.MetaDescriptions.{MetaContent}
 use Rattle.scale_info_type_ids.specs.StandardTerms.{named, primitive_term, slice_term}

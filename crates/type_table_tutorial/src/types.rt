@@ -1,5 +1,4 @@
 //! A program's own types, described by builders.
-ghost use Rattle.std.specs.Prelude.{◌≡◌, [], ◌∷◌, IfOk, map};
 ghost use Rattle.type_table_tutorial.specs.Described.{point_term, shape_term, tree_term};
 ghost use Rattle.type_table_tutorial.specs.Described.{point_description, shape_description};
 ghost use Rattle.type_table_tutorial.specs.Described.{tree_description};
@@ -8,7 +7,7 @@ use scale_info::build::{Fields, Variants};
 use scale_info::form::MetaForm;
 use scale_info::meta_type::{HasIdentity, Identified, InfoError};
 use scale_info::{Items, Path, Type, TypeId, TypeInfo};
-use std::alloc::{AllocError, AllocFailed, Global};
+use std::alloc::{AllocError, Global};
 
 /// A point.
 pub struct Point {
@@ -66,8 +65,14 @@ impl TypeInfo for Shape {
             .variant_unit(alloc, "Empty", 0)?
             .variant(alloc, "Circle", |v| {
                 let fields = Fields::named::<MetaForm>(alloc)
-                    .field(alloc, |f| f.name("center").type_name("Point").ty::<Point>(alloc))?
-                    .field(alloc, |f| f.name("radius").type_name("u32").ty::<u32>(alloc))?;
+                    .field(
+                        alloc,
+                        |f| f.name("center").type_name("Point").ty::<Point>(alloc),
+                    )?
+                    .field(
+                        alloc,
+                        |f| f.name("radius").type_name("u32").ty::<u32>(alloc),
+                    )?;
                 Ok(v.index(1).fields(fields))
             })?;
         let path = Path::from(Items::from(vec![in alloc; "tutorial", "Shape"]?));
@@ -98,8 +103,17 @@ impl TypeInfo for Tree {
 
     fn type_info(alloc: Global) -> Result<Type, InfoError> {
         let fields = Fields::named::<MetaForm>(alloc)
-            .field(alloc, |f| f.name("shape").type_name("Shape").ty::<Shape>(alloc))?
-            .field(alloc, |f| f.name("branches").type_name("Vec<Tree>").ty::<Vec<Tree>>(alloc))?;
+            .field(
+                alloc,
+                |f| f.name("shape").type_name("Shape").ty::<Shape>(alloc),
+            )?
+            .field(
+                alloc,
+                |f| f
+                    .name("branches")
+                    .type_name("Vec<Tree>")
+                    .ty::<Vec<Tree>>(alloc),
+            )?;
         let path = Path::from(Items::from(vec![in alloc; "tutorial", "Tree"]?));
         Ok(Type::builder(alloc).path(path).composite(fields))
     }

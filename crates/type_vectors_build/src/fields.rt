@@ -2,7 +2,7 @@
 use crate::asserts::{holds, is};
 use crate::phantom::{Nothing, Phantom};
 use scale_info::build::{Fields, FieldsBuilder, NamedFields, UnnamedFields};
-use scale_info::form::MetaForm;
+use scale_info::form::{Form, MetaForm};
 use scale_info::impls::meta_type;
 use scale_info::{Field, MetaType, TypeDef, TypeDefComposite, TypeDefTuple, tuple_meta_type};
 use std::alloc::{AllocError, Global};
@@ -25,7 +25,7 @@ fn named(alloc: Global, case: &str) -> Result<FieldsBuilder<MetaForm, NamedField
     let fields = Fields::named::<MetaForm>(alloc).field(alloc, |f| f.name("a").ty::<u8>(alloc))?;
     match case {
         "u32" => fields.field(alloc, |f| f.name("m").ty::<u32>(alloc)),
-        "Phantom<u8>" => fields.field(alloc, |f| f.ty::<Phantom<u8>>(alloc).map(|f| f.name("m"))),
+        "Phantom<u8>" => fields.field(alloc, |f| Ok(f.ty::<Phantom<u8>>(alloc)?.name("m"))),
         "Box<Phantom<()>>" => {
             fields.field(alloc, |f| f.name("m").ty::<Box<Phantom<Nothing>>>(alloc))
         }
@@ -106,7 +106,7 @@ fn one_field_by_its_builder(rt: HostRuntime) -> Result<(), Fail> {
 }
 
 /// The members of a tuple.
-fn members(definition: &TypeDef) -> &[MetaType] {
+fn members<F: Form>(definition: &TypeDef<F>) -> &[F::Ty] {
     match definition {
         TypeDef::Tuple(tuple) => tuple.fields(),
         _ => &[],
