@@ -23,7 +23,7 @@ fn numbers_are_written(rt: HostRuntime) -> Result<(), Fail> {
 fn a_table_grows_with_its_catalogue(rt: HostRuntime) -> Result<(), Fail> {
     let alloc = rt.alloc();
     let mut known = Catalogue::new(alloc);
-    known.add::<u32>(alloc)?;
+    known.add::<u32>()?;
     let (first, second) = (one::<u32>(alloc)?, one::<Vec<u32>>(alloc)?);
     let table = table_in_two_steps::<Vec<u32>>(alloc, &mut known, first, second)?;
     is(

@@ -154,14 +154,14 @@ fn add_tuples(alloc: Global, catalogue: &mut Catalogue) -> Result<(), Fail> {
 
 /// Adds standard types.
 fn add_standard(alloc: Global, catalogue: &mut Catalogue) -> Result<(), Fail> {
-    catalogue.add::<bool>(alloc)?;
-    catalogue.add::<u8>(alloc)?;
-    catalogue.add::<u32>(alloc)?;
-    catalogue.add::<u64>(alloc)?;
-    catalogue.add::<String>(alloc)?;
-    catalogue.add::<Vec<u32>>(alloc)?;
-    catalogue.add::<[u8; 32]>(alloc)?;
-    catalogue.add::<Compact<u32>>(alloc)?;
+    catalogue.add::<bool>()?;
+    catalogue.add::<u8>()?;
+    catalogue.add::<u32>()?;
+    catalogue.add::<u64>()?;
+    catalogue.add::<String>()?;
+    catalogue.add::<Vec<u32>>()?;
+    catalogue.add::<[u8; 32]>()?;
+    catalogue.add::<Compact<u32>>()?;
     Ok(())
 }
 

@@ -18,10 +18,10 @@ type Sixteen = Lists<Lists<Eight>>;
 
 /// Adds the four lists around `T`.
 fn add_lists<T: TypeInfo>(alloc: Global, catalogue: &mut Catalogue) -> Result<(), Fail> {
-    catalogue.add::<Vec<T>>(alloc)?;
-    catalogue.add::<Vec<Vec<T>>>(alloc)?;
-    catalogue.add::<Vec<Vec<Vec<T>>>>(alloc)?;
-    catalogue.add::<Lists<T>>(alloc)?;
+    catalogue.add::<Vec<T>>()?;
+    catalogue.add::<Vec<Vec<T>>>()?;
+    catalogue.add::<Vec<Vec<Vec<T>>>>()?;
+    catalogue.add::<Lists<T>>()?;
     Ok(())
 }
 
@@ -37,7 +37,7 @@ fn items(ty: &Type<PortableForm>) -> Option<u32> {
 fn each_list_refers_to_the_next_type(rt: HostRuntime) -> Result<(), Fail> {
     let alloc = rt.alloc();
     let mut known = Catalogue::new(alloc);
-    known.add::<u8>(alloc)?;
+    known.add::<u8>()?;
     add_lists::<u8>(alloc, &mut known)?;
     add_lists::<Lists<u8>>(alloc, &mut known)?;
     add_lists::<Eight>(alloc, &mut known)?;

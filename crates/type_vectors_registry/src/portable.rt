@@ -28,7 +28,7 @@ where
     T::Output: PartialEq + Drop,
 {
     let mut known = Catalogue::new(alloc);
-    known.add::<u8>(alloc)?;
+    known.add::<u8>()?;
     let mut registry = Registry::new(alloc);
     let output = value.into_portable(&mut registry, &known)?;
     holds(rt, name, output == wanted);

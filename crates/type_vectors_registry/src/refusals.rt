@@ -16,15 +16,15 @@ fn without_u32(alloc: Global) -> Result<RegisterError, Fail> {
 /// A catalogue that describes `u8` and `Vec<u32>`, but not `u32`.
 fn catalogue(alloc: Global) -> Result<Catalogue, Fail> {
     let mut catalogue = Catalogue::new(alloc);
-    catalogue.add::<u8>(alloc)?;
-    catalogue.add::<Vec<u32>>(alloc)?;
+    catalogue.add::<u8>()?;
+    catalogue.add::<Vec<u32>>()?;
     Ok(catalogue)
 }
 
 /// The registry of `u8`.
 fn registry_of_u8(alloc: Global) -> Result<Registry, Fail> {
     let mut catalogue = Catalogue::new(alloc);
-    catalogue.add::<u8>(alloc)?;
+    catalogue.add::<u8>()?;
     let mut registry = Registry::new(alloc);
     registry.register_type(&meta_type::<u8>(alloc)?, &catalogue)?;
     Ok(registry)
@@ -76,12 +76,12 @@ const BOXED: [u8; 13] = [8, 0, 0, 0, 5, 3, 0, 4, 0, 0, 5, 3, 0];
 fn two_identities_are_two_types(rt: HostRuntime) -> Result<(), Fail> {
     let alloc = rt.alloc();
     let mut known = Catalogue::new(alloc);
-    is(&rt, "u8", known.add::<u8>(alloc), Ok(true));
-    is(&rt, "Box<u8>", known.add::<Box<u8>>(alloc), Ok(false));
+    is(&rt, "u8", known.add::<u8>(), Ok(true));
+    is(&rt, "Box<u8>", known.add::<Box<u8>>(), Ok(false));
     is(
         &rt,
         "Box<Box<u8>>",
-        known.add::<Box<Box<u8>>>(alloc),
+        known.add::<Box<Box<u8>>>(),
         Ok(true),
     );
     let mut registry = Registry::new(alloc);
