@@ -2,6 +2,7 @@
 
 pub mod examples;
 
+pub use scale_info_export::laws::headline;
 pub use scale_info_identities::laws::{
     equal_intern_errors, equal_type_ids, hashed_type_ids, ordered_type_ids, symbols_by_number,
     tracked_symbols_by_number,

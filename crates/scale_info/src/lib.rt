@@ -1,6 +1,7 @@
 //! Portable registries of types: tables by which a client in any language decodes SCALE values.
 #![tactic(auto)]
 
+pub mod export;
 pub mod impls;
 pub mod laws;
 pub mod macros;
@@ -18,7 +19,6 @@ pub use scale_info_identities::interner::UntrackedSymbol;
 pub use scale_info_identities::type_id::TypeId;
 pub use scale_info_identities::{interner, utils};
 pub use scale_info_json::{JsonError, append_json, from_json, to_json};
-pub use scale_info_prune::prune as export;
 pub use scale_info_prune::prune::{PruneError, append_pruned, prune};
 pub use scale_info_registry::registry;
 pub use scale_info_registry::registry::{IntoPortable, Registry};

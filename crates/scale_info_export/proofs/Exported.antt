@@ -1,7 +1,7 @@
 -- A registered table, pruned, is the table of what is chosen, registered afresh.
 use Rattle.std.proofs.Common.{◌≡◌, ◌<◌, ◌≤◌, ◌↔◌, ℕ, zero, suc, List, [], ◌∷◌, ◌++◌, length, map, true}
 use Rattle.std.proofs.Common.{Bool, false, Some, None, slice_get, ap, sym, ◌∙◌, subst, arith, Contains}
-use Rattle.std.proofs.Common.{inl, inr}
+use Rattle.std.proofs.Common.{inl, inr, ◌⊎◌}
 use Rattle.std.proofs.lemmas.List.Elements.{Contains-append_cases}
 use Rattle.std.proofs.lemmas.Option.{slice_get-map, slice_get_within, same_Some, none-some}
 use Rattle.std.specs.BTreeMap.{BTreeMap, get}
@@ -22,7 +22,15 @@ use Rattle.scale_info_walk.specs.Pruned.{IsChosen, IsPruned, IsRetainError}
 use Rattle.scale_info_walk.specs.declared.walk.RetainError.{RetainError}
 use Rattle.scale_info_walk.specs.declared.walk.RetainError.TheVariants as retain
 use Rattle.scale_info_walk.specs.TypeSystems.{entry_of, types_system}
-use Rattle.scale_info_export.specs.Exports.{IsExportError, IsExported, IsRegisteredTable, of_retain}
+use Rattle.scale_info_bytes.specs.Encodings.{HasNoEncoding, IfTooLong}
+use Rattle.scale_info_bytes.specs.declared.error.EncodeError.{EncodeError}
+use Rattle.scale_info_bytes.specs.declared.error.EncodeError.TheVariants as encode
+use Rattle.scale_info_registry.specs.Registrations.{IsCause}
+use Rattle.scale_info_registry.specs.declared.registry.discovery.RegisterError.{RegisterError}
+use Rattle.scale_info_registry.specs.declared.registry.discovery.RegisterError.TheVariants as register
+use Rattle.scale_info_tables.specs.TableEncoding.{EncodesRegistry}
+use Rattle.scale_info_export.specs.Exports.{IsExportError, IsExported, IsNotRegistered, IsRegisteredTable}
+use Rattle.scale_info_export.specs.Exports.{of_encode, of_register, of_retain}
 
 -- the entries of a table, as a system, are the system of the list of entries
 pub one_system : (types : List PortableType) → types_system types ≡ table_system (map entry_of types)
@@ -124,3 +132,22 @@ retain_error S roots ids whole step filter r (retain.Dangling id) (chosen, last,
     absurd (omega (inside, outside, count, arith))
 retain_error S roots ids whole step filter r retain.TooManyTypes many = absurd (omega (many, r.few, arith))
 retain_error S roots ids whole step filter r retain.Memory c = tt
+
+-- a table that can't be written
+pub encode_error :
+    (S : System Shape Term) (roots : List Term) (ids : List ℕ) (new_ids : BTreeMap ℕ ℕ) (table : PortableRegistry)
+    {F : Type 0} (step : F → ℕ → Bool → F → Type 0) (filter : F) → IsExported S roots step filter ids new_ids table
+    → (e : EncodeError) → IfTooLong (HasNoEncoding (EncodesRegistry table)) e
+    → IsExportError S roots step filter (of_encode e)
+encode_error S roots ids new_ids table step filter x encode.TooLong none = (ids, new_ids, table, x, none)
+encode_error S roots ids new_ids table step filter x encode.Memory none = tt
+
+-- types that can't be registered
+pub register_error :
+    (S : System Shape Term) (roots : List Term) (e : RegisterError) → (e ≡ register.Memory) ⊎ IsCause S [] roots e
+    → IsNotRegistered S roots (of_register e)
+register_error S roots (register.Undescribed id) (inl m) = cc
+register_error S roots (register.Undescribed id) (inr cause) = cause
+register_error S roots register.Full (inl m) = cc
+register_error S roots register.Full (inr cause) = cause
+register_error S roots register.Memory cause = tt

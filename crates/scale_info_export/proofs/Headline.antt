@@ -130,7 +130,9 @@ module _ (parts_law : PartsLaw) (afresh_law : AfreshLaw) (history_law : HistoryL
         (subst (λ T. IsTable S (nodes_of afresh.identities) T) (sym (table_entries afresh again is_again)) made.1) in
         let entries = one_table S read.1 kept_numbering.1.order.distinct _ _ there kept_table in
         let types = same_types parts_law again.types p.kept.types
-        (λ i entry at. numbered_ids 0 afresh.types i entry (subst (λ ts. slice_get ts i ≡ Some entry) is_again.0 at))
+        (λ i entry at.
+        let here = numbered_ids 0 afresh.types i entry (subst (λ ts. slice_get ts i ≡ Some entry) is_again.0 at) in
+        omega arith)
         written.0.ids entries in
         ap (λ ts. record { types = ts }) types
 
