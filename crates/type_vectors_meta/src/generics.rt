@@ -16,7 +16,7 @@ type Case = (&'static str, &'static str);
 /// Each type without a part that is left out.
 const CASES: [Case; 16] = [
     ("SliceOf<bool>", "(slice bool) is : sequence bool"),
-    ("&str", "(& str) by str is : primitive str"),
+    ("&str", "(& str) by str is : str"),
     (
         "Option<u128>",
         "(Option u128) is Option T=u128: enum None 0; Some 1 :u128:;",

@@ -3,8 +3,10 @@
 //! An identity is its head; where it has numbers or arguments, all of it stands in parentheses, as
 //! in `(array 5 u8)`. A description is its path, each parameter as `T=u8`, a colon, the definition,
 //! and each line of docs after `//`. A field is `name:type:type name`, each that is missing empty.
+use crate::rows::{kind, len, reference};
+use scale_info::form::Form;
 use scale_info::impls::meta_type;
-use scale_info::{Field, Type, TypeDef, TypeDefVariant, TypeId, TypeInfo};
+use scale_info::{Field, Type, TypeDef, TypeId, TypeInfo, Variant};
 use std::alloc::{AllocError, Global};
 use std::test::Fail;
 
@@ -52,9 +54,9 @@ fn fields(alloc: Global, fields: &[Field]) -> Result<String, AllocError> {
 }
 
 /// The variants, each with its index and its fields, after a space and before a semicolon.
-fn variants(alloc: Global, definition: &TypeDefVariant) -> Result<String, AllocError> {
-    let mut text = String::from_str(alloc, "enum")?;
-    for variant in definition.variants() {
+fn variants(alloc: Global, variants: &[Variant]) -> Result<String, AllocError> {
+    let mut text = String::new(alloc);
+    for variant in variants {
         let parts = fields(alloc, variant.fields())?;
         let line = format!(in alloc; " {} {}{parts};", variant.name, variant.index)?;
         text.push_str(line.as_str())?;
@@ -62,37 +64,47 @@ fn variants(alloc: Global, definition: &TypeDefVariant) -> Result<String, AllocE
     Ok(text)
 }
 
-/// The definition: its kind and what it has.
-fn definition(alloc: Global, def: &TypeDef) -> Result<String, AllocError> {
-    match def {
-        TypeDef::Composite(def) => {
-            let parts = fields(alloc, def.fields())?;
-            format!(in alloc; "struct{parts}")
-        }
-        TypeDef::Variant(def) => variants(alloc, def),
-        TypeDef::Sequence(def) => {
-            let item = id(alloc, def.type_param.type_id())?;
-            format!(in alloc; "sequence {item}")
-        }
-        TypeDef::Array(def) => {
-            let item = id(alloc, def.type_param.type_id())?;
-            format!(in alloc; "array {} {item}", def.len)
-        }
-        TypeDef::Tuple(def) => {
-            let mut text = String::from_str(alloc, "tuple")?;
-            for member in def.fields() {
-                text.push_str(" ")?;
-                text.push_str(id(alloc, member.type_id())?.as_str())?;
-            }
-            Ok(text)
-        }
-        TypeDef::Primitive(primitive) => format!(in alloc; "primitive {}", primitive.name()),
-        TypeDef::Compact(def) => {
-            let number = id(alloc, def.type_param.type_id())?;
-            format!(in alloc; "compact {number}")
-        }
-        _ => String::from_str(alloc, "another"),
+/// The fields of a struct.
+fn fields_of<F: Form>(ty: &Type<F>) -> &[Field<F>] {
+    match &ty.type_def {
+        TypeDef::Composite(def) => def.fields(),
+        _ => &[],
     }
+}
+
+/// The variants of an enum.
+fn variants_of<F: Form>(ty: &Type<F>) -> &[Variant<F>] {
+    match &ty.type_def {
+        TypeDef::Variant(def) => def.variants(),
+        _ => &[],
+    }
+}
+
+/// The members of a tuple.
+fn members_of<F: Form>(ty: &Type<F>) -> &[F::Ty] {
+    match &ty.type_def {
+        TypeDef::Tuple(def) => def.fields(),
+        _ => &[],
+    }
+}
+
+/// The definition: its kind and what it has.
+fn definition(alloc: Global, ty: &Type) -> Result<String, AllocError> {
+    let mut text = String::from_str(alloc, kind(ty))?;
+    if len(ty) != 0 {
+        text.push_str(format!(in alloc; " {}", len(ty))?.as_str())?;
+    }
+    if let Some(item) = reference(ty) {
+        text.push_str(" ")?;
+        push_id(&mut text, item.type_id(), DEPTH)?;
+    }
+    for member in members_of(ty) {
+        text.push_str(" ")?;
+        push_id(&mut text, member.type_id(), DEPTH)?;
+    }
+    text.push_str(fields(alloc, fields_of(ty))?.as_str())?;
+    text.push_str(variants(alloc, variants_of(ty))?.as_str())?;
+    Ok(text)
 }
 
 /// The path, the parameters and the docs around the definition.
@@ -109,7 +121,7 @@ fn description(alloc: Global, ty: &Type) -> Result<String, AllocError> {
         text.push_str(format!(in alloc; " {}={given}", parameter.name)?.as_str())?;
     }
     text.push_str(": ")?;
-    text.push_str(definition(alloc, &ty.type_def)?.as_str())?;
+    text.push_str(definition(alloc, ty)?.as_str())?;
     for line in ty.docs() {
         text.push_str(format!(in alloc; " // {line}")?.as_str())?;
     }
