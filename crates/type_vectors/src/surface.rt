@@ -1,37 +1,113 @@
 //! The public items, each by its path at `scale_info`.
-use scale_info::export::{PruneError, prune as prune_of_module};
-use scale_info::form::{Form, MetaForm, PortableForm};
-use scale_info::impls::{Compact, SliceOf, StrType, meta_type as meta_type_of};
-use scale_info::interner::{InternError, Interner, Symbol};
+use scale_info::DecodeError;
+use scale_info::EncodeError;
+use scale_info::Field;
+use scale_info::IntoPortable;
+use scale_info::Items;
+use scale_info::MetaType;
+use scale_info::Path;
+use scale_info::PathError;
+use scale_info::PortableRegistry;
+use scale_info::PortableRegistryBuilder;
+use scale_info::PortableType;
+use scale_info::Registry;
+use scale_info::Scale;
+use scale_info::StaticTypeInfo;
+use scale_info::Text;
+use scale_info::TryClone;
+use scale_info::Type;
+use scale_info::TypeDef;
+use scale_info::TypeDefArray;
+use scale_info::TypeDefBitSequence;
+use scale_info::TypeDefCompact;
+use scale_info::TypeDefComposite;
+use scale_info::TypeDefMap;
+use scale_info::TypeDefPrimitive;
+use scale_info::TypeDefSequence;
+use scale_info::TypeDefTuple;
+use scale_info::TypeDefVariant;
+use scale_info::TypeId;
+use scale_info::TypeInfo;
+use scale_info::TypeParameter;
+use scale_info::UntrackedSymbol;
+use scale_info::Variant;
+use scale_info::build::FieldBuilder;
+use scale_info::build::Fields;
+use scale_info::build::FieldsBuilder;
+use scale_info::build::IdForm;
+use scale_info::build::IdentityForm;
+use scale_info::build::IndexAssigned;
+use scale_info::build::IndexNotAssigned;
+use scale_info::build::NameAssigned;
+use scale_info::build::NameNotAssigned;
+use scale_info::build::NamedField;
+use scale_info::build::NamedFields;
+use scale_info::build::NewField;
+use scale_info::build::NoFields;
+use scale_info::build::PathAssigned;
+use scale_info::build::PathNotAssigned;
+use scale_info::build::TypeAssigned;
+use scale_info::build::TypeBuilder;
+use scale_info::build::TypeNotAssigned;
+use scale_info::build::UnnamedField;
+use scale_info::build::UnnamedFields;
+use scale_info::build::VariantBuilder;
+use scale_info::build::Variants;
+use scale_info::build::fields::Fields as FieldsOfModule;
+use scale_info::build::lists::with_type;
+use scale_info::build::lists::with_type_param;
+use scale_info::build::variants::Variants as VariantsOfModule;
+use scale_info::codec as by_codec;
+use scale_info::export::PruneError;
+use scale_info::export::prune as prune_of_module;
+use scale_info::form::Form;
+use scale_info::form::MetaForm;
+use scale_info::form::PortableForm;
+use scale_info::impls::Compact;
+use scale_info::impls::SliceOf;
+use scale_info::impls::StrType;
+use scale_info::impls::meta_type as meta_type_of;
+use scale_info::interner::InternError;
+use scale_info::interner::Interner;
+use scale_info::interner::Symbol;
 use scale_info::items::Items as ListOfItems;
-use scale_info::meta_type::{
-    Catalogue, CatalogueError, HasIdentity, Identified, InfoError, MetaType as MetaTypeOfModule,
-    TypeInfo as InfoOfModule,
-};
-use scale_info::portable::{
-    Entries, PortableRegistry as TableOfModule, PortableRegistryBuilder as BuilderOfModule,
-};
-use scale_info::registry::{
-    IntoPortable as IntoPortableOfModule, RegisterError, Registry as RegistryOfModule,
-    RegistryTypes,
-};
+use scale_info::meta_type::Catalogue;
+use scale_info::meta_type::CatalogueError;
+use scale_info::meta_type::Describes;
+use scale_info::meta_type::HasIdentity;
+use scale_info::meta_type::Identified;
+use scale_info::meta_type::InfoError;
+use scale_info::meta_type::MetaType as MetaTypeOfModule;
+use scale_info::meta_type::TypeId as IdentityOfModule;
+use scale_info::meta_type::TypeInfo as InfoOfModule;
+use scale_info::named_type_params;
+use scale_info::portable::Entries;
+use scale_info::portable::PortableRegistry as TableOfModule;
+use scale_info::portable::PortableRegistryBuilder as BuilderOfModule;
+use scale_info::registry::IntoPortable as IntoPortableOfModule;
+use scale_info::registry::RegisterError;
+use scale_info::registry::Registry as RegistryOfModule;
+use scale_info::registry::RegistryTypes;
 use scale_info::text::Text as TextOfModule;
 use scale_info::try_clone::TryClone as CopyOfModule;
+use scale_info::tuple_meta_type;
 use scale_info::ty::Type as TypeOfModule;
 use scale_info::ty::composite::TypeDefComposite as CompositeOfModule;
 use scale_info::ty::fields::Field as FieldOfModule;
-use scale_info::ty::path::{Path as PathOfModule, PathError as PathErrorOfModule};
-use scale_info::ty::variant::{TypeDefVariant as EnumOfModule, Variant as VariantOfModule};
+use scale_info::ty::path::Path as PathOfModule;
+use scale_info::ty::path::PathError as PathErrorOfModule;
+use scale_info::ty::variant::TypeDefVariant as EnumOfModule;
+use scale_info::ty::variant::Variant as VariantOfModule;
+use scale_info::type_params;
 use scale_info::utils::is_rust_identifier;
-use scale_info::value::{Dyn, ValueError, decode_value};
-use scale_info::walk::{Numbering, Refs, RetainError, number, number_recursive};
-use scale_info::{
-    DecodeError, EncodeError, Field, IntoPortable, Items, MetaType, Path, PathError,
-    PortableRegistry, PortableRegistryBuilder, PortableType, Registry, Scale, StaticTypeInfo, Text,
-    TryClone, Type, TypeDef, TypeDefArray, TypeDefBitSequence, TypeDefCompact, TypeDefComposite,
-    TypeDefMap, TypeDefPrimitive, TypeDefSequence, TypeDefTuple, TypeDefVariant, TypeId, TypeInfo,
-    TypeParameter, UntrackedSymbol, Variant, codec as by_codec,
-};
+use scale_info::value::Dyn;
+use scale_info::value::ValueError;
+use scale_info::value::decode_value;
+use scale_info::walk::Numbering;
+use scale_info::walk::Refs;
+use scale_info::walk::RetainError;
+use scale_info::walk::number;
+use scale_info::walk::number_recursive;
 use std::alloc::Global;
 use std::test::Fail;
 
@@ -95,8 +171,32 @@ type Modules<'a> = (
     (InternError, Interner<u32>, Symbol<'a, u32>, Entries<'a>),
     (by_codec::DecodeError, by_codec::EncodeError, PruneError),
     (Catalogue, CatalogueError, InfoError, SliceOf<u8>, StrType),
+    IdentityOfModule,
     (RegisterError, RegistryOfModule, RegistryTypes<'a>),
     (Dyn, ValueError, Numbering, Refs, RetainError),
+);
+
+/// The builders and their states, each in the place of a type.
+type Builders = (
+    (Fields, FieldsOfModule, FieldsBuilder<MetaForm, NoFields>),
+    (
+        FieldsBuilder<MetaForm, NamedFields>,
+        FieldsBuilder<MetaForm, UnnamedFields>,
+    ),
+    (
+        NewField<MetaForm>,
+        NamedField<MetaForm>,
+        UnnamedField<MetaForm>,
+    ),
+    FieldBuilder<MetaForm, NameAssigned<&'static str>, TypeAssigned<MetaType>>,
+    FieldBuilder<MetaForm, NameNotAssigned, TypeNotAssigned>,
+    (
+        TypeBuilder<MetaForm, PathNotAssigned>,
+        TypeBuilder<MetaForm, PathAssigned<MetaForm>>,
+    ),
+    (Variants, VariantsOfModule),
+    VariantBuilder<MetaForm, IndexNotAssigned>,
+    VariantBuilder<MetaForm, IndexAssigned>,
 );
 
 /// The traits, each in the place of a bound.
@@ -110,6 +210,23 @@ fn is_described<T: Identified + HasIdentity + TypeInfo + InfoOfModule + StaticTy
 /// The traits of values that are registered, in the same way.
 fn is_registered<T: IntoPortable + IntoPortableOfModule>(_value: &T) {}
 
+/// The traits of the forms that are built and of what keeps descriptions, in the same way.
+fn is_built<F: IdentityForm, G: IdForm, D: Describes>(
+    _form: Option<F>,
+    _id_form: Option<G>,
+    _value: &D,
+) {}
+
+/// The functions and macros that list types, each called once with the type parameter.
+fn lists_are_offered<T: HasIdentity>(alloc: Global) -> Result<(), Fail> {
+    let types = with_type::<T>(alloc, tuple_meta_type!(alloc; T))?;
+    let given = with_type_param::<T>(alloc, named_type_params!(alloc; (U, T)), "T")?;
+    let own = type_params!(alloc; T)?;
+    is_built::<MetaForm, PortableForm, Catalogue>(None, None, &Catalogue::new(alloc));
+    let _ = (types, given, own);
+    Ok(())
+}
+
 /// The functions of the modules, each called once.
 fn functions_are_offered(alloc: Global, table: &PortableRegistry) -> Result<(), Fail> {
     let _ = number(alloc, table.types(), &[0])?;
@@ -120,11 +237,16 @@ fn functions_are_offered(alloc: Global, table: &PortableRegistry) -> Result<(), 
     let mut pruned = Vec::new(alloc);
     let _ = prune_of_module(alloc, &bytes, &[0], &mut pruned)?;
     is_registered(&meta_type_of::<u8>(alloc)?);
-    Ok(())
+    let _ = PortableRegistry::from_registry(alloc, &Registry::new(alloc))?;
+    lists_are_offered::<u8>(alloc)
 }
 
 /// Names the items, which is enough for the check to find each by its path; nothing calls it.
-fn are_offered(_root: Option<&Root>, _modules: Option<&Modules<'_>>) {}
+fn are_offered(
+    _root: Option<&Root>,
+    _modules: Option<&Modules<'_>>,
+    _builders: Option<&Builders>,
+) {}
 
 #[test]
 fn public_items_are_offered_at_scale_info(rt: HostRuntime) -> Result<(), Fail> {

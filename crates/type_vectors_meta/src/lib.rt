@@ -8,8 +8,16 @@ mod catalogues;
 #[cfg(test)]
 mod errors;
 #[cfg(test)]
+mod generics;
+#[cfg(test)]
 mod rows;
+#[cfg(test)]
+mod shown;
 #[cfg(test)]
 mod standard;
 #[cfg(test)]
 mod tree;
+#[cfg(test)]
+mod tuples;
+#[cfg(test)]
+mod values;

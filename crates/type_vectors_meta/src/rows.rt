@@ -34,18 +34,21 @@ pub fn of_u8(alloc: Global, head: &'static str) -> Result<TypeId, AllocError> {
 }
 
 /// The kind of a definition; of a primitive its name.
-fn kind<F: Form>(ty: &Type<F>) -> &'static str {
+pub fn kind<F: Form>(ty: &Type<F>) -> &'static str {
     match &ty.type_def {
         TypeDef::Primitive(primitive) => primitive.name(),
         TypeDef::Sequence(_) => "sequence",
         TypeDef::Array(_) => "array",
         TypeDef::Compact(_) => "compact",
+        TypeDef::Tuple(_) => "tuple",
+        TypeDef::Composite(_) => "struct",
+        TypeDef::Variant(_) => "enum",
         _ => "another",
     }
 }
 
 /// The length of an array.
-fn len<F: Form>(ty: &Type<F>) -> u32 {
+pub fn len<F: Form>(ty: &Type<F>) -> u32 {
     match &ty.type_def {
         TypeDef::Array(array) => array.len,
         _ => 0,
@@ -53,7 +56,7 @@ fn len<F: Form>(ty: &Type<F>) -> u32 {
 }
 
 /// The one type that a definition refers to.
-fn reference<F: Form>(ty: &Type<F>) -> Option<&F::Ty> {
+pub fn reference<F: Form>(ty: &Type<F>) -> Option<&F::Ty> {
     match &ty.type_def {
         TypeDef::Sequence(items) => Some(&items.type_param),
         TypeDef::Array(items) => Some(&items.type_param),
