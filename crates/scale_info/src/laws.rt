@@ -33,8 +33,8 @@ pub use scale_info_tables::laws::{
 pub use scale_info_type_ids::laws::{own_identities, shared_identities};
 pub use scale_info_types::laws::{
     equal_contents, equal_definitions, equal_path_errors, equal_portable, one_list_of_pieces,
-    ordered_definitions, ordered_primitives, same_shape_same_counts,
-    shape_and_references, shape_and_references_of,
+    ordered_definitions, ordered_primitives, same_shape_same_counts, shape_and_references,
+    shape_and_references_of,
 };
 pub use scale_info_value::laws::{
     counts_as_in_tables, reads_alike, texts_as_in_tables, unfolding_decides,

@@ -17,8 +17,8 @@ ghost use Rattle.scale_info_codec.specs.TyLaws.{description_law, portable_type_l
 use crate::scale::Scale;
 use crate::tuple::{encode_four, encode_two, encode_with_index};
 use scale_info_bytes::error::{DecodeError, EncodeError};
-use scale_info_types::form::PortableForm;
 use scale_info_type_ids::impls::Compact;
+use scale_info_types::form::PortableForm;
 use scale_info_types::ty::composite::TypeDefComposite;
 use scale_info_types::ty::variant::TypeDefVariant;
 use scale_info_types::ty::{

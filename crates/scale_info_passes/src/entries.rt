@@ -11,8 +11,8 @@ ghost use Rattle.scale_info_passes.specs.Visits.{renumbered};
 
 use crate::visitors::{gather, renumber, skip};
 use scale_info_bytes::number::encode_compact;
-use scale_info_types::form::PortableForm;
 use scale_info_type_ids::impls::Compact;
+use scale_info_types::form::PortableForm;
 use scale_info_types::ty::Description;
 use std::alloc::{AllocError, Global};
 

@@ -52,11 +52,11 @@ ghost use Rattle.scale_info_registry.specs.declared.registry.discovery.RegisterE
 
 use conversion::{HasTypes, Identities, alone};
 use discovery::{discover, stack_up};
+use scale_info_catalogue::catalogue::Catalogue;
 use scale_info_identities::interner::{Interner, UntrackedSymbol};
 use scale_info_identities::type_id::TypeId;
 use scale_info_references::conversion::{Numbers, convert};
 use scale_info_types::form::PortableForm;
-use scale_info_catalogue::catalogue::Catalogue;
 use scale_info_types::meta_type::MetaType;
 use scale_info_types::ty::Type;
 use std::alloc::{AllocError, Global};

@@ -78,12 +78,7 @@ fn two_identities_are_two_types(rt: HostRuntime) -> Result<(), Fail> {
     let mut known = Catalogue::new(alloc);
     is(&rt, "u8", known.add::<u8>(), Ok(true));
     is(&rt, "Box<u8>", known.add::<Box<u8>>(), Ok(false));
-    is(
-        &rt,
-        "Box<Box<u8>>",
-        known.add::<Box<Box<u8>>>(),
-        Ok(true),
-    );
+    is(&rt, "Box<Box<u8>>", known.add::<Box<Box<u8>>>(), Ok(true));
     let mut registry = Registry::new(alloc);
     let roots = three::<u8, Box<u8>, Box<Box<u8>>>(alloc)?;
     let found = ids(alloc, &mut registry, &known, roots)?;

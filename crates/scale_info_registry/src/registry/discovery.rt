@@ -9,11 +9,11 @@ ghost use Rattle.scale_info_registry.specs.declared.registry.discovery.RegisterE
   Memory,
 };
 
+use scale_info_catalogue::catalogue::Catalogue;
 use scale_info_collections::try_clone::TryClone;
 use scale_info_identities::interner::{InternError, Interner};
 use scale_info_identities::type_id::TypeId;
 use scale_info_references::references::references_of;
-use scale_info_catalogue::catalogue::Catalogue;
 use scale_info_types::meta_type::MetaType;
 use std::alloc::{AllocError, AllocFailed, Global};
 use thiserror::Error;

@@ -45,11 +45,11 @@ ghost use Rattle.scale_info_registry.specs.Registrations.{
 use super::Registry;
 use super::conversion::TypePair;
 use super::discovery::RegisterError;
+use scale_info_catalogue::catalogue::Catalogue;
 use scale_info_collections::text::Text;
 use scale_info_identities::interner::UntrackedSymbol;
 use scale_info_identities::type_id::TypeId;
 use scale_info_types::form::PortableForm;
-use scale_info_catalogue::catalogue::Catalogue;
 use scale_info_types::meta_type::MetaType;
 use scale_info_types::ty::path::Path;
 use scale_info_types::ty::variant::Variant;

@@ -24,5 +24,5 @@ returns-clause-closed c =
 pub returns-clause-few : goal.returns-clause-few
 returns-clause-few c =
     let same = ap length (returns-clause-entries c)
-        ∙ length_numbered 0 c.args.registry.now.types in
+    ∙ length_numbered 0 c.args.registry.now.types in
     subst (λ n. n ≤ 4294967295) (sym same) c.types-entries.ensures.few
