@@ -30,7 +30,7 @@ pub use scale_info_registry::laws::{
 pub use scale_info_tables::laws::{
     equal_tables, old_texts_stay, one_text, registered_tables, spelled_within_limits,
 };
-pub use scale_info_type_ids::laws::{own_identities, shared_identities};
+pub use scale_info_type_ids::laws::{own_identities, own_standard_identities, shared_identities};
 pub use scale_info_types::laws::{
     equal_contents, equal_definitions, equal_path_errors, equal_portable, one_list_of_pieces,
     ordered_definitions, ordered_primitives, same_shape_same_counts, shape_and_references,
