@@ -105,7 +105,7 @@ pub fn own_standard_identities<
         ≡ binary_heap_term K.own }
     ensures range_itself { ⟦<<Range<T> as HasIdentity>::Identity as Identified>⟧.own
         ≡ range_term T.own }
-    ensures range_inclusive_itself { ⟦<<RangeInclusive<T> as HasIdentity>::Identity as Identified>⟧.own
+    ensures inclusive_itself { ⟦<<RangeInclusive<T> as HasIdentity>::Identity as Identified>⟧.own
         ≡ range_inclusive_term T.own }
 {}
 
