@@ -1,0 +1,102 @@
+//! What is written for some types, which the filter chooses by their ids.
+use crate::asserts::{holds, is};
+use scale_info::export::{ExportError, export};
+use scale_info::impls::meta_type;
+use scale_info::meta_type::{Catalogue, Identified};
+use scale_info::registry::RegisterError;
+use scale_info::{MetaType, PortableRegistry, Registry};
+use std::alloc::Global;
+use std::test::Fail;
+
+/// A catalogue of `bool`, `u8`, `u32`, `String` and `Vec<u32>`.
+fn catalogue(alloc: Global) -> Result<Catalogue, Fail> {
+    let mut known = Catalogue::new(alloc);
+    known.add::<bool>()?;
+    known.add::<u8>()?;
+    known.add::<u32>()?;
+    known.add::<String>()?;
+    known.add::<Vec<u32>>()?;
+    Ok(known)
+}
+
+/// `bool`, `Vec<u32>` and `String`.
+fn three(alloc: Global) -> Result<Vec<MetaType>, Fail> {
+    let first = meta_type::<bool>(alloc)?;
+    let second = meta_type::<Vec<u32>>(alloc)?;
+    Ok(vec![in alloc; first, second, meta_type::<String>(alloc)?]?)
+}
+
+#[test]
+fn what_the_chosen_types_reach_is_appended(rt: HostRuntime) -> Result<(), Fail> {
+    let alloc = rt.alloc();
+    let mut out = vec![in alloc; 0xaa]?;
+    let exported = export(&catalogue(alloc)?, &three(alloc)?, |id| id == 1, &mut out)?;
+    is(&rt, "ids", exported.ids, vec![in alloc; 0, 1, 3]?);
+    is(&rt, "kept", exported.map.len(), 2);
+    is(&rt, "Vec<u32>", exported.map.get(&1).copied(), Some(0));
+    is(&rt, "u32", exported.map.get(&2).copied(), Some(1));
+    is(
+        &rt,
+        "bytes",
+        out,
+        vec![in alloc; 0xaa, 8, 0, 0, 0, 2, 4, 0, 4, 0, 0, 5, 5, 0]?,
+    );
+    Ok(())
+}
+
+#[test]
+fn a_type_that_is_given_twice_is_written_once(rt: HostRuntime) -> Result<(), Fail> {
+    let alloc = rt.alloc();
+    let types = vec![in alloc; meta_type::<u8>(alloc)?, meta_type::<Box<u8>>(alloc)?]?;
+    let mut out = Vec::new(alloc);
+    let exported = export(&catalogue(alloc)?, &types, |_| true, &mut out)?;
+    is(&rt, "ids", exported.ids, vec![in alloc; 0, 0]?);
+    is(&rt, "u8", exported.map.get(&0).copied(), Some(0));
+    is(&rt, "bytes", out, vec![in alloc; 4, 0, 0, 0, 5, 3, 0]?);
+    Ok(())
+}
+
+#[test]
+fn no_types_are_the_empty_table(rt: HostRuntime) -> Result<(), Fail> {
+    let alloc = rt.alloc();
+    let mut out = Vec::new(alloc);
+    let exported = export(&Catalogue::new(alloc), &[], |_| true, &mut out)?;
+    is(&rt, "ids", exported.ids.len(), 0);
+    is(&rt, "kept", exported.map.len(), 0);
+    is(&rt, "bytes", out, vec![in alloc; 0]?);
+    Ok(())
+}
+
+#[test]
+fn what_is_written_is_decoded_before_other_bytes(rt: HostRuntime) -> Result<(), Fail> {
+    let alloc = rt.alloc();
+    let known = catalogue(alloc)?;
+    let mut out = Vec::new(alloc);
+    export(&known, &three(alloc)?, |id| id == 1, &mut out)?;
+    out.push(0xff)?;
+    let (table, rest) = PortableRegistry::decode(alloc, &out)?;
+    is(&rt, "rest", rest.len(), 1);
+    is(&rt, "rest", rest.first().copied(), Some(0xff));
+    let mut afresh = Registry::new(alloc);
+    afresh.register_type(&meta_type::<Vec<u32>>(alloc)?, &known)?;
+    holds(
+        &rt,
+        "table",
+        table == PortableRegistry::from_registry(alloc, &afresh)?,
+    );
+    Ok(())
+}
+
+#[test]
+fn an_error_leaves_the_output(rt: HostRuntime) -> Result<(), Fail> {
+    let alloc = rt.alloc();
+    let mut known = Catalogue::new(alloc);
+    known.add::<Vec<u32>>()?;
+    let mut out = vec![in alloc; 0xaa]?;
+    let types = vec![in alloc; meta_type::<Vec<u32>>(alloc)?]?;
+    let refused = export(&known, &types, |_| true, &mut out).err();
+    let missing = RegisterError::Undescribed(u32::type_id(alloc)?);
+    is(&rt, "u32", refused, Some(ExportError::Register(missing)));
+    is(&rt, "output", out, vec![in alloc; 0xaa]?);
+    Ok(())
+}

@@ -1,0 +1,7 @@
+//! Tests of `export`: types of a program in, bytes out.
+#![tactic(auto)]
+
+#[cfg(test)]
+mod asserts;
+#[cfg(test)]
+mod exports;
