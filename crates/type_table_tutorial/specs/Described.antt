@@ -5,7 +5,6 @@ use Rattle.scale_info_types.specs.MetaDescriptions.{MetaContent}
 use Rattle.scale_info_type_ids.specs.StandardTerms.{named, primitive_term, slice_term}
 use Rattle.scale_info_types.specs.declared.ty.TypeDef.{TypeDef}
 use Rattle.scale_info_types.specs.declared.ty.TypeDef.TheVariants as def
-use Rattle.scale_info_types.specs.declared.ty.TypeDefPrimitive.TheVariants as kind
 use Rattle.scale_info_types.specs.declared.ty.fields.Field.{Field}
 use Rattle.scale_info_types.specs.declared.ty.variant.Variant.{Variant}
 
@@ -45,8 +44,8 @@ point_description =
     described (codes "Point")
     (def.Composite (record {
       fields =
-          field (codes "x") (primitive_term kind.U32) (codes "u32")
-          ∷ field (codes "y") (primitive_term kind.U32) (codes "u32")
+          field (codes "x") (primitive_term (codes "u32")) (codes "u32")
+          ∷ field (codes "y") (primitive_term (codes "u32")) (codes "u32")
           ∷ [];
     }))
 
@@ -59,7 +58,7 @@ shape_description =
           variant (codes "Empty") 0 []
           ∷ variant (codes "Circle") 1
           (field (codes "center") point_term (codes "Point")
-          ∷ field (codes "radius") (primitive_term kind.U32) (codes "u32")
+          ∷ field (codes "radius") (primitive_term (codes "u32")) (codes "u32")
           ∷ [])
           ∷ [];
     }))
