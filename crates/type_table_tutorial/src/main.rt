@@ -5,6 +5,7 @@ mod types;
 
 use anyhow::Result;
 use scale_info::Registry;
+use scale_info::export::export;
 use scale_info::impls::meta_type;
 use scale_info::meta_type::Catalogue;
 use std::alloc::Global;
@@ -22,7 +23,8 @@ fn described(alloc: Global) -> Result<Catalogue> {
 }
 
 /// Registers the tree, and prints the id and the path of each type that it leads to; a built-in type
-/// has no path.
+/// has no path. Then it makes the bytes of a table of the point, which has the id 2, alone with what
+/// the point refers to.
 fn main(rt: HostRuntime) -> Result<()> {
     let alloc = rt.alloc();
     let catalogue = described(alloc)?;
@@ -32,5 +34,9 @@ fn main(rt: HostRuntime) -> Result<()> {
     for (id, ty) in registry.types() {
         println!(rt; "{} [{}]", id.id(), ty.path)?;
     }
+    let mut bytes = Vec::new(alloc);
+    let roots = vec![in alloc; meta_type::<Tree>(alloc)?]?;
+    let exported = export(&catalogue, &roots, |id| id == 2, &mut bytes)?;
+    println!(rt; "{} types in {} bytes", exported.map.len(), bytes.len())?;
     Ok(())
 }
