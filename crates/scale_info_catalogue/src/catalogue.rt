@@ -80,8 +80,8 @@ pub struct Catalogue {
 }
 
 impl Catalogue {
-    /// The catalogue with no description, which allocates by `alloc` from then on. Does not allocate
-    /// itself.
+    /// The catalogue with no description, which allocates by `alloc` from then on. Does not
+    /// allocate itself.
     pub fn new(alloc: Global) -> Catalogue
         ensures none { (t : _) → described result t ≡ None }
         ensures len { size result ≡ 0 }

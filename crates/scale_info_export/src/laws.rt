@@ -20,18 +20,18 @@ use scale_info_registry::laws::{registered_afresh, registrations_afresh};
 use scale_info_tables::laws::one_text;
 use scale_info_types::laws::shape_and_references;
 
-/// After any list of accepted registrations and one successful `retain`, the bytes are the grammar's
-/// only text of the one depth-first numbering of what the chosen types reach, as if registered
-/// afresh; and between any two tables, bytes and new ids of the chosen types agree exactly where the
-/// chosen parts match one to one in order, contents and references.
+/// After any list of accepted registrations and one successful `retain`, the bytes are the
+/// grammar's only text of the one depth-first numbering of what the chosen types reach, as if
+/// registered afresh; and between any two tables, bytes and new ids of the chosen types agree
+/// exactly where the chosen parts match one to one in order, contents and references.
 ///
 /// In clauses: the bytes are the only encoding of the kept table, and encode no other one
 /// (`only_text`). Each chosen id is that of a type (`chosen_types`). The kept table is the table of
-/// the one numbering of the catalogue from the chosen types (`one_numbering`), which holds what they
-/// reach, no more and no less (`reached_exactly`). A registration of the chosen types alone, into an
-/// empty registry, has the same table (`registered_afresh`). Two prunings, of any two tables, have
-/// the same bytes and the same new ids of the chosen ones, in order, exactly where a match of what
-/// the chosen ones reach takes the ones to the others in order (`match_exactly`).
+/// the one numbering of the catalogue from the chosen types (`one_numbering`), which holds what
+/// they reach, no more and no less (`reached_exactly`). A registration of the chosen types alone,
+/// into an empty registry, has the same table (`registered_afresh`). Two prunings, of any two
+/// tables, have the same bytes and the same new ids of the chosen ones, in order, exactly where a
+/// match of what the chosen ones reach takes the ones to the others in order (`match_exactly`).
 pub fn headline()
     ensures only_text { (p : Pruning) → IsWritten p
         → ((bytes : List ℕ) → EncodesRegistry p.kept bytes → bytes ≡ p.bytes)
@@ -47,8 +47,8 @@ pub fn headline()
         × ((other : List Term) → IsNumbering (catalogue_of h) types other → other ≡ kept) }
     ensures reached_exactly { (S : System Shape Term) (types kept : List Term)
         → IsNumbering S types kept → (t : Term) → Contains kept t ↔ IsReached S types t }
-    ensures registered_afresh { (h : History) (p : Pruning) (types : List Term) (afresh : Registered)
-        (table : tables.PortableRegistry)
+    ensures registered_afresh { (h : History) (p : Pruning) (types : List Term)
+        (afresh : Registered) (table : tables.PortableRegistry)
         → AreAccepted h → IsTableOf (registry_of h) p.whole → IsWritten p
         → AreChosenTypes (registry_of h) p types
         → IsRegistration (catalogue_of h) (registered [] []) types afresh → IsTableOf afresh table

@@ -18,12 +18,12 @@ use scale_info::{MetaType, PortableRegistry, Registry};
 use std::alloc::Global;
 use std::collections::BTreeMap;
 
-/// Appends the bytes of the table of what the chosen types reach, and returns the new id of each old
-/// one. `first` is registered, and then the others, in a loop.
+/// Appends the bytes of the table of what the chosen types reach, and returns the new id of each
+/// old one. `first` is registered, and then the others, in a loop.
 ///
-/// The clause is the law of the whole: the registrations were accepted, and the table was pruned and
-/// written; what was appended is the only encoding of the table of the one numbering from the chosen
-/// types, which holds what they reach and nothing else.
+/// The clause is the law of the whole: the registrations were accepted, and the table was pruned
+/// and written; what was appended is the only encoding of the table of the one numbering from the
+/// chosen types, which holds what they reach and nothing else.
 pub fn register_prune_write<F: FnMut(u32) -> bool>(
     alloc: Global,
     catalogue: &Catalogue,

@@ -22,9 +22,9 @@ fn described(alloc: Global) -> Result<Catalogue> {
     Ok(catalogue)
 }
 
-/// Registers the tree, and prints the id and the path of each type that it leads to; a built-in type
-/// has no path. Then it makes the bytes of a table of the point, which has the id 2, alone with what
-/// the point refers to.
+/// Registers the tree, and prints the id and the path of each type that it leads to; a built-in
+/// type has no path. Then it makes the bytes of a table of the point, which has the id 2, alone
+/// with what the point refers to.
 fn main(rt: HostRuntime) -> Result<()> {
     let alloc = rt.alloc();
     let catalogue = described(alloc)?;

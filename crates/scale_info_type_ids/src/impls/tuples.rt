@@ -26,7 +26,8 @@ fn with_1<A: Identified>(mut ids: Vec<TypeId>) -> Result<Vec<TypeId>, AllocError
 
 /// These identities and those of 2 types.
 fn with_2<A: Identified, B: Identified>(ids: Vec<TypeId>) -> Result<Vec<TypeId>, AllocError>
-    ensures { IfOk result (λ all. map term_of all.items ≡ map term_of ids.items ++ A.own ∷ B.own ∷ []) }
+    ensures { IfOk result (λ all. map term_of all.items
+        ≡ map term_of ids.items ++ A.own ∷ B.own ∷ []) }
 {
     with_1::<B>(with_1::<A>(ids)?)
 }
@@ -35,7 +36,8 @@ fn with_2<A: Identified, B: Identified>(ids: Vec<TypeId>) -> Result<Vec<TypeId>,
 fn with_4<A: Identified, B: Identified, C: Identified, D: Identified>(
     ids: Vec<TypeId>,
 ) -> Result<Vec<TypeId>, AllocError>
-    ensures { IfOk result (λ all. map term_of all.items ≡ map term_of ids.items ++ A.own ∷ B.own ∷ C.own ∷ D.own ∷ []) }
+    ensures { IfOk result (λ all. map term_of all.items
+        ≡ map term_of ids.items ++ A.own ∷ B.own ∷ C.own ∷ D.own ∷ []) }
 {
     with_2::<C, D>(with_2::<A, B>(ids)?)
 }
@@ -51,7 +53,9 @@ fn with_8<
     G: Identified,
     H: Identified,
 >(ids: Vec<TypeId>) -> Result<Vec<TypeId>, AllocError>
-    ensures { IfOk result (λ all. map term_of all.items ≡ map term_of ids.items ++ A.own ∷ B.own ∷ C.own ∷ D.own ∷ E.own ∷ F.own ∷ G.own ∷ H.own ∷ []) }
+    ensures { IfOk result (λ all. map term_of all.items
+        ≡ map term_of ids.items ++ A.own ∷ B.own ∷ C.own ∷ D.own ∷ E.own ∷ F.own ∷ G.own ∷ H.own
+        ∷ []) }
 {
     with_4::<E, F, G, H>(with_4::<A, B, C, D>(ids)?)
 }
@@ -238,7 +242,8 @@ impl<
     H: Identified,
     I: Identified,
 > Identified for (A, B, C, D, E, F, G, H, I) {
-    ghost own = { tuple_term (A.own ∷ B.own ∷ C.own ∷ D.own ∷ E.own ∷ F.own ∷ G.own ∷ H.own ∷ I.own ∷ []) };
+    ghost own = { tuple_term (A.own ∷ B.own ∷ C.own ∷ D.own ∷ E.own ∷ F.own ∷ G.own ∷ H.own
+        ∷ I.own ∷ []) };
 
     fn type_id(alloc: Global) -> Result<TypeId, AllocError> {
         let ids = with_8::<A, B, C, D, E, F, G, H>(Vec::new(alloc))?;
@@ -273,7 +278,8 @@ impl<
     I: Identified,
     J: Identified,
 > Identified for (A, B, C, D, E, F, G, H, I, J) {
-    ghost own = { tuple_term (A.own ∷ B.own ∷ C.own ∷ D.own ∷ E.own ∷ F.own ∷ G.own ∷ H.own ∷ I.own ∷ J.own ∷ []) };
+    ghost own = { tuple_term (A.own ∷ B.own ∷ C.own ∷ D.own ∷ E.own ∷ F.own ∷ G.own ∷ H.own
+        ∷ I.own ∷ J.own ∷ []) };
 
     fn type_id(alloc: Global) -> Result<TypeId, AllocError> {
         let ids = with_8::<A, B, C, D, E, F, G, H>(Vec::new(alloc))?;
@@ -310,7 +316,8 @@ impl<
     J: Identified,
     K: Identified,
 > Identified for (A, B, C, D, E, F, G, H, I, J, K) {
-    ghost own = { tuple_term (A.own ∷ B.own ∷ C.own ∷ D.own ∷ E.own ∷ F.own ∷ G.own ∷ H.own ∷ I.own ∷ J.own ∷ K.own ∷ []) };
+    ghost own = { tuple_term (A.own ∷ B.own ∷ C.own ∷ D.own ∷ E.own ∷ F.own ∷ G.own ∷ H.own
+        ∷ I.own ∷ J.own ∷ K.own ∷ []) };
 
     fn type_id(alloc: Global) -> Result<TypeId, AllocError> {
         let ids = with_8::<A, B, C, D, E, F, G, H>(Vec::new(alloc))?;
@@ -350,7 +357,8 @@ impl<
     K: Identified,
     L: Identified,
 > Identified for (A, B, C, D, E, F, G, H, I, J, K, L) {
-    ghost own = { tuple_term (A.own ∷ B.own ∷ C.own ∷ D.own ∷ E.own ∷ F.own ∷ G.own ∷ H.own ∷ I.own ∷ J.own ∷ K.own ∷ L.own ∷ []) };
+    ghost own = { tuple_term (A.own ∷ B.own ∷ C.own ∷ D.own ∷ E.own ∷ F.own ∷ G.own ∷ H.own
+        ∷ I.own ∷ J.own ∷ K.own ∷ L.own ∷ []) };
 
     fn type_id(alloc: Global) -> Result<TypeId, AllocError> {
         let ids = with_8::<A, B, C, D, E, F, G, H>(Vec::new(alloc))?;
@@ -391,7 +399,8 @@ impl<
     L: Identified,
     M: Identified,
 > Identified for (A, B, C, D, E, F, G, H, I, J, K, L, M) {
-    ghost own = { tuple_term (A.own ∷ B.own ∷ C.own ∷ D.own ∷ E.own ∷ F.own ∷ G.own ∷ H.own ∷ I.own ∷ J.own ∷ K.own ∷ L.own ∷ M.own ∷ []) };
+    ghost own = { tuple_term (A.own ∷ B.own ∷ C.own ∷ D.own ∷ E.own ∷ F.own ∷ G.own ∷ H.own
+        ∷ I.own ∷ J.own ∷ K.own ∷ L.own ∷ M.own ∷ []) };
 
     fn type_id(alloc: Global) -> Result<TypeId, AllocError> {
         let ids = with_8::<A, B, C, D, E, F, G, H>(Vec::new(alloc))?;
@@ -435,7 +444,8 @@ impl<
     M: Identified,
     N: Identified,
 > Identified for (A, B, C, D, E, F, G, H, I, J, K, L, M, N) {
-    ghost own = { tuple_term (A.own ∷ B.own ∷ C.own ∷ D.own ∷ E.own ∷ F.own ∷ G.own ∷ H.own ∷ I.own ∷ J.own ∷ K.own ∷ L.own ∷ M.own ∷ N.own ∷ []) };
+    ghost own = { tuple_term (A.own ∷ B.own ∷ C.own ∷ D.own ∷ E.own ∷ F.own ∷ G.own ∷ H.own
+        ∷ I.own ∷ J.own ∷ K.own ∷ L.own ∷ M.own ∷ N.own ∷ []) };
 
     fn type_id(alloc: Global) -> Result<TypeId, AllocError> {
         let ids = with_8::<A, B, C, D, E, F, G, H>(Vec::new(alloc))?;
@@ -481,7 +491,8 @@ impl<
     N: Identified,
     O: Identified,
 > Identified for (A, B, C, D, E, F, G, H, I, J, K, L, M, N, O) {
-    ghost own = { tuple_term (A.own ∷ B.own ∷ C.own ∷ D.own ∷ E.own ∷ F.own ∷ G.own ∷ H.own ∷ I.own ∷ J.own ∷ K.own ∷ L.own ∷ M.own ∷ N.own ∷ O.own ∷ []) };
+    ghost own = { tuple_term (A.own ∷ B.own ∷ C.own ∷ D.own ∷ E.own ∷ F.own ∷ G.own ∷ H.own
+        ∷ I.own ∷ J.own ∷ K.own ∷ L.own ∷ M.own ∷ N.own ∷ O.own ∷ []) };
 
     fn type_id(alloc: Global) -> Result<TypeId, AllocError> {
         let ids = with_8::<A, B, C, D, E, F, G, H>(Vec::new(alloc))?;
@@ -530,7 +541,8 @@ impl<
     O: Identified,
     P: Identified,
 > Identified for (A, B, C, D, E, F, G, H, I, J, K, L, M, N, O, P) {
-    ghost own = { tuple_term (A.own ∷ B.own ∷ C.own ∷ D.own ∷ E.own ∷ F.own ∷ G.own ∷ H.own ∷ I.own ∷ J.own ∷ K.own ∷ L.own ∷ M.own ∷ N.own ∷ O.own ∷ P.own ∷ []) };
+    ghost own = { tuple_term (A.own ∷ B.own ∷ C.own ∷ D.own ∷ E.own ∷ F.own ∷ G.own ∷ H.own
+        ∷ I.own ∷ J.own ∷ K.own ∷ L.own ∷ M.own ∷ N.own ∷ O.own ∷ P.own ∷ []) };
 
     fn type_id(alloc: Global) -> Result<TypeId, AllocError> {
         let ids = with_8::<A, B, C, D, E, F, G, H>(Vec::new(alloc))?;
@@ -579,7 +591,8 @@ impl<
     P: Identified,
     Q: Identified,
 > Identified for (A, B, C, D, E, F, G, H, I, J, K, L, M, N, O, P, Q) {
-    ghost own = { tuple_term (A.own ∷ B.own ∷ C.own ∷ D.own ∷ E.own ∷ F.own ∷ G.own ∷ H.own ∷ I.own ∷ J.own ∷ K.own ∷ L.own ∷ M.own ∷ N.own ∷ O.own ∷ P.own ∷ Q.own ∷ []) };
+    ghost own = { tuple_term (A.own ∷ B.own ∷ C.own ∷ D.own ∷ E.own ∷ F.own ∷ G.own ∷ H.own
+        ∷ I.own ∷ J.own ∷ K.own ∷ L.own ∷ M.own ∷ N.own ∷ O.own ∷ P.own ∷ Q.own ∷ []) };
 
     fn type_id(alloc: Global) -> Result<TypeId, AllocError> {
         let ids = with_8::<A, B, C, D, E, F, G, H>(Vec::new(alloc))?;
@@ -631,7 +644,8 @@ impl<
     Q: Identified,
     R: Identified,
 > Identified for (A, B, C, D, E, F, G, H, I, J, K, L, M, N, O, P, Q, R) {
-    ghost own = { tuple_term (A.own ∷ B.own ∷ C.own ∷ D.own ∷ E.own ∷ F.own ∷ G.own ∷ H.own ∷ I.own ∷ J.own ∷ K.own ∷ L.own ∷ M.own ∷ N.own ∷ O.own ∷ P.own ∷ Q.own ∷ R.own ∷ []) };
+    ghost own = { tuple_term (A.own ∷ B.own ∷ C.own ∷ D.own ∷ E.own ∷ F.own ∷ G.own ∷ H.own
+        ∷ I.own ∷ J.own ∷ K.own ∷ L.own ∷ M.own ∷ N.own ∷ O.own ∷ P.own ∷ Q.own ∷ R.own ∷ []) };
 
     fn type_id(alloc: Global) -> Result<TypeId, AllocError> {
         let ids = with_8::<A, B, C, D, E, F, G, H>(Vec::new(alloc))?;
@@ -685,7 +699,9 @@ impl<
     R: Identified,
     S: Identified,
 > Identified for (A, B, C, D, E, F, G, H, I, J, K, L, M, N, O, P, Q, R, S) {
-    ghost own = { tuple_term (A.own ∷ B.own ∷ C.own ∷ D.own ∷ E.own ∷ F.own ∷ G.own ∷ H.own ∷ I.own ∷ J.own ∷ K.own ∷ L.own ∷ M.own ∷ N.own ∷ O.own ∷ P.own ∷ Q.own ∷ R.own ∷ S.own ∷ []) };
+    ghost own = { tuple_term (A.own ∷ B.own ∷ C.own ∷ D.own ∷ E.own ∷ F.own ∷ G.own ∷ H.own
+        ∷ I.own ∷ J.own ∷ K.own ∷ L.own ∷ M.own ∷ N.own ∷ O.own ∷ P.own ∷ Q.own ∷ R.own ∷ S.own
+        ∷ []) };
 
     fn type_id(alloc: Global) -> Result<TypeId, AllocError> {
         let ids = with_8::<A, B, C, D, E, F, G, H>(Vec::new(alloc))?;
@@ -742,7 +758,9 @@ impl<
     S: Identified,
     T: Identified,
 > Identified for (A, B, C, D, E, F, G, H, I, J, K, L, M, N, O, P, Q, R, S, T) {
-    ghost own = { tuple_term (A.own ∷ B.own ∷ C.own ∷ D.own ∷ E.own ∷ F.own ∷ G.own ∷ H.own ∷ I.own ∷ J.own ∷ K.own ∷ L.own ∷ M.own ∷ N.own ∷ O.own ∷ P.own ∷ Q.own ∷ R.own ∷ S.own ∷ T.own ∷ []) };
+    ghost own = { tuple_term (A.own ∷ B.own ∷ C.own ∷ D.own ∷ E.own ∷ F.own ∷ G.own ∷ H.own
+        ∷ I.own ∷ J.own ∷ K.own ∷ L.own ∷ M.own ∷ N.own ∷ O.own ∷ P.own ∷ Q.own ∷ R.own ∷ S.own
+        ∷ T.own ∷ []) };
 
     fn type_id(alloc: Global) -> Result<TypeId, AllocError> {
         let ids = with_8::<A, B, C, D, E, F, G, H>(Vec::new(alloc))?;

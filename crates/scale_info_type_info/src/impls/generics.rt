@@ -1,7 +1,8 @@
 //! Standard types with type arguments, and `PhantomData`.
 ghost use Rattle.scale_info_type_info.specs.StandardTypes.{b_tree_map_description, cow_description};
 ghost use Rattle.scale_info_type_info.specs.StandardTypes.{list_description, option_description};
-ghost use Rattle.scale_info_type_info.specs.StandardTypes.{phantom_data_description, range_description};
+ghost use Rattle.scale_info_type_info.specs.StandardTypes.{phantom_data_description};
+ghost use Rattle.scale_info_type_info.specs.StandardTypes.{range_description};
 ghost use Rattle.scale_info_type_info.specs.StandardTypes.{result_description};
 ghost use Rattle.scale_info_type_info.specs.StandardTypes.{kept, meta_variant, unnamed, variant};
 ghost use Rattle.std.specs.Prelude.{◌≡◌, IfOk, Some, codes};
@@ -25,7 +26,8 @@ fn variant_of<T: HasIdentity>(
     name: &'static str,
     index: u8,
 ) -> Result<Variant, AllocError>
-    ensures { IfOk result (λ v. meta_variant v ≡ variant name.now (kept (unnamed T.Identity.own)) index) }
+    ensures { IfOk result (λ v. meta_variant v
+        ≡ variant name.now (kept (unnamed T.Identity.own)) index) }
 {
     let fields = with_field::<T>(Vec::new(alloc), None, None)?;
     Ok(Variant::new(name, fields, index, Vec::new(alloc)))
@@ -33,7 +35,8 @@ fn variant_of<T: HasIdentity>(
 
 /// The description of a list with the parameter `T`, as a composite of a sequence.
 fn list_of<T: HasIdentity>(alloc: Global, name: &'static str) -> Result<Type, AllocError>
-    ensures { IfOk result (λ d. Some (meta_content d) ≡ list_description name.now T.own T.Identity.own) }
+    ensures { IfOk result (λ d. Some (meta_content d)
+        ≡ list_description name.now T.own T.Identity.own) }
 {
     let parameters = with_parameter::<T>(Vec::new(alloc), "T")?;
     let fields = with_field::<SliceOf<T>>(Vec::new(alloc), None, None)?;
@@ -42,7 +45,8 @@ fn list_of<T: HasIdentity>(alloc: Global, name: &'static str) -> Result<Type, Al
 
 /// The description of a range of items of the type `Idx`.
 fn range_of<Idx: HasIdentity>(alloc: Global, name: &'static str) -> Result<Type, AllocError>
-    ensures { IfOk result (λ d. Some (meta_content d) ≡ range_description name.now Idx.Identity.own) }
+    ensures { IfOk result (λ d. Some (meta_content d)
+        ≡ range_description name.now Idx.Identity.own) }
 {
     let parameters = with_parameter::<Idx>(Vec::new(alloc), "Idx")?;
     let fields = with_field::<Idx>(Vec::new(alloc), Some("start"), Some("Idx"))?;

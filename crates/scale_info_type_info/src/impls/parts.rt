@@ -2,7 +2,8 @@
 ghost use Rattle.std.specs.Prelude.{◌≡◌, ◌++◌, ◌∷◌, [], IfOk, Some, map, option_map};
 ghost use Rattle.scale_info_types.specs.MetaDescriptions.{meta_content, meta_definition};
 ghost use Rattle.scale_info_type_info.specs.StandardTypes.{kept, meta_field, meta_parameter};
-ghost use Rattle.scale_info_type_info.specs.StandardTypes.{meta_variant, standard, documented as whole};
+ghost use Rattle.scale_info_type_info.specs.StandardTypes.{meta_variant, standard};
+ghost use Rattle.scale_info_type_info.specs.StandardTypes.{documented as whole};
 ghost use Rattle.scale_info_types.specs.declared.ty.TypeDef.TheVariants as def;
 
 use scale_info_collections::items::Items;

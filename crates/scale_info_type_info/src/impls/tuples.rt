@@ -21,7 +21,8 @@ fn tuple_info(types: Vec<MetaType>) -> Result<Type, AllocError>
 
 /// These types and `A`.
 fn with_1<A: HasIdentity>(mut types: Vec<MetaType>) -> Result<Vec<MetaType>, AllocError>
-    ensures { IfOk result (λ all. map type_term all.items ≡ map type_term types.items ++ A.Identity.own ∷ []) }
+    ensures { IfOk result (λ all. map type_term all.items
+        ≡ map type_term types.items ++ A.Identity.own ∷ []) }
 {
     let alloc = *types.allocator();
     types.push(MetaType::new::<A>(alloc)?)?;
@@ -30,7 +31,8 @@ fn with_1<A: HasIdentity>(mut types: Vec<MetaType>) -> Result<Vec<MetaType>, All
 
 /// These types and 2 more.
 fn with_2<A: HasIdentity, B: HasIdentity>(types: Vec<MetaType>) -> Result<Vec<MetaType>, AllocError>
-    ensures { IfOk result (λ all. map type_term all.items ≡ map type_term types.items ++ A.Identity.own ∷ B.Identity.own ∷ []) }
+    ensures { IfOk result (λ all. map type_term all.items
+        ≡ map type_term types.items ++ A.Identity.own ∷ B.Identity.own ∷ []) }
 {
     with_1::<B>(with_1::<A>(types)?)
 }
@@ -39,7 +41,9 @@ fn with_2<A: HasIdentity, B: HasIdentity>(types: Vec<MetaType>) -> Result<Vec<Me
 fn with_4<A: HasIdentity, B: HasIdentity, C: HasIdentity, D: HasIdentity>(
     types: Vec<MetaType>,
 ) -> Result<Vec<MetaType>, AllocError>
-    ensures { IfOk result (λ all. map type_term all.items ≡ map type_term types.items ++ A.Identity.own ∷ B.Identity.own ∷ C.Identity.own ∷ D.Identity.own ∷ []) }
+    ensures { IfOk result (λ all. map type_term all.items
+        ≡ map type_term types.items ++ A.Identity.own ∷ B.Identity.own ∷ C.Identity.own
+        ∷ D.Identity.own ∷ []) }
 {
     with_2::<C, D>(with_2::<A, B>(types)?)
 }
@@ -55,7 +59,9 @@ fn with_8<
     G: HasIdentity,
     H: HasIdentity,
 >(types: Vec<MetaType>) -> Result<Vec<MetaType>, AllocError>
-    ensures { IfOk result (λ all. map type_term all.items ≡ map type_term types.items ++ A.Identity.own ∷ B.Identity.own ∷ C.Identity.own ∷ D.Identity.own ∷ E.Identity.own ∷ F.Identity.own ∷ G.Identity.own ∷ H.Identity.own ∷ []) }
+    ensures { IfOk result (λ all. map type_term all.items
+        ≡ map type_term types.items ++ A.Identity.own ∷ B.Identity.own ∷ C.Identity.own
+        ∷ D.Identity.own ∷ E.Identity.own ∷ F.Identity.own ∷ G.Identity.own ∷ H.Identity.own ∷ []) }
 {
     with_4::<E, F, G, H>(with_4::<A, B, C, D>(types)?)
 }
@@ -87,7 +93,8 @@ impl<A: TypeInfo, B: TypeInfo> TypeInfo for (A, B) {
 }
 
 impl<A: TypeInfo, B: TypeInfo, C: TypeInfo> TypeInfo for (A, B, C) {
-    ghost description = { tuple_description (A.Identity.own ∷ B.Identity.own ∷ C.Identity.own ∷ []) };
+    ghost description = { tuple_description (A.Identity.own ∷ B.Identity.own ∷ C.Identity.own
+        ∷ []) };
 
     fn type_info(alloc: Global) -> Result<Type, InfoError> {
         let types = with_2::<A, B>(Vec::new(alloc))?;
@@ -97,7 +104,8 @@ impl<A: TypeInfo, B: TypeInfo, C: TypeInfo> TypeInfo for (A, B, C) {
 }
 
 impl<A: TypeInfo, B: TypeInfo, C: TypeInfo, D: TypeInfo> TypeInfo for (A, B, C, D) {
-    ghost description = { tuple_description (A.Identity.own ∷ B.Identity.own ∷ C.Identity.own ∷ D.Identity.own ∷ []) };
+    ghost description = { tuple_description (A.Identity.own ∷ B.Identity.own ∷ C.Identity.own
+        ∷ D.Identity.own ∷ []) };
 
     fn type_info(alloc: Global) -> Result<Type, InfoError> {
         let types = with_4::<A, B, C, D>(Vec::new(alloc))?;
@@ -106,7 +114,8 @@ impl<A: TypeInfo, B: TypeInfo, C: TypeInfo, D: TypeInfo> TypeInfo for (A, B, C, 
 }
 
 impl<A: TypeInfo, B: TypeInfo, C: TypeInfo, D: TypeInfo, E: TypeInfo> TypeInfo for (A, B, C, D, E) {
-    ghost description = { tuple_description (A.Identity.own ∷ B.Identity.own ∷ C.Identity.own ∷ D.Identity.own ∷ E.Identity.own ∷ []) };
+    ghost description = { tuple_description (A.Identity.own ∷ B.Identity.own ∷ C.Identity.own
+        ∷ D.Identity.own ∷ E.Identity.own ∷ []) };
 
     fn type_info(alloc: Global) -> Result<Type, InfoError> {
         let types = with_4::<A, B, C, D>(Vec::new(alloc))?;
@@ -117,7 +126,8 @@ impl<A: TypeInfo, B: TypeInfo, C: TypeInfo, D: TypeInfo, E: TypeInfo> TypeInfo f
 
 impl<A: TypeInfo, B: TypeInfo, C: TypeInfo, D: TypeInfo, E: TypeInfo, F: TypeInfo> TypeInfo
     for (A, B, C, D, E, F) {
-    ghost description = { tuple_description (A.Identity.own ∷ B.Identity.own ∷ C.Identity.own ∷ D.Identity.own ∷ E.Identity.own ∷ F.Identity.own ∷ []) };
+    ghost description = { tuple_description (A.Identity.own ∷ B.Identity.own ∷ C.Identity.own
+        ∷ D.Identity.own ∷ E.Identity.own ∷ F.Identity.own ∷ []) };
 
     fn type_info(alloc: Global) -> Result<Type, InfoError> {
         let types = with_4::<A, B, C, D>(Vec::new(alloc))?;
@@ -135,7 +145,8 @@ impl<
     F: TypeInfo,
     G: TypeInfo,
 > TypeInfo for (A, B, C, D, E, F, G) {
-    ghost description = { tuple_description (A.Identity.own ∷ B.Identity.own ∷ C.Identity.own ∷ D.Identity.own ∷ E.Identity.own ∷ F.Identity.own ∷ G.Identity.own ∷ []) };
+    ghost description = { tuple_description (A.Identity.own ∷ B.Identity.own ∷ C.Identity.own
+        ∷ D.Identity.own ∷ E.Identity.own ∷ F.Identity.own ∷ G.Identity.own ∷ []) };
 
     fn type_info(alloc: Global) -> Result<Type, InfoError> {
         let types = with_4::<A, B, C, D>(Vec::new(alloc))?;
@@ -155,7 +166,9 @@ impl<
     G: TypeInfo,
     H: TypeInfo,
 > TypeInfo for (A, B, C, D, E, F, G, H) {
-    ghost description = { tuple_description (A.Identity.own ∷ B.Identity.own ∷ C.Identity.own ∷ D.Identity.own ∷ E.Identity.own ∷ F.Identity.own ∷ G.Identity.own ∷ H.Identity.own ∷ []) };
+    ghost description = { tuple_description (A.Identity.own ∷ B.Identity.own ∷ C.Identity.own
+        ∷ D.Identity.own ∷ E.Identity.own ∷ F.Identity.own ∷ G.Identity.own ∷ H.Identity.own
+        ∷ []) };
 
     fn type_info(alloc: Global) -> Result<Type, InfoError> {
         let types = with_8::<A, B, C, D, E, F, G, H>(Vec::new(alloc))?;
@@ -174,7 +187,9 @@ impl<
     H: TypeInfo,
     I: TypeInfo,
 > TypeInfo for (A, B, C, D, E, F, G, H, I) {
-    ghost description = { tuple_description (A.Identity.own ∷ B.Identity.own ∷ C.Identity.own ∷ D.Identity.own ∷ E.Identity.own ∷ F.Identity.own ∷ G.Identity.own ∷ H.Identity.own ∷ I.Identity.own ∷ []) };
+    ghost description = { tuple_description (A.Identity.own ∷ B.Identity.own ∷ C.Identity.own
+        ∷ D.Identity.own ∷ E.Identity.own ∷ F.Identity.own ∷ G.Identity.own ∷ H.Identity.own
+        ∷ I.Identity.own ∷ []) };
 
     fn type_info(alloc: Global) -> Result<Type, InfoError> {
         let types = with_8::<A, B, C, D, E, F, G, H>(Vec::new(alloc))?;
@@ -195,7 +210,9 @@ impl<
     I: TypeInfo,
     J: TypeInfo,
 > TypeInfo for (A, B, C, D, E, F, G, H, I, J) {
-    ghost description = { tuple_description (A.Identity.own ∷ B.Identity.own ∷ C.Identity.own ∷ D.Identity.own ∷ E.Identity.own ∷ F.Identity.own ∷ G.Identity.own ∷ H.Identity.own ∷ I.Identity.own ∷ J.Identity.own ∷ []) };
+    ghost description = { tuple_description (A.Identity.own ∷ B.Identity.own ∷ C.Identity.own
+        ∷ D.Identity.own ∷ E.Identity.own ∷ F.Identity.own ∷ G.Identity.own ∷ H.Identity.own
+        ∷ I.Identity.own ∷ J.Identity.own ∷ []) };
 
     fn type_info(alloc: Global) -> Result<Type, InfoError> {
         let types = with_8::<A, B, C, D, E, F, G, H>(Vec::new(alloc))?;
@@ -217,7 +234,9 @@ impl<
     J: TypeInfo,
     K: TypeInfo,
 > TypeInfo for (A, B, C, D, E, F, G, H, I, J, K) {
-    ghost description = { tuple_description (A.Identity.own ∷ B.Identity.own ∷ C.Identity.own ∷ D.Identity.own ∷ E.Identity.own ∷ F.Identity.own ∷ G.Identity.own ∷ H.Identity.own ∷ I.Identity.own ∷ J.Identity.own ∷ K.Identity.own ∷ []) };
+    ghost description = { tuple_description (A.Identity.own ∷ B.Identity.own ∷ C.Identity.own
+        ∷ D.Identity.own ∷ E.Identity.own ∷ F.Identity.own ∷ G.Identity.own ∷ H.Identity.own
+        ∷ I.Identity.own ∷ J.Identity.own ∷ K.Identity.own ∷ []) };
 
     fn type_info(alloc: Global) -> Result<Type, InfoError> {
         let types = with_8::<A, B, C, D, E, F, G, H>(Vec::new(alloc))?;
@@ -241,7 +260,9 @@ impl<
     K: TypeInfo,
     L: TypeInfo,
 > TypeInfo for (A, B, C, D, E, F, G, H, I, J, K, L) {
-    ghost description = { tuple_description (A.Identity.own ∷ B.Identity.own ∷ C.Identity.own ∷ D.Identity.own ∷ E.Identity.own ∷ F.Identity.own ∷ G.Identity.own ∷ H.Identity.own ∷ I.Identity.own ∷ J.Identity.own ∷ K.Identity.own ∷ L.Identity.own ∷ []) };
+    ghost description = { tuple_description (A.Identity.own ∷ B.Identity.own ∷ C.Identity.own
+        ∷ D.Identity.own ∷ E.Identity.own ∷ F.Identity.own ∷ G.Identity.own ∷ H.Identity.own
+        ∷ I.Identity.own ∷ J.Identity.own ∷ K.Identity.own ∷ L.Identity.own ∷ []) };
 
     fn type_info(alloc: Global) -> Result<Type, InfoError> {
         let types = with_8::<A, B, C, D, E, F, G, H>(Vec::new(alloc))?;
@@ -265,7 +286,10 @@ impl<
     L: TypeInfo,
     M: TypeInfo,
 > TypeInfo for (A, B, C, D, E, F, G, H, I, J, K, L, M) {
-    ghost description = { tuple_description (A.Identity.own ∷ B.Identity.own ∷ C.Identity.own ∷ D.Identity.own ∷ E.Identity.own ∷ F.Identity.own ∷ G.Identity.own ∷ H.Identity.own ∷ I.Identity.own ∷ J.Identity.own ∷ K.Identity.own ∷ L.Identity.own ∷ M.Identity.own ∷ []) };
+    ghost description = { tuple_description (A.Identity.own ∷ B.Identity.own ∷ C.Identity.own
+        ∷ D.Identity.own ∷ E.Identity.own ∷ F.Identity.own ∷ G.Identity.own ∷ H.Identity.own
+        ∷ I.Identity.own ∷ J.Identity.own ∷ K.Identity.own ∷ L.Identity.own ∷ M.Identity.own
+        ∷ []) };
 
     fn type_info(alloc: Global) -> Result<Type, InfoError> {
         let types = with_8::<A, B, C, D, E, F, G, H>(Vec::new(alloc))?;
@@ -291,7 +315,10 @@ impl<
     M: TypeInfo,
     N: TypeInfo,
 > TypeInfo for (A, B, C, D, E, F, G, H, I, J, K, L, M, N) {
-    ghost description = { tuple_description (A.Identity.own ∷ B.Identity.own ∷ C.Identity.own ∷ D.Identity.own ∷ E.Identity.own ∷ F.Identity.own ∷ G.Identity.own ∷ H.Identity.own ∷ I.Identity.own ∷ J.Identity.own ∷ K.Identity.own ∷ L.Identity.own ∷ M.Identity.own ∷ N.Identity.own ∷ []) };
+    ghost description = { tuple_description (A.Identity.own ∷ B.Identity.own ∷ C.Identity.own
+        ∷ D.Identity.own ∷ E.Identity.own ∷ F.Identity.own ∷ G.Identity.own ∷ H.Identity.own
+        ∷ I.Identity.own ∷ J.Identity.own ∷ K.Identity.own ∷ L.Identity.own ∷ M.Identity.own
+        ∷ N.Identity.own ∷ []) };
 
     fn type_info(alloc: Global) -> Result<Type, InfoError> {
         let types = with_8::<A, B, C, D, E, F, G, H>(Vec::new(alloc))?;
@@ -318,7 +345,10 @@ impl<
     N: TypeInfo,
     O: TypeInfo,
 > TypeInfo for (A, B, C, D, E, F, G, H, I, J, K, L, M, N, O) {
-    ghost description = { tuple_description (A.Identity.own ∷ B.Identity.own ∷ C.Identity.own ∷ D.Identity.own ∷ E.Identity.own ∷ F.Identity.own ∷ G.Identity.own ∷ H.Identity.own ∷ I.Identity.own ∷ J.Identity.own ∷ K.Identity.own ∷ L.Identity.own ∷ M.Identity.own ∷ N.Identity.own ∷ O.Identity.own ∷ []) };
+    ghost description = { tuple_description (A.Identity.own ∷ B.Identity.own ∷ C.Identity.own
+        ∷ D.Identity.own ∷ E.Identity.own ∷ F.Identity.own ∷ G.Identity.own ∷ H.Identity.own
+        ∷ I.Identity.own ∷ J.Identity.own ∷ K.Identity.own ∷ L.Identity.own ∷ M.Identity.own
+        ∷ N.Identity.own ∷ O.Identity.own ∷ []) };
 
     fn type_info(alloc: Global) -> Result<Type, InfoError> {
         let types = with_8::<A, B, C, D, E, F, G, H>(Vec::new(alloc))?;
@@ -347,7 +377,10 @@ impl<
     O: TypeInfo,
     P: TypeInfo,
 > TypeInfo for (A, B, C, D, E, F, G, H, I, J, K, L, M, N, O, P) {
-    ghost description = { tuple_description (A.Identity.own ∷ B.Identity.own ∷ C.Identity.own ∷ D.Identity.own ∷ E.Identity.own ∷ F.Identity.own ∷ G.Identity.own ∷ H.Identity.own ∷ I.Identity.own ∷ J.Identity.own ∷ K.Identity.own ∷ L.Identity.own ∷ M.Identity.own ∷ N.Identity.own ∷ O.Identity.own ∷ P.Identity.own ∷ []) };
+    ghost description = { tuple_description (A.Identity.own ∷ B.Identity.own ∷ C.Identity.own
+        ∷ D.Identity.own ∷ E.Identity.own ∷ F.Identity.own ∷ G.Identity.own ∷ H.Identity.own
+        ∷ I.Identity.own ∷ J.Identity.own ∷ K.Identity.own ∷ L.Identity.own ∷ M.Identity.own
+        ∷ N.Identity.own ∷ O.Identity.own ∷ P.Identity.own ∷ []) };
 
     fn type_info(alloc: Global) -> Result<Type, InfoError> {
         let types = with_8::<A, B, C, D, E, F, G, H>(Vec::new(alloc))?;
@@ -375,7 +408,10 @@ impl<
     P: TypeInfo,
     Q: TypeInfo,
 > TypeInfo for (A, B, C, D, E, F, G, H, I, J, K, L, M, N, O, P, Q) {
-    ghost description = { tuple_description (A.Identity.own ∷ B.Identity.own ∷ C.Identity.own ∷ D.Identity.own ∷ E.Identity.own ∷ F.Identity.own ∷ G.Identity.own ∷ H.Identity.own ∷ I.Identity.own ∷ J.Identity.own ∷ K.Identity.own ∷ L.Identity.own ∷ M.Identity.own ∷ N.Identity.own ∷ O.Identity.own ∷ P.Identity.own ∷ Q.Identity.own ∷ []) };
+    ghost description = { tuple_description (A.Identity.own ∷ B.Identity.own ∷ C.Identity.own
+        ∷ D.Identity.own ∷ E.Identity.own ∷ F.Identity.own ∷ G.Identity.own ∷ H.Identity.own
+        ∷ I.Identity.own ∷ J.Identity.own ∷ K.Identity.own ∷ L.Identity.own ∷ M.Identity.own
+        ∷ N.Identity.own ∷ O.Identity.own ∷ P.Identity.own ∷ Q.Identity.own ∷ []) };
 
     fn type_info(alloc: Global) -> Result<Type, InfoError> {
         let types = with_8::<A, B, C, D, E, F, G, H>(Vec::new(alloc))?;
@@ -405,7 +441,11 @@ impl<
     Q: TypeInfo,
     R: TypeInfo,
 > TypeInfo for (A, B, C, D, E, F, G, H, I, J, K, L, M, N, O, P, Q, R) {
-    ghost description = { tuple_description (A.Identity.own ∷ B.Identity.own ∷ C.Identity.own ∷ D.Identity.own ∷ E.Identity.own ∷ F.Identity.own ∷ G.Identity.own ∷ H.Identity.own ∷ I.Identity.own ∷ J.Identity.own ∷ K.Identity.own ∷ L.Identity.own ∷ M.Identity.own ∷ N.Identity.own ∷ O.Identity.own ∷ P.Identity.own ∷ Q.Identity.own ∷ R.Identity.own ∷ []) };
+    ghost description = { tuple_description (A.Identity.own ∷ B.Identity.own ∷ C.Identity.own
+        ∷ D.Identity.own ∷ E.Identity.own ∷ F.Identity.own ∷ G.Identity.own ∷ H.Identity.own
+        ∷ I.Identity.own ∷ J.Identity.own ∷ K.Identity.own ∷ L.Identity.own ∷ M.Identity.own
+        ∷ N.Identity.own ∷ O.Identity.own ∷ P.Identity.own ∷ Q.Identity.own ∷ R.Identity.own
+        ∷ []) };
 
     fn type_info(alloc: Global) -> Result<Type, InfoError> {
         let types = with_8::<A, B, C, D, E, F, G, H>(Vec::new(alloc))?;
@@ -436,7 +476,11 @@ impl<
     R: TypeInfo,
     S: TypeInfo,
 > TypeInfo for (A, B, C, D, E, F, G, H, I, J, K, L, M, N, O, P, Q, R, S) {
-    ghost description = { tuple_description (A.Identity.own ∷ B.Identity.own ∷ C.Identity.own ∷ D.Identity.own ∷ E.Identity.own ∷ F.Identity.own ∷ G.Identity.own ∷ H.Identity.own ∷ I.Identity.own ∷ J.Identity.own ∷ K.Identity.own ∷ L.Identity.own ∷ M.Identity.own ∷ N.Identity.own ∷ O.Identity.own ∷ P.Identity.own ∷ Q.Identity.own ∷ R.Identity.own ∷ S.Identity.own ∷ []) };
+    ghost description = { tuple_description (A.Identity.own ∷ B.Identity.own ∷ C.Identity.own
+        ∷ D.Identity.own ∷ E.Identity.own ∷ F.Identity.own ∷ G.Identity.own ∷ H.Identity.own
+        ∷ I.Identity.own ∷ J.Identity.own ∷ K.Identity.own ∷ L.Identity.own ∷ M.Identity.own
+        ∷ N.Identity.own ∷ O.Identity.own ∷ P.Identity.own ∷ Q.Identity.own ∷ R.Identity.own
+        ∷ S.Identity.own ∷ []) };
 
     fn type_info(alloc: Global) -> Result<Type, InfoError> {
         let types = with_8::<A, B, C, D, E, F, G, H>(Vec::new(alloc))?;
@@ -469,7 +513,11 @@ impl<
     S: TypeInfo,
     T: TypeInfo,
 > TypeInfo for (A, B, C, D, E, F, G, H, I, J, K, L, M, N, O, P, Q, R, S, T) {
-    ghost description = { tuple_description (A.Identity.own ∷ B.Identity.own ∷ C.Identity.own ∷ D.Identity.own ∷ E.Identity.own ∷ F.Identity.own ∷ G.Identity.own ∷ H.Identity.own ∷ I.Identity.own ∷ J.Identity.own ∷ K.Identity.own ∷ L.Identity.own ∷ M.Identity.own ∷ N.Identity.own ∷ O.Identity.own ∷ P.Identity.own ∷ Q.Identity.own ∷ R.Identity.own ∷ S.Identity.own ∷ T.Identity.own ∷ []) };
+    ghost description = { tuple_description (A.Identity.own ∷ B.Identity.own ∷ C.Identity.own
+        ∷ D.Identity.own ∷ E.Identity.own ∷ F.Identity.own ∷ G.Identity.own ∷ H.Identity.own
+        ∷ I.Identity.own ∷ J.Identity.own ∷ K.Identity.own ∷ L.Identity.own ∷ M.Identity.own
+        ∷ N.Identity.own ∷ O.Identity.own ∷ P.Identity.own ∷ Q.Identity.own ∷ R.Identity.own
+        ∷ S.Identity.own ∷ T.Identity.own ∷ []) };
 
     fn type_info(alloc: Global) -> Result<Type, InfoError> {
         let types = with_8::<A, B, C, D, E, F, G, H>(Vec::new(alloc))?;
