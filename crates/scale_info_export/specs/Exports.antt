@@ -36,9 +36,9 @@ pub record IsRegisteredTable (S : System Shape Term) (roots : List Term) (ids : 
 
 -- The table of what a filter chooses among the types that the roots reach. `order` is the one
 -- numbering of the catalogue from the roots, and `ids` are the places of the roots in it; the
--- filter chose some of its places, where the types `tops` stand; `kept` is the one numbering of the
--- catalogue from these, as if they were registered afresh, and the table is its table. The map takes
--- the place of each kept type in `order` to that in `kept`, and has no other keys.
+-- filter chose some of its places, where the types `tops` stand; `kept` is the one numbering of
+-- the catalogue from these, as if they were registered afresh, and the table is its table. The map
+-- takes the place of each kept type in `order` to that in `kept`, and has no other keys.
 pub record IsExported (S : System Shape Term) (roots : List Term) {F : Type 0}
     (step : F → ℕ → Bool → F → Type 0) (filter : F) (ids : List ℕ) (new_ids : BTreeMap ℕ ℕ)
     (table : PortableRegistry) : Type 0 where
@@ -82,18 +82,20 @@ IsExportError S roots step filter (Encode encode.TooLong) =
 IsExportError S roots step filter (Encode encode.Memory) = ⊥
 IsExportError S roots step filter Memory = ⊤
 
--- the error of a registration, of pruning and of encoding as one of an export: a failed allocation
--- is `Memory`, wherever it failed
+-- the error of a registration as one of an export: a failed allocation is `Memory`, wherever it
+-- failed
 abbrev pub of_register : RegisterError → ExportError
 of_register (register.Undescribed id) = Register (register.Undescribed id)
 of_register register.Full = Register register.Full
 of_register register.Memory = Memory
 
+-- the error of pruning, in the same way
 abbrev pub of_retain : RetainError → ExportError
 of_retain (retain.Dangling id) = Retain (retain.Dangling id)
 of_retain retain.TooManyTypes = Retain retain.TooManyTypes
 of_retain retain.Memory = Memory
 
+-- the error of encoding, in the same way
 abbrev pub of_encode : EncodeError → ExportError
 of_encode encode.TooLong = Encode encode.TooLong
 of_encode encode.Memory = Memory

@@ -25,7 +25,8 @@ pub record Pruning : Type 0 where
 
 -- `retain` made the kept table and the map of the whole table, and `encode` made the bytes
 abbrev pub IsWritten : Pruning → Type 0
-IsWritten p = IsPruned p.whole.types p.chosen p.kept.types p.new_ids × EncodesRegistry p.kept p.bytes
+IsWritten p =
+    IsPruned p.whole.types p.chosen p.kept.types p.new_ids × EncodesRegistry p.kept p.bytes
 
 -- the new ids of the chosen ones, in order
 abbrev pub AreNewIds : Pruning → List ℕ → Type 0
@@ -36,15 +37,16 @@ pub record History : Type 0 where
   pub first : Step
   pub later : List Step
 
--- the catalogue of the last registration, and the registry that it left
+-- the catalogue of the last registration
 abbrev pub catalogue_of : History → System Shape Term
 catalogue_of h = (last_step h.first h.later).catalogue
 
+-- the registry that the last registration left
 abbrev pub registry_of : History → Registered
 registry_of h = (last_step h.first h.later).registry
 
--- each registration was accepted: the first into an empty registry, each later one into the registry
--- that the one before left, under a catalogue that has what it had before
+-- each registration was accepted: the first into an empty registry, each later one into the
+-- registry that the one before left, under a catalogue that has what it had before
 pub record AreAccepted (h : History) : Type 0 where
   pub begins : IsRegistration h.first.catalogue (registered [] []) h.first.roots h.first.registry
   pub steps : AreSteps h.first h.later
