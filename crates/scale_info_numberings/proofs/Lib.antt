@@ -15,3 +15,5 @@ pub mod Zip
 pub mod Tables
 pub mod Tours
 pub mod Walking
+pub mod Weights
+pub mod WorkLists

@@ -22,9 +22,9 @@ use Rattle.scale_info_catalogue.specs.declared.catalogue.Catalogue.{Catalogue}
 use Rattle.scale_info_registry.specs.declared.registry.discovery.RegisterError.TheVariants.{Full}
 use Rattle.scale_info_references.specs.Gathered.{targets}
 use Rattle.scale_info_registry.proofs.Terms.{known}
-use Rattle.scale_info_registry.proofs.Walking.{IsWalking, walk_adds, walk_meets, walk_passes, walk_ends}
-use Rattle.scale_info_registry.proofs.Walking.{kept_below, distinct_push}
-use Rattle.scale_info_registry.proofs.Weights.{work_left, adds_less}
+use Rattle.scale_info_numberings.proofs.WorkLists.{IsWalking, walk_adds, walk_meets, walk_passes, walk_ends}
+use Rattle.scale_info_numberings.proofs.WorkLists.{kept_below, distinct_push}
+use Rattle.scale_info_registry.proofs.CatalogueWeights.{work_left, adds_less}
 
 -- the terms on a stack are that of its top, then those of the rest
 pub stacked_pop : (ss : List (Bor MetaType)) (r : Bor MetaType) → stacked (ss ++ r ∷ []) ≡ type_term r.now ∷ stacked ss

@@ -5,5 +5,4 @@ mod Numbered
 mod Registered
 mod Steps
 mod Terms
-mod Walking
-mod Weights
+mod CatalogueWeights

@@ -1,4 +1,2 @@
-pub mod Walking
-pub mod Weights
 pub mod Visiting
 pub mod KeptEntries

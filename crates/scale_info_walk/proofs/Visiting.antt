@@ -17,8 +17,8 @@ use Rattle.scale_info_numberings.proofs.Reached.{extension_holds}
 use Rattle.scale_info_numberings.specs.Extensions.{IsExtension}
 use Rattle.scale_info_numberings.specs.Numberings.{AreDistinct, IsNumbering}
 use Rattle.scale_info_numberings.specs.Systems.{Entry, System, IsReachedPast, root, next, looks, refs_in}
-use Rattle.scale_info_walk.proofs.Walking.{IsWalking, walk_adds, walk_passes}
-use Rattle.scale_info_walk.proofs.Weights.{weight, weight_in, distinct_sums}
+use Rattle.scale_info_numberings.proofs.WorkLists.{IsWalking, walk_adds, walk_passes}
+use Rattle.scale_info_numberings.proofs.Weights.{weight, weight_in, distinct_sums}
 use Rattle.scale_info_walk.specs.Walks.{AreNumbers, IsCause, IsLook, IsNextOf, IsWalk}
 use Rattle.scale_info_walk.specs.declared.walk.RetainError.{RetainError}
 use Rattle.scale_info_walk.specs.declared.walk.RetainError.TheVariants.{Dangling, TooManyTypes, Memory}

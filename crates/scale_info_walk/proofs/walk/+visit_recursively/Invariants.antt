@@ -1,7 +1,7 @@
 use Rattle.std.proofs.Common.{◌≡◌, ◌+◌, ◌-◌, ◌<◌, ◌∷◌, [], length}
 use Rattle.scale_info_numberings.specs.Systems.{looks}
 use Rattle.scale_info_walk.specs.Walks.{IsWalk}
-use Rattle.scale_info_walk.proofs.Walking.{IsWalking}
+use Rattle.scale_info_numberings.proofs.WorkLists.{IsWalking}
 use Rattle.scale_info_walk.proofs.walk.+visit_recursively.Given as goal
 
 abbrev pub decreases-visit_recursively : goal.decreases-visit_recursively

@@ -1,7 +1,7 @@
 use Rattle.std.proofs.Common.{◌≡◌, ◌+◌, ◌∷◌, [], length}
 use Rattle.scale_info_numberings.specs.Systems.{looks}
 use Rattle.scale_info_walk.specs.Walks.{IsWalk}
-use Rattle.scale_info_walk.proofs.Walking.{IsWalking}
+use Rattle.scale_info_numberings.proofs.WorkLists.{IsWalking}
 use Rattle.scale_info_walk.proofs.Visiting.{work_left}
 use Rattle.scale_info_walk.proofs.walk.visit.Given as goal
 

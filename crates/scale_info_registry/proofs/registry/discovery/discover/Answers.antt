@@ -6,7 +6,7 @@ use Rattle.scale_info_identities.specs.contracts.type_id.TypeIdPartialEq.TheImpl
 use Rattle.scale_info_registry.specs.CatalogueSystems.{system_of, entry_of}
 use Rattle.scale_info_catalogue.specs.Catalogues.{described}
 use Rattle.scale_info_registry.specs.Registrations.{nodes_of, stacked}
-use Rattle.scale_info_registry.proofs.Walking.{walk_starts}
+use Rattle.scale_info_numberings.proofs.WorkLists.{walk_starts}
 use Rattle.scale_info_registry.proofs.Discovered.{pushed_one, kept_more, passes, meets, adds, shrinks, ends, overflows}
 use Rattle.scale_info_registry.proofs.registry.discovery.discover.Goals as goal
 

@@ -2,8 +2,8 @@ use Rattle.std.proofs.Common.{◌≡◌, ◌++◌, List, length}
 use Rattle.scale_info_identities.specs.declared.type_id.TypeId.{TypeId}
 use Rattle.scale_info_registry.specs.CatalogueSystems.{system_of}
 use Rattle.scale_info_registry.specs.Registrations.{nodes_of, stacked}
-use Rattle.scale_info_registry.proofs.Walking.{IsWalking}
-use Rattle.scale_info_registry.proofs.Weights.{work_left}
+use Rattle.scale_info_numberings.proofs.WorkLists.{IsWalking}
+use Rattle.scale_info_registry.proofs.CatalogueWeights.{work_left}
 use Rattle.scale_info_registry.proofs.registry.discovery.discover.Given as goal
 
 abbrev pub invariant-loop-next : goal.invariant-loop-next

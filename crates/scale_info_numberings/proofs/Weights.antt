@@ -1,5 +1,6 @@
--- The work that a walk has left.
-use Rattle.std.proofs.Common.{◌≡◌, ℕ, zero, suc, ◌+◌, ◌≤◌, List, [], ◌∷◌, length, Option, Some, None, slice_get, sum_by, refl, ap, sym, ◌∙◌, arith, ◌⊎◌, inl, inr, Contains}
+-- What the nodes of a system weigh, and that distinct ones weigh no more than a list that has them.
+use Rattle.std.proofs.Common.{◌≡◌, ℕ, zero, suc, ◌+◌, ◌≤◌, List, [], ◌∷◌, length, Option, Some, None}
+use Rattle.std.proofs.Common.{slice_get, sum_by, refl, ap, sym, ◌∙◌, arith, ◌⊎◌, inl, inr, Contains}
 use Rattle.std.proofs.lemmas.List.Sums.{sum_by-cons}
 use Rattle.std.proofs.lemmas.Option.{same_Some, none-some}
 use Rattle.scale_info_numberings.specs.Systems.{Entry, System}
@@ -22,7 +23,9 @@ without zero (x ∷ xs) = xs
 without (suc i) (x ∷ xs) = x ∷ without i xs
 
 -- without the element at i, each element at another place is still in the list
-pub kept_without : {N : Type 0} (i j : ℕ) (xs : List N) (n : N) → (i ≡ j → ⊥) → slice_get xs j ≡ Some n → (k : ℕ) × (slice_get (without i xs) k ≡ Some n)
+pub kept_without :
+    {N : Type 0} (i j : ℕ) (xs : List N) (n : N) → (i ≡ j → ⊥) → slice_get xs j ≡ Some n
+    → (k : ℕ) × (slice_get (without i xs) k ≡ Some n)
 unfolding without
 kept_without i j [] n ne e = absurd (none-some n e)
 kept_without zero zero (x ∷ xs) n ne e = absurd (ne refl)
@@ -31,14 +34,18 @@ kept_without (suc i) zero (x ∷ xs) n ne e = (zero, e)
 kept_without (suc i) (suc j) (x ∷ xs) n ne e =
     let r = kept_without i j xs n (λ q. ne (ap suc q)) e in (suc r.0, r.1)
 
-sum-without : {N : Type 0} (w : N → ℕ) (xs : List N) (i : ℕ) (x : N) → slice_get xs i ≡ Some x → sum_by w (without i xs) + w x ≡ sum_by w xs
+sum-without :
+    {N : Type 0} (w : N → ℕ) (xs : List N) (i : ℕ) (x : N) → slice_get xs i ≡ Some x
+    → sum_by w (without i xs) + w x ≡ sum_by w xs
 unfolding without
 sum-without w [] i x e = absurd (none-some x e)
 sum-without w (y ∷ xs) zero x e = let s : w y ≡ w x = ap w (same_Some y x e) in let c = sum_by-cons w y xs in omega arith
 sum-without w (y ∷ xs) (suc i) x e = let r = sum-without w xs i x e in let c = sum_by-cons w y xs in let k = sum_by-cons w y (without i xs) in omega arith
 
 -- distinct elements, of which those that weigh anything stand in K, weigh no more than K
-pub distinct_sums : {N : Type 0} (w : N → ℕ) (L K : List N) → AreDistinct L → ((n : N) → Contains L n → (w n ≡ 0) ⊎ Contains K n) → sum_by w L ≤ sum_by w K
+pub distinct_sums :
+    {N : Type 0} (w : N → ℕ) (L K : List N) → AreDistinct L → ((n : N) → Contains L n → (w n ≡ 0) ⊎ Contains K n)
+    → sum_by w L ≤ sum_by w K
 distinct_sums w [] K distinct f = omega arith
 distinct_sums {N} w (x ∷ L) K distinct f =
     let rest_distinct : AreDistinct L = λ i j n e h. let q : suc i ≡ suc j = distinct (suc i) (suc j) n e h in omega arith in
