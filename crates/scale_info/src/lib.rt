@@ -24,6 +24,7 @@ pub use scale_info_registry::registry;
 pub use scale_info_registry::registry::{IntoPortable, Registry};
 pub use scale_info_tables::portable;
 pub use scale_info_tables::portable::{PortableRegistry, PortableRegistryBuilder};
+pub use scale_info_transcode::append_json_of;
 pub use scale_info_type_info::type_info::{StaticTypeInfo, TypeInfo};
 pub use scale_info_types::meta_type::MetaType;
 pub use scale_info_types::ty::path::{Path, PathError};

@@ -19,3 +19,4 @@ mod tree;
 
 pub use error::JsonError;
 pub use registry::{append_json, from_json, to_json};
+pub use tree::Json;

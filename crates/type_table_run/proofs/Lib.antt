@@ -3,3 +3,4 @@ pub mod LineParts
 pub mod OneText
 pub mod PruneErrors
 pub mod Reports
+mod Rests

@@ -4,6 +4,7 @@ use Rattle.std.specs.declared.option.Option.{Option}
 use Rattle.std.specs.Io.KnownBytes.{Appends}
 use Rattle.serde_json.specs.Written.{compact_text}
 use Rattle.scale_info_json.specs.Tables.{table_tree}
+use Rattle.scale_info_bytes.specs.Encodings.{HasPrefix}
 use Rattle.scale_info_prune.specs.Prunes.{IsPrunedEncoding}
 use Rattle.scale_info_tables.specs.TableEncoding.{EncodesRegistry}
 use Rattle.scale_info_tables.specs.declared.portable.PortableRegistry.{PortableRegistry}
@@ -22,6 +23,12 @@ pub record IsPrunedTo (given input output : List ℕ) : Type 0 where
 -- the compact text of the table's JSON tree, and a line feed
 abbrev pub json_line : PortableRegistry → List ℕ
 json_line table = compact_text (table_tree table) ++ codes "\n"
+
+-- the input begins with a table, this is the rest, and the line is the table's
+pub record BeginsWithJson (input rest line : List ℕ) : Type 0 where
+  pub table : PortableRegistry
+  pub read : HasPrefix (EncodesRegistry table) input rest
+  pub text : line ≡ json_line table
 
 -- the input is one table, and the output its JSON line
 pub record IsJsonOf (input output : List ℕ) : Type 0 where

@@ -4,6 +4,7 @@
 mod command;
 mod error;
 mod id;
+mod json_line;
 mod output;
 mod program;
 mod reading;

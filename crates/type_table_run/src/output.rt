@@ -1,30 +1,18 @@
 //! What a command writes for its input.
-ghost use Rattle.std.specs.Prelude.{◌≡◌, All, IfOk, IfErr, map};
+ghost use Rattle.std.specs.Prelude.{All, IfOk, IfErr, map};
 ghost use Rattle.type_table_run.specs.Commands.{HasIdTexts, given_ids};
 ghost use Rattle.type_table_run.specs.Ids.{IsIdText, id_in};
-ghost use Rattle.type_table_run.specs.Outputs.{IsPrunedTo, Outputs, json_line};
+ghost use Rattle.type_table_run.specs.Outputs.{IsPrunedTo, Outputs};
 ghost use Rattle.type_table_run.specs.Refusals.{IsErrorOf};
 
 use crate::command::Command;
 use crate::error::RunError;
 use crate::id::ids_of;
-use crate::table::{check_table, table_of};
+use crate::json_line::json_of;
+use crate::table::check_table;
 use scale_info_collections::text::Text;
-use scale_info_json::append_json;
 use scale_info_prune::prune::append_pruned;
-use scale_info_tables::portable::PortableRegistry;
-use std::alloc::{AllocError, Global};
-
-/// The JSON text of a table, and a line feed, in a vector that has room for `room` bytes at first.
-///
-/// Errors: `AllocError`, if an allocation failed.
-fn json_text(alloc: Global, table: &PortableRegistry, room: usize) -> Result<Vec<u8>, AllocError>
-    ensures { IfOk result (λ line. line.items ≡ json_line table.now) }
-{
-    let mut text = append_json(table, Vec::with_capacity(alloc, room)?)?;
-    text.push(b'\n')?;
-    Ok(text)
-}
+use std::alloc::Global;
 
 /// The table of what the ids reach, of the table that the input is.
 ///
@@ -42,7 +30,7 @@ fn pruned(alloc: Global, input: &[u8], ids: &[Text]) -> Result<Vec<u8>, RunError
 
 /// The whole output of a command for its whole input.
 ///
-/// Only `json` makes values: `check` and `prune` go over the input.
+/// `check` and `prune` make no values, and `json` has one entry in memory at a time.
 ///
 /// Errors: `Malformed`, if no prefix of the input is a table; `TrailingBytes`, if bytes come after
 /// the table; `NoSuchType` and `Dangling`, if the table has no such index; `Memory`, if an
@@ -58,12 +46,6 @@ pub fn output_of(alloc: Global, command: &Command, input: Vec<u8>) -> Result<Vec
             Ok(input)
         }
         Command::Prune(ids) => pruned(alloc, &input, ids),
-        Command::Json => {
-            let table = table_of(alloc, &input)?;
-            // The text of a table is longer than its encoding, mostly by half or more.
-            let room = input.len().saturating_mul(2);
-            drop(input);
-            json_text(alloc, &table, room).map_err(|_| RunError::Memory)
-        }
+        Command::Json => json_of(alloc, &input),
     }
 }

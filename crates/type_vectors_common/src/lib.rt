@@ -1,6 +1,7 @@
 //! What the crates of tests share: rows of bytes, parts of descriptions, readers and writers.
 #![tactic(auto)]
 
+pub mod chains;
 pub mod parts;
 pub mod rows;
 pub mod streams;

@@ -1,10 +1,9 @@
 use Rattle.std.proofs.Common.{List, ℕ, [], ◌≡◌, ◌++◌, ◌≢◌, ◌==◌, true, false, ◌∙◌, length, sym, subst, ap, append-nil}
-use Rattle.std.proofs.lemmas.Bool.{eqb-true}
-use Rattle.std.proofs.lemmas.List.{nil_from_length}
 use Rattle.scale_info_bytes.specs.Parts.{EncodesList}
 use Rattle.scale_info_codec.specs.Ty.{EncodesPortableType}
 use Rattle.scale_info_passes.specs.Pieces.{HasSomePrefix}
 use Rattle.type_table_run.specs.Tables.{IsTable}
+use Rattle.type_table_run.proofs.Rests.{is_empty}
 use Rattle.type_table_run.proofs.table.check_table.Goals as goal
 
 -- a table after which nothing comes is the whole input
@@ -13,9 +12,6 @@ is_table a r e p = record {
   table = record { types = p.value };
   encodes = subst (λ t. EncodesList EncodesPortableType p.value t) (sym (p.prefix.parts ∙ ap (λ t. p.prefix.encoding ++ t) e ∙ append-nil p.prefix.encoding)) p.prefix.encodes;
 }
-
-is_empty : (r : List ℕ) → true ≡ (length r == 0) → r ≡ []
-is_empty r e = nil_from_length r (eqb-true (length r) 0 (sym e))
 
 is_not_empty : (r : List ℕ) → false ≡ (length r == 0) → r ≢ []
 is_not_empty r e h = let bad : false ≡ (length {A = ℕ} [] == 0) = subst (λ t. false ≡ (length t == 0)) h e in cc

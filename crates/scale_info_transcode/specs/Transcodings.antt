@@ -1,0 +1,39 @@
+-- What is read from bytes and written as JSON.
+use Rattle.std.specs.Prelude.{◌≡◌, ℕ, List, [], ◌∷◌, ◌++◌, length}
+use Rattle.json.specs.Token.{Token}
+use Rattle.serde_json.specs.Data.{Data}
+use Rattle.serde_json.specs.Written.{compact_text}
+use Rattle.scale_info_bytes.specs.Encodings.{HasPrefix}
+use Rattle.scale_info_bytes.specs.Parts.{EncodesItems, EncodesList}
+use Rattle.scale_info_json.specs.Steps.{tokens_of}
+use Rattle.scale_info_json.specs.Tables.{table_tree}
+use Rattle.scale_info_json.specs.Written.{list_tree}
+use Rattle.scale_info_tables.specs.TableEncoding.{EncodesRegistry}
+use Rattle.scale_info_tables.specs.declared.portable.PortableRegistry.{PortableRegistry}
+
+-- the tokens of the values' trees, one tree after another
+abbrev pub tokens_of_each : {A : Type 0} → (A → Data) → List A → List Token
+tokens_of_each W [] = []
+tokens_of_each W (v ∷ values) = tokens_of (W v) ++ tokens_of_each W values
+
+-- the input begins with so many values, this is the rest, and the tokens grew by those of their
+-- trees
+pub record WritesItems {A : Type 0} (S : A → List ℕ → Type 0) (W : A → Data) (count : ℕ)
+    (input rest : List ℕ) (old new : List Token) : Type 0 where
+  pub values : List A
+  pub counted : length values ≡ count
+  pub read : HasPrefix (EncodesItems S values) input rest
+  pub tokens : new ≡ old ++ tokens_of_each W values
+
+-- the input begins with a list, this is the rest, and the tokens grew by those of its array
+pub record WritesList {A : Type 0} (S : A → List ℕ → Type 0) (W : A → Data)
+    (input rest : List ℕ) (old new : List Token) : Type 0 where
+  pub values : List A
+  pub read : HasPrefix (EncodesList S values) input rest
+  pub tokens : new ≡ old ++ tokens_of (list_tree W values)
+
+-- the input begins with a table, this is the rest, and the text grew by that of the table's tree
+pub record AppendsJson (input rest old new : List ℕ) : Type 0 where
+  pub table : PortableRegistry
+  pub read : HasPrefix (EncodesRegistry table) input rest
+  pub text : new ≡ old ++ compact_text (table_tree table)

@@ -1,0 +1,63 @@
+//! Encoded lists as JSON text.
+ghost use Rattle.std.specs.Prelude.{◌≡◌, ◌++◌, List, ℕ, length, IfOk, IfErr, OnOk};
+ghost use Rattle.scale_info_bytes.specs.Encodings.{HasNoPrefix, HasPrefix, IfMalformed};
+ghost use Rattle.scale_info_bytes.specs.Parts.{EncodesItems, EncodesList};
+ghost use Rattle.scale_info_json.specs.Steps.{tokens_of};
+ghost use Rattle.scale_info_json.specs.Written.{list_tree};
+ghost use Rattle.scale_info_transcode.specs.Transcodings.{WritesItems, WritesList};
+
+use json::Writer;
+use scale_info_bytes::number::decode_compact;
+use scale_info_codec::{DecodeError, Scale};
+use scale_info_json::Json;
+use std::alloc::Global;
+
+/// Reads as many items as the count says, writes each as JSON, and returns the rest.
+fn transcode_items<'a, T: Scale + Json>(
+    alloc: Global,
+    count: u32,
+    input: &'a [u8],
+    out: &mut Writer,
+) -> Result<&'a [u8], DecodeError>
+    ensures before { OnOk result (out.new.before ≡ out.old.before) }
+    ensures ok { IfOk result (λ rest. WritesItems T.encodes T.written count
+        input.now rest.now out.old.tokens out.new.tokens) }
+    ensures malformed { IfErr result
+        (IfMalformed
+        ((values : _) (rest : _) → length values ≡ count
+        → HasPrefix (EncodesItems T.encodes values) input.now rest → ⊥)) }
+{
+    let mut rest = input;
+    for _ in 0..count {
+        let (value, after) = T::decode_from(alloc, rest)?;
+        value.write_json(out)?;
+        rest = after;
+    }
+    Ok(rest)
+}
+
+/// Reads a list, writes it as a JSON array, and returns the rest.
+///
+/// Errors: `Malformed`, if no prefix of the input encodes a list; `Memory`, if an allocation
+/// failed.
+pub fn transcode_list<'a, T: Scale + Json>(
+    alloc: Global,
+    input: &'a [u8],
+    out: &mut Writer,
+) -> Result<&'a [u8], DecodeError>
+    ensures before { OnOk result (out.new.before ≡ out.old.before) }
+    ensures ok { IfOk result (λ rest. WritesList T.encodes T.written
+        input.now rest.now out.old.tokens out.new.tokens) }
+    ensures malformed { IfErr result
+        (IfMalformed (HasNoPrefix (EncodesList T.encodes) input.now)) }
+{
+    match decode_compact(input) {
+        Some((count, items)) => {
+            out.begin_array()?;
+            let rest = transcode_items::<T>(alloc, count, items, out)?;
+            out.end_array()?;
+            Ok(rest)
+        }
+        None => Err(DecodeError::Malformed),
+    }
+}

@@ -1,0 +1,44 @@
+//! The JSON text of a table's bytes.
+ghost use Rattle.std.specs.Prelude.{IfErr, IfOk};
+ghost use Rattle.scale_info_bytes.specs.Encodings.{HasNoPrefix, IfMalformed};
+ghost use Rattle.scale_info_tables.specs.TableEncoding.{EncodesRegistry};
+ghost use Rattle.type_table_run.specs.Outputs.{BeginsWithJson, IsJsonOf};
+ghost use Rattle.type_table_run.specs.Tables.{IsTableError};
+
+use crate::error::RunError;
+use scale_info_codec::DecodeError;
+use scale_info_transcode::append_json_of;
+use std::alloc::Global;
+
+/// The JSON text of the table that the input begins with, and a line feed; and the rest.
+fn json_line_of(alloc: Global, input: &[u8]) -> Result<(Vec<u8>, &[u8]), DecodeError>
+    ensures ok { IfOk result (λ found. BeginsWithJson input.now found.1.now found.0.items) }
+    ensures malformed { IfErr result (IfMalformed (HasNoPrefix EncodesRegistry input.now)) }
+{
+    // The text of a table is longer than its encoding, mostly by half or more.
+    let text = Vec::with_capacity(alloc, input.len().saturating_mul(2))?;
+    let (mut text, rest) = append_json_of(alloc, input, text)?;
+    text.push(b'\n')?;
+    Ok((text, rest))
+}
+
+/// The JSON text of the table that the input is, and a line feed. One entry of the table is in
+/// memory at a time.
+///
+/// Errors: `Malformed`, if no prefix of the input is a table; `TrailingBytes`, if bytes come after
+/// the table; `Memory`, if an allocation failed.
+pub fn json_of(alloc: Global, input: &[u8]) -> Result<Vec<u8>, RunError>
+    ensures ok { IfOk result (λ line. IsJsonOf input.now line.items) }
+    ensures err { IfErr result (IsTableError input.now) }
+{
+    match json_line_of(alloc, input) {
+        Ok((line, rest)) => {
+            if !rest.is_empty() {
+                return Err(RunError::TrailingBytes);
+            }
+            Ok(line)
+        }
+        Err(DecodeError::Malformed) => Err(RunError::Malformed),
+        Err(DecodeError::Memory) => Err(RunError::Memory),
+    }
+}

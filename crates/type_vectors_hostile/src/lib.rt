@@ -1,0 +1,18 @@
+//! Tests of hostile bytes and tables: what is refused, what is left as it was, and how much is
+//! read and written before.
+#![tactic(auto)]
+
+#[cfg(test)]
+mod asserts;
+#[cfg(test)]
+mod bytes;
+#[cfg(test)]
+mod changes;
+#[cfg(test)]
+mod filters;
+#[cfg(test)]
+mod long_chains;
+#[cfg(test)]
+mod runs;
+#[cfg(test)]
+mod streams;
