@@ -7,3 +7,6 @@ pub returns-in_err-number-clause-malformed : goal.returns-in_err-number-clause-m
 returns-in_err-number-clause-malformed c =
     passed_malformed c.from_residual.result c.in_err-number.field-0.0 c.from_residual.ensures.1
     (λ n. no_prefix_through portable_type_parts n) c.in_err-number.ensures.malformed
+
+pub returns-clause-ok : goal.returns-clause-ok
+returns-clause-ok c = c.in_ok-number.ensures.ok

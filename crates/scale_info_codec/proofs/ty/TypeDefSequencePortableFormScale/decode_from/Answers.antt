@@ -6,3 +6,6 @@ pub returns-in_err-type_param-clause-malformed : goal.returns-in_err-type_param-
 returns-in_err-type_param-clause-malformed c =
     passed_malformed c.from_residual.result c.in_err-type_param.field-0.0 c.from_residual.ensures.1
     (λ n. no_prefix_through (λ v. v.type_param) n) c.in_err-type_param.ensures.malformed
+
+pub returns-clause-ok : goal.returns-clause-ok
+returns-clause-ok c = c.in_ok-type_param.ensures.ok

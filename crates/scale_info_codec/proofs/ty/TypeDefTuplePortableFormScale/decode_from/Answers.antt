@@ -6,3 +6,6 @@ pub returns-in_err-fields-clause-malformed : goal.returns-in_err-fields-clause-m
 returns-in_err-fields-clause-malformed c =
     passed_malformed c.from_residual.result c.in_err-fields.field-0.0 c.from_residual.ensures.1
     (λ n. no_prefix_through (λ v. v.fields) n) c.in_err-fields.ensures.malformed
+
+pub returns-clause-ok : goal.returns-clause-ok
+returns-clause-ok c = c.in_ok-fields.ensures.ok

@@ -1,0 +1,5 @@
+use Rattle.std.proofs.Common.{refl}
+use Rattle.scale_info_types.proofs.ty.TypeDefArray.len.Goals as goal
+
+pub returns : goal.returns
+returns g c = refl
