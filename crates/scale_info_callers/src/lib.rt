@@ -4,6 +4,7 @@
 pub mod build;
 pub mod facts;
 pub mod inspect;
+pub mod lists;
 pub mod reading;
 
 #[cfg(test)]

@@ -1,16 +1,22 @@
 //! Callers that prune, whose contracts speak of every numbering from the chosen ids. There is only
 //! one.
-ghost use Rattle.std.specs.Prelude.{List, ℕ, IfOk, OnErr, ◌≡◌, length, map};
+ghost use Rattle.std.specs.Prelude.{List, ℕ, Some, IfErr, IfOk, OnErr, ◌≡◌, ◌↔◌, ◌<◌, length, map};
+ghost use Rattle.std.specs.Prelude.{slice_get};
+ghost use Rattle.std.specs.BTreeMap.{get};
+ghost use Rattle.std.specs.Ordering.{nat_cmp};
 ghost use Rattle.scale_info_bytes.specs.Encodings.{AppendsEncoding};
 ghost use Rattle.scale_info_numberings.specs.Numberings.{IsNumbering};
+ghost use Rattle.scale_info_numberings.specs.Systems.{System};
 ghost use Rattle.scale_info_numberings.specs.Tables.{IsTable};
 ghost use Rattle.scale_info_prune.specs.Prunes.{HasNewIds};
 ghost use Rattle.scale_info_prune.specs.Roots.{AreRoots};
 ghost use Rattle.scale_info_prune.specs.TableIndexes.{EncodesTypes};
+ghost use Rattle.scale_info_types.specs.Shapes.{Shape};
 ghost use Rattle.scale_info_types.specs.declared.ty.PortableType.{PortableType};
-ghost use Rattle.scale_info_walk.specs.Pruned.{IsChosen};
+ghost use Rattle.scale_info_walk.specs.Pruned.{IsChosen, IsRetainError};
 ghost use Rattle.scale_info_walk.specs.TypeSystems.{entry_of, types_system};
 
+use scale_info::laws::shape_and_references;
 use scale_info::{PortableRegistry, PruneError, RetainError, prune};
 use std::alloc::Global;
 use std::collections::BTreeMap;
@@ -29,8 +35,28 @@ pub fn keep_chosen<F: FnMut(u32) -> bool>(
         → IsTable (types_system table.old.types) order (map entry_of table.new.types)
         × HasNewIds order new_ids)) }
     ensures err { OnErr result (table.new ≡ table.old) }
+    ensures cause { IfErr result (IsRetainError F.step filter table.old.types) }
 {
     table.retain(alloc, filter)
+}
+
+/// Keeps everything. Where the table is that of a numbering, and the `id` of each entry is its
+/// index, the table stays as it is, and the new id of each type is its old one.
+pub fn keep_all(
+    alloc: Global,
+    table: &mut PortableRegistry,
+) -> Result<BTreeMap<u32, u32>, RetainError>
+    ensures same { IfOk result (λ new_ids. (S : System Shape ℕ) (roots nodes : List ℕ)
+        → IsNumbering S roots nodes → IsTable S nodes (map entry_of table.old.types)
+        → ((i : ℕ) (entry : PortableType) → slice_get table.old.types i ≡ Some entry
+        → entry.id ≡ i)
+        → (table.new.types ≡ table.old.types)
+        × ((old new : ℕ) → (get nat_cmp new_ids old ≡ Some new)
+        ↔ ((old ≡ new) × (new < length table.old.types)))) }
+    ensures err { OnErr result (table.new ≡ table.old) }
+{
+    shape_and_references();
+    table.retain(alloc, |_| true)
 }
 
 /// Appends the table of what the ids reach. The input encodes a table; for each numbering of it

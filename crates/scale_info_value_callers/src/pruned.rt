@@ -32,3 +32,23 @@ pub fn decode_by_pruned<'a>(
     reads_alike();
     decode_value(alloc, pruned, index, input)
 }
+
+/// Keeps a type and all that it reaches, and decodes a value of that type by what is left. The
+/// value and the rest are those that the table gave before.
+pub fn keep_and_decode<'a>(
+    alloc: Global,
+    table: &mut PortableRegistry,
+    id: u32,
+    input: &'a [u8],
+) -> anyhow::Result<(Dyn, &'a [u8])>
+    ensures { IfOk result
+        (λ found. reading table.old id 1 input.now ≡ decoded found.0 found.1.now) }
+{
+    reads_alike();
+    let new_ids = table.retain(alloc, |old| old == id)?;
+    let Some(index) = new_ids.get(&id).copied() else {
+        return Err(ValueError::NoSuchType.into());
+    };
+    let found = decode_value(alloc, table, index, input)?;
+    Ok(found)
+}

@@ -4,13 +4,16 @@ use scale_info::EncodeError;
 use scale_info::Field;
 use scale_info::IntoPortable;
 use scale_info::Items;
+use scale_info::JsonError;
 use scale_info::MetaType;
 use scale_info::Path;
 use scale_info::PathError;
 use scale_info::PortableRegistry;
 use scale_info::PortableRegistryBuilder;
 use scale_info::PortableType;
+use scale_info::PruneError as PruneErrorOfRoot;
 use scale_info::Registry;
+use scale_info::RetainError as RetainErrorOfRoot;
 use scale_info::Scale;
 use scale_info::StaticTypeInfo;
 use scale_info::Text;
@@ -31,6 +34,9 @@ use scale_info::TypeInfo;
 use scale_info::TypeParameter;
 use scale_info::UntrackedSymbol;
 use scale_info::Variant;
+use scale_info::append_json;
+use scale_info::append_json_of;
+use scale_info::append_pruned;
 use scale_info::build::FieldBuilder;
 use scale_info::build::Fields;
 use scale_info::build::FieldsBuilder;
@@ -58,11 +64,15 @@ use scale_info::build::lists::with_type;
 use scale_info::build::lists::with_type_param;
 use scale_info::build::variants::Variants as VariantsOfModule;
 use scale_info::codec as by_codec;
+use scale_info::export::ExportError;
+use scale_info::export::Exported;
 use scale_info::export::PruneError;
+use scale_info::export::export;
 use scale_info::export::prune as prune_of_module;
 use scale_info::form::Form;
 use scale_info::form::MetaForm;
 use scale_info::form::PortableForm;
+use scale_info::from_json;
 use scale_info::impls::Compact;
 use scale_info::impls::SliceOf;
 use scale_info::impls::StrType;
@@ -84,11 +94,13 @@ use scale_info::named_type_params;
 use scale_info::portable::Entries;
 use scale_info::portable::PortableRegistry as TableOfModule;
 use scale_info::portable::PortableRegistryBuilder as BuilderOfModule;
+use scale_info::prune;
 use scale_info::registry::IntoPortable as IntoPortableOfModule;
 use scale_info::registry::RegisterError;
 use scale_info::registry::Registry as RegistryOfModule;
 use scale_info::registry::RegistryTypes;
 use scale_info::text::Text as TextOfModule;
+use scale_info::to_json;
 use scale_info::try_clone::TryClone as CopyOfModule;
 use scale_info::tuple_meta_type;
 use scale_info::ty::Type as TypeOfModule;
@@ -174,6 +186,13 @@ type Modules<'a> = (
     IdentityOfModule,
     (RegisterError, RegistryOfModule, RegistryTypes<'a>),
     (Dyn, ValueError, Numbering, Refs, RetainError),
+    (
+        JsonError,
+        PruneErrorOfRoot,
+        RetainErrorOfRoot,
+        Exported,
+        ExportError,
+    ),
 );
 
 /// The builders and their states, each in the place of a type.
@@ -241,6 +260,26 @@ fn functions_are_offered(alloc: Global, table: &PortableRegistry) -> Result<(), 
     lists_are_offered::<u8>(alloc)
 }
 
+/// What the functions of the root that write bytes append in turn, each called once, and whether
+/// both that write JSON write the same text.
+fn appended(alloc: Global, table: &PortableRegistry) -> Result<(Vec<u8>, bool), Fail> {
+    let same = from_json(alloc, &to_json(alloc, table)?)?;
+    let text = append_json(&same, Vec::new(alloc))?;
+    let mut bytes = Vec::new(alloc);
+    same.encode(&mut bytes)?;
+    let (same_text, _) = append_json_of(alloc, &bytes, Vec::new(alloc))?;
+    let mut pruned = Vec::new(alloc);
+    let _ = prune(alloc, &bytes, &[0], &mut pruned)?;
+    append_pruned(alloc, &bytes, &[0], &mut pruned)?;
+    let _ = export(
+        &Catalogue::new(alloc),
+        &Vec::new(alloc),
+        |_| true,
+        &mut pruned,
+    )?;
+    Ok((pruned, text.as_slice() == same_text.as_slice()))
+}
+
 /// Names the items, which is enough for the check to find each by its path; nothing calls it.
 fn are_offered(
     _root: Option<&Root>,
@@ -260,5 +299,9 @@ fn public_items_are_offered_at_scale_info(rt: HostRuntime) -> Result<(), Fail> {
         assert_eq!(rt; index, id);
         assert!(rt; ty.path.is_empty() && is_rust_identifier("u8"));
     }
+    let twice = [4, 0, 0, 0, 5, 3, 0, 4, 0, 0, 0, 5, 3, 0, 0];
+    let (bytes, same) = appended(rt.alloc(), &table)?;
+    assert_eq!(rt; bytes.as_slice(), twice.as_slice());
+    assert!(rt; same);
     functions_are_offered(rt.alloc(), &table)
 }

@@ -76,32 +76,38 @@ fn unnamed(alloc: Global) -> Result<FieldsBuilder<MetaForm, UnnamedFields>, Allo
         .field(alloc, |f| f.type_name("Vec<T>").ty::<Vec<u8>>(alloc))
 }
 
-#[test]
-fn unnamed_fields_keep_type_names(rt: HostRuntime) -> Result<(), Fail> {
-    let alloc = rt.alloc();
+/// The same fields by constructors, without the phantom.
+fn wanted_unnamed(alloc: Global) -> Result<TypeDefComposite, AllocError> {
     let first = Field::new(None, meta_type::<u8>(alloc)?, None, Vec::new(alloc));
     let list = meta_type::<Vec<u8>>(alloc)?;
     let second = Field::new(None, list, Some("Vec<T>"), Vec::new(alloc));
-    let wanted = TypeDefComposite::from(vec![in alloc; first, second]?);
-    holds(
-        &rt,
-        "fields",
-        TypeDefComposite::from(unnamed(alloc)?) == wanted,
-    );
+    Ok(TypeDefComposite::from(vec![in alloc; first, second]?))
+}
+
+#[test]
+fn unnamed_fields_keep_type_names(rt: HostRuntime) -> Result<(), Fail> {
+    let alloc = rt.alloc();
+    let built = TypeDefComposite::from(unnamed(alloc)?);
+    holds(&rt, "fields", built == wanted_unnamed(alloc)?);
     Ok(())
+}
+
+/// A field by its builder.
+fn built_field(alloc: Global) -> Result<Field, AllocError> {
+    let built = Field::builder().type_name("T").name("x").ty::<bool>(alloc)?;
+    Ok(built.finalize(alloc))
+}
+
+/// The same field by its constructor.
+fn wanted_field(alloc: Global) -> Result<Field, AllocError> {
+    let ty = meta_type::<bool>(alloc)?;
+    Ok(Field::new(Some("x"), ty, Some("T"), Vec::new(alloc)))
 }
 
 #[test]
 fn one_field_by_its_builder(rt: HostRuntime) -> Result<(), Fail> {
     let alloc = rt.alloc();
-    let built = Field::builder().type_name("T").name("x").ty::<bool>(alloc)?;
-    let wanted = Field::new(
-        Some("x"),
-        meta_type::<bool>(alloc)?,
-        Some("T"),
-        Vec::new(alloc),
-    );
-    holds(&rt, "field", built.finalize(alloc) == wanted);
+    holds(&rt, "field", built_field(alloc)? == wanted_field(alloc)?);
     Ok(())
 }
 
@@ -113,23 +119,32 @@ fn members<F: Form>(definition: &TypeDef<F>) -> &[F::Ty] {
     }
 }
 
+/// The tuple of the second type of the case and of `u64`.
+fn tuple(alloc: Global, case: &str) -> Result<TypeDef, AllocError> {
+    let mut given = Vec::new(alloc);
+    given.push(second(alloc, case)?)?;
+    given.push(meta_type::<u64>(alloc)?)?;
+    TypeDefTuple::new(alloc, given)
+}
+
 #[test]
 fn tuples_without_phantoms(rt: HostRuntime) -> Result<(), Fail> {
     let alloc = rt.alloc();
     for case in &CASES {
-        let given = vec![in alloc; second(alloc, case.0)?, meta_type::<u64>(alloc)?]?;
-        let tuple = TypeDefTuple::new(alloc, given)?;
-        is(
-            &rt,
-            case.0,
-            members(&tuple).len(),
-            if case.1 { 2 } else { 1 },
-        );
-        holds(
-            &rt,
-            "last",
-            members(&tuple).last() == Some(&meta_type::<u64>(alloc)?),
-        );
+        let tuple = tuple(alloc, case.0)?;
+        let count = if case.1 { 2 } else { 1 };
+        is(&rt, case.0, members(&tuple).len(), count);
+    }
+    Ok(())
+}
+
+#[test]
+fn the_last_member_of_a_tuple_stays(rt: HostRuntime) -> Result<(), Fail> {
+    let alloc = rt.alloc();
+    let last = meta_type::<u64>(alloc)?;
+    for case in &CASES {
+        let tuple = tuple(alloc, case.0)?;
+        holds(&rt, case.0, members(&tuple).last() == Some(&last));
     }
     Ok(())
 }

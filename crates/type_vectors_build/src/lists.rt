@@ -1,20 +1,24 @@
 //! The macros that list types and parameters.
 use crate::asserts::holds;
 use scale_info::impls::meta_type;
-use scale_info::{TypeParameter, named_type_params, tuple_meta_type, type_params};
+use scale_info::{MetaType, TypeParameter, named_type_params, tuple_meta_type, type_params};
 use std::alloc::{AllocError, Global};
 use std::test::Fail;
+
+/// Three types, by their own calls.
+fn types(alloc: Global) -> Result<Vec<MetaType>, AllocError> {
+    let mut types = Vec::new(alloc);
+    types.push(meta_type::<i32>(alloc)?)?;
+    types.push(meta_type::<[u8; 32]>(alloc)?)?;
+    types.push(meta_type::<String>(alloc)?)?;
+    Ok(types)
+}
 
 #[test]
 fn types_in_order(rt: HostRuntime) -> Result<(), Fail> {
     let alloc = rt.alloc();
     let listed = tuple_meta_type!(alloc; i32, [u8; 32], String)?;
-    let wanted = vec![in alloc;
-        meta_type::<i32>(alloc)?,
-        meta_type::<[u8; 32]>(alloc)?,
-        meta_type::<String>(alloc)?,
-    ]?;
-    holds(&rt, "types", listed == wanted);
+    holds(&rt, "types", listed == types(alloc)?);
     Ok(())
 }
 

@@ -3,7 +3,7 @@ ghost use Rattle.std.specs.Prelude.{codes};
 ghost use Rattle.scale_info_type_ids.specs.StandardTerms.{applied};
 
 use crate::asserts::holds;
-use scale_info::build::Fields;
+use scale_info::build::{Fields, FieldsBuilder, NamedFields};
 use scale_info::form::MetaForm;
 use scale_info::impls::meta_type;
 use scale_info::meta_type::{HasIdentity, Identified};
@@ -30,39 +30,61 @@ impl<T: Identified> HasIdentity for MyStruct<T> {
     type Identity = MyStruct<T>;
 }
 
+/// The path of a type with this name in this module.
+///
+/// The texts are arguments, since a proof computes on texts that it can read.
+pub fn path_of(alloc: Global, name: &'static str, module_path: &'static str) -> Result<Path, Fail> {
+    Ok(Path::new(alloc, name, module_path)?)
+}
+
 /// The path of the struct.
 fn path(alloc: Global) -> Result<Path, Fail> {
-    Ok(Path::new(alloc, "MyStruct", "scale_info::tests")?)
+    path_of(alloc, "MyStruct", "scale_info::tests")
+}
+
+/// The struct's field, by its builder.
+fn built_fields<T: HasIdentity>(
+    alloc: Global,
+) -> Result<FieldsBuilder<MetaForm, NamedFields>, AllocError> {
+    let fields = Fields::named::<MetaForm>(alloc);
+    fields.field(alloc, |f| f.name("data").type_name("T").ty::<T>(alloc))
 }
 
 /// The struct's description, by builders.
 fn built<T: HasIdentity>(alloc: Global) -> Result<Type, Fail> {
-    let fields = Fields::named::<MetaForm>(alloc).field(
-        alloc,
-        |f| f.name("data").type_name("T").ty::<T>(alloc),
-    )?;
     let builder = Type::builder(alloc)
         .type_params(named_type_params!(alloc; (T, T))?)
         .docs(alloc, &["a struct", ""])?;
+    let fields = built_fields::<T>(alloc)?;
     Ok(builder.path(path(alloc)?).composite(fields))
+}
+
+/// The struct's field, by its constructor.
+fn wanted_fields(alloc: Global, data: MetaType) -> Result<TypeDefComposite, AllocError> {
+    let field = Field::new(Some("data"), data, Some("T"), Vec::new(alloc));
+    Ok(TypeDefComposite::from(vec![in alloc; field]?))
 }
 
 /// The struct's description where the parameter is this type, by constructors.
 fn wanted(alloc: Global, param: MetaType, data: MetaType) -> Result<Type, Fail> {
-    let field = Field::new(Some("data"), data, Some("T"), Vec::new(alloc));
     let ty = Type::from((
         path(alloc)?,
         vec![in alloc; TypeParameter::new("T", Some(param))]?,
-        TypeDefComposite::from(vec![in alloc; field]?).into(),
+        wanted_fields(alloc, data)?.into(),
         vec![in alloc; "a struct", ""]?,
     ));
     Ok(ty)
 }
 
+/// The struct's description where the parameter is `P` and the field's type is `D`.
+fn wanted_of<P: HasIdentity, D: HasIdentity>(alloc: Global) -> Result<Type, Fail> {
+    wanted(alloc, meta_type::<P>(alloc)?, meta_type::<D>(alloc)?)
+}
+
 #[test]
 fn a_struct_of_bool(rt: HostRuntime) -> Result<(), Fail> {
     let alloc = rt.alloc();
-    let wanted = wanted(alloc, meta_type::<bool>(alloc)?, meta_type::<bool>(alloc)?)?;
+    let wanted = wanted_of::<bool, bool>(alloc)?;
     holds(&rt, "of bool", built::<bool>(alloc)? == wanted);
     Ok(())
 }
@@ -70,13 +92,8 @@ fn a_struct_of_bool(rt: HostRuntime) -> Result<(), Fail> {
 #[test]
 fn a_struct_of_itself(rt: HostRuntime) -> Result<(), Fail> {
     let alloc = rt.alloc();
-    let param = meta_type::<MyStruct<bool>>(alloc)?;
-    let data = meta_type::<Box<MyStruct<bool>>>(alloc)?;
-    let wanted = wanted(alloc, param, data)?;
-    holds(
-        &rt,
-        "of itself",
-        built::<Box<MyStruct<bool>>>(alloc)? == wanted,
-    );
+    let wanted = wanted_of::<MyStruct<bool>, Box<MyStruct<bool>>>(alloc)?;
+    let built = built::<Box<MyStruct<bool>>>(alloc)?;
+    holds(&rt, "of itself", built == wanted);
     Ok(())
 }

@@ -3,8 +3,8 @@ use crate::asserts::{holds, is};
 use scale_info::build::{Fields, FieldsBuilder, NamedFields};
 use scale_info::form::PortableForm;
 use scale_info::{
-    Field, Items, Path, PortableRegistryBuilder, Text, Type, TypeDef, TypeDefComposite,
-    TypeDefPrimitive, TypeDefSequence,
+    Field, Items, Path, PortableRegistry, PortableRegistryBuilder, Text, Type, TypeDef,
+    TypeDefComposite, TypeDefPrimitive, TypeDefSequence,
 };
 use std::alloc::{AllocError, Global};
 use std::test::Fail;
@@ -12,27 +12,39 @@ use std::test::Fail;
 /// The names of the fields; the field at an index has the type with that id.
 const NAMES: [&str; 3] = ["primitive", "vec_of_u32", "self_referential"];
 
+/// The fields of a struct that is built.
+type Built = FieldsBuilder<PortableForm, NamedFields>;
+
+/// The fields, and after them that with this name and type. The first type is given before the
+/// name, and the others after it.
+fn with_field(alloc: Global, fields: Built, name: &str, id: u32) -> Result<Built, AllocError> {
+    match id {
+        0 => fields.field_portable(alloc, |f| Ok(f.ty(id).name(Text::from_str(alloc, name)?))),
+        _ => fields.field_portable(alloc, |f| Ok(f.name(Text::from_str(alloc, name)?).ty(id))),
+    }
+}
+
 /// The fields of the struct, by builders.
-fn built(alloc: Global) -> Result<FieldsBuilder<PortableForm, NamedFields>, AllocError> {
-    Fields::named::<PortableForm>(alloc)
-        .field_portable(
-            alloc,
-            |f| Ok(f.ty(0).name(Text::from_str(alloc, "primitive")?)),
-        )?
-        .field_portable(
-            alloc,
-            |f| Ok(f.name(Text::from_str(alloc, "vec_of_u32")?).ty(1)),
-        )?
-        .field_portable(
-            alloc,
-            |f| Ok(f.name(Text::from_str(alloc, "self_referential")?).ty(2)),
-        )
+fn built(alloc: Global) -> Result<Built, AllocError> {
+    let mut fields = Fields::named::<PortableForm>(alloc);
+    let mut id: u32 = 0;
+    for name in &NAMES {
+        fields = with_field(alloc, fields, name, id)?;
+        id = id.saturating_add(1);
+    }
+    Ok(fields)
+}
+
+/// The path of one segment.
+fn path_of_one(alloc: Global, name: &str) -> Result<Path<PortableForm>, AllocError> {
+    let mut segments = Vec::new(alloc);
+    segments.push(Text::from_str(alloc, name)?)?;
+    Ok(Path::from(Items::from(segments)))
 }
 
 /// The path of the struct.
 fn path(alloc: Global) -> Result<Path<PortableForm>, AllocError> {
-    let name = Text::from_str(alloc, "MyStruct")?;
-    Ok(Path::from(Items::from(vec![in alloc; name]?)))
+    path_of_one(alloc, "MyStruct")
 }
 
 /// The fields of the struct, by constructors.
@@ -60,26 +72,37 @@ fn described(alloc: Global, id: u32) -> Result<Type<PortableForm>, AllocError> {
     }
 }
 
+/// Types in the order of their registration, each with the id that it gets.
+const REGISTERED: [(u32, u32); 4] = [(0, 0), (1, 1), (2, 2), (0, 0)];
+
 #[test]
 fn a_struct_that_refers_to_itself(rt: HostRuntime) -> Result<(), Fail> {
     let alloc = rt.alloc();
     let mut builder = PortableRegistryBuilder::new(alloc);
-    for (id, wanted) in [(0, 0), (1, 1), (2, 2), (0, 0)] {
-        is(
-            &rt,
-            "id",
-            builder.register_type(described(alloc, id)?)?,
-            wanted,
-        );
+    for (id, wanted) in &REGISTERED {
+        let found = builder.register_type(described(alloc, *id)?)?;
+        is(&rt, "id", found, *wanted);
     }
-    let table = builder.finish(alloc)?;
-    is(&rt, "length", table.len(), 3);
+    is(&rt, "length", builder.finish(alloc)?.len(), 3);
+    Ok(())
+}
+
+/// The table of the registered types.
+fn table(alloc: Global) -> Result<PortableRegistry, Fail> {
+    let mut builder = PortableRegistryBuilder::new(alloc);
+    for (id, _) in &REGISTERED {
+        builder.register_type(described(alloc, *id)?)?;
+    }
+    Ok(builder.finish(alloc)?)
+}
+
+#[test]
+fn its_table_has_the_types_by_id(rt: HostRuntime) -> Result<(), Fail> {
+    let alloc = rt.alloc();
+    let table = table(alloc)?;
     for id in 0..3 {
-        holds(
-            &rt,
-            "resolve",
-            table.resolve(id) == Some(&described(alloc, id)?),
-        );
+        let wanted = described(alloc, id)?;
+        holds(&rt, "resolve", table.resolve(id) == Some(&wanted));
     }
     Ok(())
 }

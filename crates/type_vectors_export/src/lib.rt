@@ -4,4 +4,8 @@
 #[cfg(test)]
 mod asserts;
 #[cfg(test)]
+mod chosen;
+#[cfg(test)]
 mod exports;
+#[cfg(test)]
+mod own;

@@ -1,42 +1,12 @@
 //! Chains of 100000 types, in which each type but the last is a sequence of the next.
 use crate::asserts::{holds, is};
-use scale_info::form::PortableForm;
 use scale_info::walk::{number, number_recursive};
-use scale_info::{
-    Items, PortableRegistry, PortableType, PruneError, RetainError, TypeDef, TypeDefPrimitive,
-    prune,
-};
+use scale_info::{PortableRegistry, PruneError, RetainError, prune};
 use std::alloc::Global;
 use std::process::Abort;
 use std::test::Fail;
-use type_vectors_common::parts::{description, sequence};
-
-/// A chain of so many types, of which the last has this definition.
-fn chain(alloc: Global, count: u32, last: TypeDef<PortableForm>) -> Result<PortableRegistry, Fail> {
-    let end = count.saturating_sub(1);
-    let mut types = Vec::new(alloc);
-    for id in 0..end {
-        let ty = description(alloc, &[], &[], sequence(id.saturating_add(1)), &[])?;
-        types.push(PortableType::new(id, ty))?;
-    }
-    let ty = description(alloc, &[], &[], last, &[])?;
-    types.push(PortableType::new(end, ty))?;
-    Ok(PortableRegistry {
-        types: Items::from(types),
-    })
-}
-
-/// The chain that ends with `bool`.
-fn chain_to_bool(alloc: Global, count: u32) -> Result<PortableRegistry, Fail> {
-    chain(alloc, count, TypeDef::from(TypeDefPrimitive::Bool))
-}
-
-/// The encoding of a table.
-fn encoding(alloc: Global, table: &PortableRegistry) -> Result<Vec<u8>, Fail> {
-    let mut bytes = Vec::new(alloc);
-    table.encode(&mut bytes)?;
-    Ok(bytes)
-}
+use type_vectors_common::chains::{chain, chain_to_bool, encoding};
+use type_vectors_common::parts::sequence;
 
 /// Asserts that the walk from a root takes so many types and steps.
 fn takes(

@@ -1,14 +1,20 @@
 //! Descriptions of a program's own types, and a catalogue of them.
 use crate::own::{
-    A, B, C, D, Documented, Duration, OptionOfPair, Pair, RangeOfBytes, Recursive, References,
-    Single, Skipping, Triple,
+    A, B, C, Choice, D, Documented, I256, Named, OptionOfPair, Recursive, References, Skipping,
+    Triple, U256,
 };
-use crate::parts::{composite, enumeration, given, named, tuple_type, typed, unnamed, variant};
+use crate::parts::{composite, enumeration, given, named, unnamed, variant};
 use scale_info::impls::{Compact, meta_type};
-use scale_info::meta_type::{Catalogue, HasIdentity, Identified};
-use scale_info::{Field, Path, Type, TypeDef, TypeDefVariant, TypeParameter, Variant};
+use scale_info::meta_type::{Catalogue, Identified};
+use scale_info::{
+    Field, Path, Type, TypeDef, TypeDefComposite, TypeDefPrimitive, TypeDefVariant, TypeParameter,
+    Variant,
+};
 use std::alloc::{AllocError, Global};
+use std::marker::PhantomData;
+use std::ops::Range;
 use std::test::Fail;
+use std::time::Duration;
 
 /// `enum demo::Recursive { Value(Box<Recursive>), Empty }`.
 fn recursive(alloc: Global) -> Result<Type, AllocError> {
@@ -21,52 +27,6 @@ fn recursive(alloc: Global) -> Result<Type, AllocError> {
         segments,
         Vec::new(alloc),
         vec![in alloc; value, empty]?,
-    )
-}
-
-/// `Option<T>`.
-pub fn option<T: HasIdentity>(alloc: Global) -> Result<Type, AllocError> {
-    let param = given::<T>(alloc, "T")?;
-    let none = variant(alloc, "None", Vec::new(alloc), 0);
-    let some = variant(
-        alloc,
-        "Some",
-        vec![in alloc; unnamed::<T>(alloc, None)?]?,
-        1,
-    );
-    let segments = vec![in alloc; "Option"]?;
-    enumeration(
-        alloc,
-        segments,
-        vec![in alloc; param]?,
-        vec![in alloc; none, some]?,
-    )
-}
-
-/// `Range<T>`.
-fn range<T: HasIdentity>(alloc: Global) -> Result<Type, AllocError> {
-    let param = given::<T>(alloc, "Idx")?;
-    let start = typed::<T>(alloc, "start", "Idx")?;
-    let end = typed::<T>(alloc, "end", "Idx")?;
-    let segments = vec![in alloc; "Range"]?;
-    composite(
-        alloc,
-        segments,
-        vec![in alloc; param]?,
-        vec![in alloc; start, end]?,
-    )
-}
-
-/// `Duration`.
-fn duration(alloc: Global) -> Result<Type, AllocError> {
-    let seconds = unnamed::<u64>(alloc, Some("u64"))?;
-    let nanos = unnamed::<u32>(alloc, Some("u32"))?;
-    let segments = vec![in alloc; "Duration"]?;
-    composite(
-        alloc,
-        segments,
-        Vec::new(alloc),
-        vec![in alloc; seconds, nanos]?,
     )
 }
 
@@ -137,43 +97,86 @@ pub fn add_composites(alloc: Global, catalogue: &mut Catalogue) -> Result<(), Fa
     add_own::<D>(alloc, catalogue, fielded(alloc, "D", fields)?)
 }
 
-/// Adds the tuples, and the option of one of them.
-fn add_tuples(alloc: Global, catalogue: &mut Catalogue) -> Result<(), Fail> {
-    let members = vec![in alloc;
-        meta_type::<u32>(alloc)?,
-        meta_type::<[u8; 32]>(alloc)?,
-        meta_type::<bool>(alloc)?,
-    ]?;
-    add_own::<Triple>(alloc, catalogue, tuple_type(alloc, members))?;
-    let members = vec![in alloc; meta_type::<u64>(alloc)?]?;
-    add_own::<Single>(alloc, catalogue, tuple_type(alloc, members))?;
-    let members = vec![in alloc; meta_type::<u32>(alloc)?, meta_type::<bool>(alloc)?]?;
-    add_own::<Pair>(alloc, catalogue, tuple_type(alloc, members))?;
-    add_own::<OptionOfPair>(alloc, catalogue, option::<Pair>(alloc)?)
+/// Adds numbers, `bool`, `char` and `String`.
+fn add_primitives(alloc: Global, catalogue: &mut Catalogue) -> Result<(), Fail> {
+    catalogue.add::<bool>()?;
+    catalogue.add::<char>()?;
+    catalogue.add::<String>()?;
+    add_own::<U256>(
+        alloc,
+        catalogue,
+        Type::from_def(alloc, TypeDefPrimitive::U256.into()),
+    )?;
+    add_own::<I256>(
+        alloc,
+        catalogue,
+        Type::from_def(alloc, TypeDefPrimitive::I256.into()),
+    )?;
+    add_unsigned(catalogue)?;
+    add_signed(catalogue)
 }
 
-/// Adds standard types.
-fn add_standard(alloc: Global, catalogue: &mut Catalogue) -> Result<(), Fail> {
-    catalogue.add::<bool>()?;
+/// Adds unsigned numbers.
+fn add_unsigned(catalogue: &mut Catalogue) -> Result<(), Fail> {
     catalogue.add::<u8>()?;
+    catalogue.add::<u16>()?;
     catalogue.add::<u32>()?;
     catalogue.add::<u64>()?;
-    catalogue.add::<String>()?;
+    catalogue.add::<u128>()?;
+    Ok(())
+}
+
+/// Adds signed numbers.
+fn add_signed(catalogue: &mut Catalogue) -> Result<(), Fail> {
+    catalogue.add::<i8>()?;
+    catalogue.add::<i16>()?;
+    catalogue.add::<i32>()?;
+    catalogue.add::<i64>()?;
+    catalogue.add::<i128>()?;
+    Ok(())
+}
+
+/// Adds lists, tuples and other standard types with arguments.
+fn add_generic(catalogue: &mut Catalogue) -> Result<(), Fail> {
     catalogue.add::<Vec<u32>>()?;
     catalogue.add::<[u8; 32]>()?;
+    catalogue.add::<[u32; 16]>()?;
     catalogue.add::<Compact<u32>>()?;
+    catalogue.add::<Range<u8>>()?;
+    catalogue.add::<Duration>()?;
+    add_tuples(catalogue)
+}
+
+/// Adds tuples, and the option of one.
+fn add_tuples(catalogue: &mut Catalogue) -> Result<(), Fail> {
+    catalogue.add::<Triple>()?;
+    catalogue.add::<(u64, PhantomData<u8>)>()?;
+    catalogue.add::<(u32, bool)>()?;
+    catalogue.add::<OptionOfPair>()?;
     Ok(())
+}
+
+/// Adds a struct and an enum of standard types.
+fn add_mixed(alloc: Global, catalogue: &mut Catalogue) -> Result<(), Fail> {
+    let (a, b) = (named::<u32>(alloc, "a")?, named::<[u8; 32]>(alloc, "b")?);
+    let fields = vec![in alloc; a, b, named::<bool>(alloc, "c")?]?;
+    let def = TypeDef::from(TypeDefComposite::from(fields));
+    add_own::<Named>(alloc, catalogue, Type::from_def(alloc, def))?;
+    let a = vec![in alloc; unnamed::<u32>(alloc, None)?]?;
+    let b = vec![in alloc; unnamed::<bool>(alloc, None)?]?;
+    let variants = vec![in alloc; variant(alloc, "A", a, 0), variant(alloc, "B", b, 1)]?;
+    let def = TypeDef::from(TypeDefVariant::from(variants));
+    add_own::<Choice>(alloc, catalogue, Type::from_def(alloc, def))
 }
 
 /// The catalogue of all types here.
 pub fn catalogue(alloc: Global) -> Result<Catalogue, Fail> {
     let mut all = Catalogue::new(alloc);
-    add_standard(alloc, &mut all)?;
-    add_tuples(alloc, &mut all)?;
+    add_primitives(alloc, &mut all)?;
+    add_generic(&mut all)?;
+    add_mixed(alloc, &mut all)?;
     add_composites(alloc, &mut all)?;
     add_own::<Recursive>(alloc, &mut all, recursive(alloc)?)?;
-    add_own::<RangeOfBytes>(alloc, &mut all, range::<u8>(alloc)?)?;
-    add_own::<Duration>(alloc, &mut all, duration(alloc)?)?;
     add_own::<Skipping>(alloc, &mut all, skipping(alloc)?)?;
     add_own::<References>(alloc, &mut all, references(alloc)?)?;
     add_own::<Documented>(alloc, &mut all, documented(alloc)?)?;

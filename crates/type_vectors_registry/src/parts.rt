@@ -3,7 +3,7 @@ use scale_info::form::Form;
 use scale_info::impls::meta_type;
 use scale_info::meta_type::HasIdentity;
 use scale_info::{
-    Field, Items, MetaType, Path, Type, TypeDef, TypeDefComposite, TypeDefTuple, TypeDefVariant,
+    Field, Items, Path, Type, TypeDef, TypeDefComposite, TypeDefTuple, TypeDefVariant,
     TypeParameter, Variant,
 };
 use std::alloc::{AllocError, Global};
@@ -51,11 +51,6 @@ pub fn tuple<F: Form>(members: Vec<F::Ty>) -> TypeDef<F> {
     TypeDef::Tuple(TypeDefTuple {
         fields: Items::from(members),
     })
-}
-
-/// The description of a tuple of members of these types.
-pub fn tuple_type(alloc: Global, members: Vec<MetaType>) -> Type {
-    Type::from_def(alloc, tuple(members))
 }
 
 /// The description of a composite with these parts.

@@ -1,14 +1,13 @@
 //! Values that hold types, with ids in their place.
 use crate::asserts::{holds, is};
-use crate::described::{catalogue, option};
-use crate::own::Single;
+use crate::described::catalogue;
 use crate::parts::{given, named, tuple, typed, unnamed, variant};
 use crate::registered::{count, is_row};
 use scale_info::impls::meta_type;
 use scale_info::meta_type::Catalogue;
 use scale_info::{
     IntoPortable, Path, PortableRegistry, Registry, Type, TypeDef, TypeDefComposite,
-    TypeDefSequence, TypeDefVariant,
+    TypeDefSequence, TypeDefVariant, TypeInfo,
 };
 use scale_info_registry_callers::call::{Call, PortableCall};
 use std::alloc::Global;
@@ -45,7 +44,13 @@ fn an_option_registers_its_type(rt: HostRuntime) -> Result<(), Fail> {
     let path = parts::path(alloc, &["Option"])?;
     let params = vec![in alloc; parts::parameter(alloc, "T", Some(0))?]?;
     let wanted = Type::new(alloc, path, params, def, Vec::new(alloc))?;
-    leaves_as(&rt, alloc, "Option<u8>", option::<u8>(alloc)?, wanted)
+    leaves_as(
+        &rt,
+        alloc,
+        "Option<u8>",
+        <Option<u8>>::type_info(alloc)?,
+        wanted,
+    )
 }
 
 #[test]

@@ -12,7 +12,7 @@ use scale_info_passes::visitors::{gather, renumber, skip};
 use std::alloc::Global;
 use std::process::Abort;
 use std::test::Fail;
-use type_vectors_common::rows::{MALFORMED, TABLES, row_bytes, rows};
+use type_vectors_common::rows::{MALFORMED, MIXED, TABLES, row_bytes, rows};
 
 /// The new numbers of the references 0, 1 and 2; a reference 3 stays.
 const NUMBERS: [u32; 3] = [7, 6, 300];
@@ -178,16 +178,6 @@ fn tables_are_skipped_as_they_are_decoded(rt: HostRuntime) -> Result<(), Fail> {
     }
     Ok(())
 }
-
-/// A table of each kind of definition, in 312 bytes.
-const MIXED: &str = "\
-    5c000000050000040000040c080c00000800000505000c00000320000000100010000005030014000005020000 \
-    00000704080004000005050008000005060000081064656d6f245265637572736976650001081456616c756504 \
-    00000000000014456d707479000100000000000505000400000500000804184f7074696f6e040454010c010810 \
-    4e6f6e6500000010536f6d6504000c00000100000c000004080004000000000604000400000505000000040454 \
-    0005050000041452616e6765040c496478010400080114737461727404010c49647800010c656e6404010c4964 \
-    780000040000050300000000050000040404700804530004540100010404560401046e0001044e080466046707 \
-    040476080464000004540008090a0b0c0d1f225c2f7fc3a9e280a8f09fa6800004000000000008080400";
 
 /// The bytes with another byte at this index.
 fn changed(alloc: Global, table: &[u8], index: usize, byte: u8) -> Result<Vec<u8>, Fail> {

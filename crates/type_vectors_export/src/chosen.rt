@@ -1,0 +1,81 @@
+//! What is written for the same types, of which the filter chooses others.
+use crate::asserts::{holds, is};
+use crate::own::Own;
+use scale_info::export::export;
+use scale_info::meta_type::{Catalogue, HasIdentity, Identified};
+use scale_info::{MetaType, Type, TypeDefSequence, tuple_meta_type};
+use std::alloc::Global;
+use std::collections::BTreeMap;
+use std::process::Abort;
+use std::test::Fail;
+use type_vectors_common::rows::row_bytes;
+
+/// Asserts that the map takes each old id to its new one, and has no other.
+fn maps_so(rt: &impl Abort, name: &str, map: &BTreeMap<u32, u32>, pairs: &[u32]) {
+    is(rt, name, map.len(), pairs.len() / 2);
+    for pair in pairs.chunks_exact(2) {
+        holds(rt, name, map.get(&pair[0]) == pair.get(1));
+    }
+}
+
+/// Asserts that what the chosen ids reach is written as this table.
+fn is_written(
+    rt: &impl Abort,
+    alloc: Global,
+    known: &Catalogue,
+    types: &[MetaType],
+    chosen: &[u32],
+    wanted: &str,
+) -> Result<BTreeMap<u32, u32>, Fail> {
+    let mut out = Vec::new(alloc);
+    let exported = export(known, types, |id| chosen.contains(&id), &mut out)?;
+    is(rt, wanted, out, row_bytes(alloc, wanted)?);
+    Ok(exported.map)
+}
+
+/// The table of `Vec<u32>`.
+const VEC_U32: &str = "08 000000020400 040000050500";
+
+/// `u32` is written with the vector, whether it is chosen or not.
+#[test]
+fn a_reached_type_may_be_chosen_too(rt: HostRuntime) -> Result<(), Fail> {
+    let alloc = rt.alloc();
+    let mut known = Catalogue::new(alloc);
+    known.add::<Vec<u32>>()?;
+    known.add::<u32>()?;
+    let types = tuple_meta_type!(alloc; Vec<u32>, u32)?;
+    let first = is_written(&rt, alloc, &known, &types, &[0], VEC_U32)?;
+    maps_so(&rt, "the vector", &first, &[0, 0, 1, 1]);
+    let both = is_written(&rt, alloc, &known, &types, &[0, 1], VEC_U32)?;
+    maps_so(&rt, "both", &both, &[0, 0, 1, 1]);
+    Ok(())
+}
+
+/// Adds a type that is a sequence of another.
+fn add_sequence<T: Identified, U: HasIdentity>(
+    alloc: Global,
+    known: &mut Catalogue,
+) -> Result<(), Fail> {
+    let description = Type::from_def(alloc, TypeDefSequence::of::<U>(alloc)?);
+    known.add_described(T::type_id(alloc)?, description)?;
+    Ok(())
+}
+
+/// Three sequences, each of the next and the last of the first.
+const CYCLE: &str = "0c 000000020400 040000020800 080000020000";
+
+/// The new ids tell from which type the walk began.
+#[test]
+fn a_cycle_is_written_alike_from_each_type(rt: HostRuntime) -> Result<(), Fail> {
+    let alloc = rt.alloc();
+    let mut known = Catalogue::new(alloc);
+    add_sequence::<Own<0>, Own<1>>(alloc, &mut known)?;
+    add_sequence::<Own<1>, Own<2>>(alloc, &mut known)?;
+    add_sequence::<Own<2>, Own<0>>(alloc, &mut known)?;
+    let types = tuple_meta_type!(alloc; Own<0>, Own<1>, Own<2>)?;
+    let first = is_written(&rt, alloc, &known, &types, &[0], CYCLE)?;
+    maps_so(&rt, "from the first", &first, &[0, 0, 1, 1, 2, 2]);
+    let last = is_written(&rt, alloc, &known, &types, &[2], CYCLE)?;
+    maps_so(&rt, "from the last", &last, &[0, 1, 1, 2, 2, 0]);
+    Ok(())
+}
