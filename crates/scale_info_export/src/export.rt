@@ -5,7 +5,7 @@ ghost use Rattle.scale_info_export.specs.Exports.{IsExportError, IsExported, IsN
 ghost use Rattle.scale_info_export.specs.Exports.{IsRegisteredTable, of_encode, of_register};
 ghost use Rattle.scale_info_export.specs.Exports.{of_retain};
 ghost use Rattle.scale_info_export.specs.declared.export.ExportError.TheVariants as export_error;
-ghost use Rattle.scale_info_registry.specs.CatalogueSystems.{system_of};
+ghost use Rattle.scale_info_registry.specs.CatalogueSystems.{catalogue_system};
 ghost use Rattle.scale_info_identities.specs.declared.interner.UntrackedSymbol as tracked;
 ghost use Rattle.scale_info_identities.specs.declared.type_id.TypeId.{TypeId};
 ghost use Rattle.scale_info_registry.specs.Registrations.{roots_of};
@@ -132,12 +132,12 @@ pub fn export<F: FnMut(u32) -> bool>(
 ) -> Result<Exported, ExportError>
     requires { F.IsAlwaysCallable filter }
     ensures ok { IfOk result (λ exported. (table : tables.PortableRegistry)
-        × IsExported (system_of catalogue.now) (roots_of types.now) F.step filter
+        × IsExported (catalogue_system catalogue.now) (roots_of types.now) F.step filter
         exported.ids.items exported.map table
         × AppendsEncoding (EncodesRegistry table) out.old.items out.new.items) }
     ensures err { OnErr result (out.new.items ≡ out.old.items) }
     ensures cause { IfErr result
-        (IsExportError (system_of catalogue.now) (roots_of types.now) F.step filter) }
+        (IsExportError (catalogue_system catalogue.now) (roots_of types.now) F.step filter) }
 {
     let alloc = *out.allocator();
     let (mut table, ids) = registered_table(alloc, types, catalogue)?;
@@ -152,9 +152,10 @@ fn registered_table(
     types: &[MetaType],
     catalogue: &Catalogue,
 ) -> Result<(PortableRegistry, Vec<u32>), ExportError>
-    ensures ok { IfOk result (λ made. IsRegisteredTable (system_of catalogue.now)
+    ensures ok { IfOk result (λ made. IsRegisteredTable (catalogue_system catalogue.now)
         (roots_of types.now) made.1.items made.0) }
-    ensures cause { IfErr result (IsNotRegistered (system_of catalogue.now) (roots_of types.now)) }
+    ensures cause { IfErr result
+        (IsNotRegistered (catalogue_system catalogue.now) (roots_of types.now)) }
 {
     registered_tables();
     let mut registry = Registry::new(alloc);

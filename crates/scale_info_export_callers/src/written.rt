@@ -5,7 +5,7 @@ ghost use Rattle.scale_info_identities.specs.TypeIds.{Term};
 ghost use Rattle.scale_info_numberings.specs.Numberings.{IsNumbering};
 ghost use Rattle.scale_info_numberings.specs.Systems.{IsReached};
 ghost use Rattle.scale_info_numberings.specs.Tables.{IsTable};
-ghost use Rattle.scale_info_registry.specs.CatalogueSystems.{system_of};
+ghost use Rattle.scale_info_registry.specs.CatalogueSystems.{catalogue_system};
 ghost use Rattle.scale_info_tables.specs.TableEncoding.{EncodesRegistry};
 ghost use Rattle.scale_info_walk.specs.TypeSystems.{entry_of};
 ghost use Rattle.scale_info_registry.specs.Registrations.{roots_of, step_roots};
@@ -34,15 +34,15 @@ pub fn register_prune_write<F: FnMut(u32) -> bool>(
 ) -> anyhow::Result<BTreeMap<u32, u32>>
     requires { F.IsAlwaysCallable filter }
     ensures { IfOk result (λ new_ids. (h : History) × (p : Pruning) × (types kept : List Term)
-        × AreAccepted h × (catalogue_of h ≡ system_of catalogue.now)
+        × AreAccepted h × (catalogue_of h ≡ catalogue_system catalogue.now)
         × (step_roots (h.first ∷ h.later) ≡ type_term first.now ∷ roots_of others.now)
         × IsTableOf (registry_of h) p.whole × IsWritten p × (p.new_ids ≡ new_ids)
         × (out.new.items ≡ out.old.items ++ p.bytes)
         × ((bytes : List ℕ) → EncodesRegistry p.kept bytes → bytes ≡ p.bytes)
         × AreChosenTypes (registry_of h) p types
-        × IsNumbering (system_of catalogue.now) types kept
-        × IsTable (system_of catalogue.now) kept (map entry_of p.kept.types)
-        × ((t : Term) → Contains kept t ↔ IsReached (system_of catalogue.now) types t)) }
+        × IsNumbering (catalogue_system catalogue.now) types kept
+        × IsTable (catalogue_system catalogue.now) kept (map entry_of p.kept.types)
+        × ((t : Term) → Contains kept t ↔ IsReached (catalogue_system catalogue.now) types t)) }
 {
     headline();
     registrations_compose();

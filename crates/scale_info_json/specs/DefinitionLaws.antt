@@ -23,7 +23,8 @@ pub composite_law : IsMeaning MeansComposite
 composite_law = record {
   unique = λ d v w p q i. record {
     fields =
-        list_at_unique MeansField field_law (codes "fields") d v.fields w.fields p.fields q.fields i;
+        list_at_unique MeansField field_law (codes "fields") d v.fields w.fields
+        p.fields q.fields i;
   };
   not_null = λ v p. no_object p.object;
 }

@@ -8,7 +8,8 @@ use Rattle.scale_info_json.specs.Described.{MeansId, MeansParameter, MeansField,
 -- a tree means at most one id
 pub id_law : IsMeaning MeansId
 id_law =
-    through_law (λ v. v.id) (λ v w e i. record { id = e i; marker = v.marker }) (number_law (2 ^ 32))
+    through_law (λ v. v.id) (λ v w e i. record { id = e i; marker = v.marker })
+    (number_law (2 ^ 32))
 
 -- a tree means at most one parameter
 pub parameter_law : IsMeaning MeansParameter
@@ -40,7 +41,8 @@ variant_law = record {
   unique = λ d v w p q i. record {
     name = value_unique MeansText text_law (codes "name") d v.name w.name p.name q.name i;
     fields =
-        list_at_unique MeansField field_law (codes "fields") d v.fields w.fields p.fields q.fields i;
+        list_at_unique MeansField field_law (codes "fields") d v.fields w.fields
+        p.fields q.fields i;
     index =
         value_unique (MeansNumber 256) (number_law 256) (codes "index") d v.index w.index p.index
         q.index i;

@@ -1,5 +1,5 @@
 //! Laws. Each is the contract of a function without work.
-ghost use Rattle.std.specs.Prelude.{◌≡◌, codes};
+ghost use Rattle.std.specs.Prelude.{◌≡◌, ◌++◌, codes};
 ghost use Rattle.serde_json.specs.Data.{Data};
 ghost use Rattle.serde_json.specs.Written.{compact_text};
 ghost use Rattle.scale_info_json.specs.Tables.{table_tree, MeansTable};
@@ -16,5 +16,6 @@ pub fn one_meaning()
 /// The text of the table of `Vec<u32>`, which has two entries.
 pub fn example_text()
     ensures { compact_text (table_tree vec_u32)
-        ≡ codes "{\"types\":[{\"id\":0,\"type\":{\"def\":{\"sequence\":{\"type\":1}}}},{\"id\":1,\"type\":{\"def\":{\"primitive\":\"u32\"}}}]}" }
+        ≡ codes "{\"types\":[{\"id\":0,\"type\":{\"def\":{\"sequence\":{\"type\":1}}}},"
+        ++ codes "{\"id\":1,\"type\":{\"def\":{\"primitive\":\"u32\"}}}]}" }
 {}

@@ -1,7 +1,8 @@
 -- Descriptions with ids in place of types.
-use Rattle.std.specs.Prelude.{ℕ, List}
+use Rattle.std.specs.Prelude.{ℕ, List, map}
 use Rattle.scale_info_types.specs.Portable as portable
 use Rattle.scale_info_types.specs.declared.ty.Description.{Description}
+use Rattle.scale_info_types.specs.References.{references}
 use Rattle.scale_info_types.specs.Shapes.{map_description}
 
 -- an id as a description has it
@@ -13,3 +14,7 @@ abbrev pub with_ids :
     {F T S : Type 0}
     → (T → ℕ) → (S → List ℕ) → Description F T S → portable.Description
 with_ids id_of text d = map_description (λ t. symbol (id_of t)) text d
+
+-- the ids that a description refers to, in order
+abbrev pub ids_in : portable.Description → List ℕ
+ids_in ty = map (λ (r : portable.Id). r.id) (references ty)

@@ -17,7 +17,7 @@ use Rattle.scale_info_identities.specs.declared.type_id.TypeId.{TypeId}
 use Rattle.scale_info_identities.specs.contracts.type_id.TypeIdOrd.TheImpl.{ghosts}
 use Rattle.scale_info_catalogue.specs.declared.catalogue.Catalogue.{Catalogue}
 use Rattle.scale_info_catalogue.specs.Catalogues.{identity_of, described}
-use Rattle.scale_info_registry.specs.CatalogueSystems.{entry_of, system_of}
+use Rattle.scale_info_registry.specs.CatalogueSystems.{catalogue_entry, catalogue_system}
 use Rattle.scale_info_types.specs.MetaDescriptions.{MetaDescription}
 use Rattle.scale_info_catalogue.proofs.Catalogues.{term_of_identity, found_by_term}
 
@@ -43,23 +43,23 @@ looked_up [] t d e = absurd (none-some d e)
 looked_up (p ∷ es) t d e = looked_at p es t d (is_at (ghosts.cmp (identity_of t)) p.0) refl e (λ f. looked_up es t d f)
 
 -- a term weighs nothing, or it is one of the catalogue's
-pub light_or_in : (c : Catalogue) (t : Term) → (weight (system_of c) t ≡ 0) ⊎ Contains (terms_in c) t
+pub light_or_in : (c : Catalogue) (t : Term) → (weight (catalogue_system c) t ≡ 0) ⊎ Contains (terms_in c) t
 light_or_in c t = by (described c t) refl
   where
-    by : (o : Option MetaDescription) → described c t ≡ o → (weight (system_of c) t ≡ 0) ⊎ Contains (terms_in c) t
-    by None e = inl (ap (λ o. weight_in (option_map entry_of o)) e)
+    by : (o : Option MetaDescription) → described c t ≡ o → (weight (catalogue_system c) t ≡ 0) ⊎ Contains (terms_in c) t
+    by None e = inl (ap (λ o. weight_in (option_map catalogue_entry o)) e)
     by (Some d) e = inr (looked_up c.entries.entries t d e)
 
 -- the work that is left: what the nodes of the catalogue weigh, but for those that are numbered, and what is pending
 abbrev pub work_left : Catalogue → List Term → ℕ → ℕ
-work_left c order pending = (sum_by (weight (system_of c)) (terms_in c) - sum_by (weight (system_of c)) order) + pending
+work_left c order pending = (sum_by (weight (catalogue_system c)) (terms_in c) - sum_by (weight (catalogue_system c)) order) + pending
 
 -- numbering a pending term leaves less work, though its references become pending
 pub adds_less :
-    (c : Catalogue) (order : List Term) (n : Term) (d : Entry Shape Term) (rest : ℕ) → AreDistinct (order ++ n ∷ []) → system_of c n ≡ Some d
+    (c : Catalogue) (order : List Term) (n : Term) (d : Entry Shape Term) (rest : ℕ) → AreDistinct (order ++ n ∷ []) → catalogue_system c n ≡ Some d
     → work_left c (order ++ n ∷ []) (length d.refs + rest) < work_left c order (suc rest)
 adds_less c order n d rest distinct s =
-    let w = weight (system_of c) in
+    let w = weight (catalogue_system c) in
     let heavy : w n ≡ length d.refs + 1 = ap (λ o. weight_in o) s in
     let grown : sum_by w (order ++ n ∷ []) ≡ sum_by w order + w n = sum_by_push w order n in
     let room : sum_by w (order ++ n ∷ []) ≤ sum_by w (terms_in c) = distinct_sums w (order ++ n ∷ []) (terms_in c) distinct (λ k _. light_or_in c k) in

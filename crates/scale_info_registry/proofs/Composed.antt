@@ -25,7 +25,8 @@ use Rattle.scale_info_numberings.proofs.Places.{at_left, begins_at, begins_from}
 use Rattle.scale_info_numberings.proofs.PlacesOf.{places_in_more}
 use Rattle.scale_info_registry.specs.declared.registry.discovery.RegisterError.{RegisterError}
 use Rattle.scale_info_registry.specs.declared.registry.discovery.RegisterError.TheVariants.{Undescribed, Full, Memory}
-use Rattle.scale_info_registry.specs.Registrations.{nodes_of, ids_in, portable_entry, Registered, registered}
+use Rattle.scale_info_references.specs.Conversions.{ids_in}
+use Rattle.scale_info_registry.specs.Registrations.{nodes_of, portable_entry, Registered, registered}
 use Rattle.scale_info_registry.specs.Registrations.{IsRegistration, IsConverted, IsCause}
 use Rattle.scale_info_types.specs.MetaDescriptions.{type_term}
 use Rattle.scale_info_registry.proofs.Registered.{length_nodes}

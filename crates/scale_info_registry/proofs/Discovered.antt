@@ -15,7 +15,7 @@ use Rattle.scale_info_types.specs.declared.meta_type.MetaType.{MetaType}
 use Rattle.scale_info_identities.specs.declared.type_id.TypeId.{TypeId}
 use Rattle.scale_info_identities.specs.contracts.type_id.TypeIdPartialEq.TheImpl.{ghosts as equals}
 use Rattle.scale_info_types.specs.MetaDescriptions.{MetaDescription, type_term}
-use Rattle.scale_info_registry.specs.CatalogueSystems.{entry_of, system_of}
+use Rattle.scale_info_registry.specs.CatalogueSystems.{catalogue_entry, catalogue_system}
 use Rattle.scale_info_catalogue.specs.Catalogues.{described}
 use Rattle.scale_info_registry.specs.Registrations.{nodes_of, roots_of, stacked, IsCause}
 use Rattle.scale_info_catalogue.specs.declared.catalogue.Catalogue.{Catalogue}
@@ -38,7 +38,7 @@ map_targets (r ∷ found) = ap (λ xs. type_term r.now ∷ xs) (map_targets foun
 -- where a description's references are pushed, their terms come first, then those pending
 pub stacked_more :
     (all found pending : List (Bor MetaType)) (d : MetaDescription) → reverse all ≡ found ++ reverse pending → targets found ≡ references d
-    → stacked all ≡ (entry_of d).refs ++ stacked pending
+    → stacked all ≡ (catalogue_entry d).refs ++ stacked pending
 stacked_more all found pending d e s =
     ap (map (λ (r : Bor MetaType). type_term r.now)) e ∙ map-append (λ (r : Bor MetaType). type_term r.now) found (reverse pending)
     ∙ ap (λ xs. xs ++ stacked pending) (map_targets found ∙ ap roots_of s)
@@ -46,10 +46,10 @@ stacked_more all found pending d e s =
 -- where a description's references are pushed, the stack grows by their number
 pub length_more :
     (all found pending : List (Bor MetaType)) (d : MetaDescription) → reverse all ≡ found ++ reverse pending → targets found ≡ references d
-    → length all ≡ length (entry_of d).refs + length pending
+    → length all ≡ length (catalogue_entry d).refs + length pending
 length_more all found pending d e s =
     sym (length-stacked all) ∙ ap (λ (xs : List Term). length xs) (stacked_more all found pending d e s)
-    ∙ (length-append (entry_of d).refs (stacked pending) ∙ ap (λ n. length (entry_of d).refs + n) (length-stacked pending))
+    ∙ (length-append (catalogue_entry d).refs (stacked pending) ∙ ap (λ n. length (catalogue_entry d).refs + n) (length-stacked pending))
   where
     length_map : {A B : Type 0} (f : A → B) (xs : List A) → length (map f xs) ≡ length xs
     length_map f [] = refl
@@ -82,14 +82,14 @@ not_some o b f e s = false≢true (sym e ∙ f s)
 
 module _ (c : Catalogue) (before : List TypeId) (roots : List (Bor MetaType)) where
   abbrev Walking : List TypeId → List (Bor MetaType) → Type 0
-  Walking ids pending = IsWalking (system_of c) (nodes_of before) (stacked roots) (nodes_of ids) (stacked pending)
+  Walking ids pending = IsWalking (catalogue_system c) (nodes_of before) (stacked roots) (nodes_of ids) (stacked pending)
 
   shown :
       (ids : List TypeId) (pending ss : List (Bor MetaType)) (r : Bor MetaType) → pending ≡ ss ++ r ∷ []
       → Walking ids pending
-      → IsWalking (system_of c) (nodes_of before) (stacked roots) (nodes_of ids) (type_term r.now ∷ stacked ss)
+      → IsWalking (catalogue_system c) (nodes_of before) (stacked roots) (nodes_of ids) (type_term r.now ∷ stacked ss)
   shown ids pending ss r p x =
-      subst (λ xs. IsWalking (system_of c) (nodes_of before) (stacked roots) (nodes_of ids) xs) (ap stacked p ∙ stacked_pop ss r) x
+      subst (λ xs. IsWalking (catalogue_system c) (nodes_of before) (stacked roots) (nodes_of ids) xs) (ap stacked p ∙ stacked_pop ss r) x
 
   -- a type on top of the stack whose identity is known is passed over
   pub passes :
@@ -97,7 +97,7 @@ module _ (c : Catalogue) (before : List TypeId) (roots : List (Bor MetaType)) wh
       → pending ≡ ss ++ r ∷ [] → id ≡ r.now.identity
       → IsKnown equals.eq ids id → Walking ids pending → Walking ids ss
   passes ids pending ss r id p e k x =
-      walk_passes (system_of c) (nodes_of before) (stacked roots) (nodes_of ids) (stacked ss) (type_term r.now)
+      walk_passes (catalogue_system c) (nodes_of before) (stacked roots) (nodes_of ids) (stacked ss) (type_term r.now)
       (subst (λ i. Contains (nodes_of ids) (term_of i)) e ((known ids id).0 k)) (shown ids pending ss r p x)
 
   fresh :
@@ -110,10 +110,10 @@ module _ (c : Catalogue) (before : List TypeId) (roots : List (Bor MetaType)) wh
       (ids : List TypeId) (pending ss : List (Bor MetaType)) (r : Bor MetaType) (id : TypeId)
       → pending ≡ ss ++ r ∷ [] → id ≡ r.now.identity
       → ¬ (IsKnown equals.eq ids id) → Walking ids pending
-      → IsReachedPast (system_of c) (nodes_of before) (stacked roots) (term_of id)
+      → IsReachedPast (catalogue_system c) (nodes_of before) (stacked roots) (term_of id)
   meets ids pending ss r id p e u x =
-      subst (λ i. IsReachedPast (system_of c) (nodes_of before) (stacked roots) (term_of i)) (sym e)
-      (walk_meets (system_of c) (nodes_of before) (stacked roots) (nodes_of ids) (stacked ss) (type_term r.now) (fresh ids r id e u) (shown ids pending ss r p x))
+      subst (λ i. IsReachedPast (catalogue_system c) (nodes_of before) (stacked roots) (term_of i)) (sym e)
+      (walk_meets (catalogue_system c) (nodes_of before) (stacked roots) (nodes_of ids) (stacked ss) (type_term r.now) (fresh ids r id e u) (shown ids pending ss r p x))
 
   -- an unknown identity is appended, and what its description refers to is pushed
   pub adds :
@@ -122,13 +122,13 @@ module _ (c : Catalogue) (before : List TypeId) (roots : List (Bor MetaType)) wh
       → described c (term_of id) ≡ Some d → more ≡ ids ++ id ∷ []
       → reverse all ≡ found ++ reverse ss → targets found ≡ references d → Walking ids pending → Walking more all
   adds ids more pending ss all found r id d p e u s m a f x =
-      let here : system_of c (type_term r.now) ≡ Some (entry_of d) = ap (λ i. system_of c (term_of i)) (sym e) ∙ ap (option_map entry_of) s in
+      let here : catalogue_system c (type_term r.now) ≡ Some (catalogue_entry d) = ap (λ i. catalogue_system c (term_of i)) (sym e) ∙ ap (option_map catalogue_entry) s in
       let y =
-      walk_adds (system_of c) (nodes_of before) (stacked roots) (nodes_of ids) (stacked ss) (type_term r.now) (entry_of d) (fresh ids r id e u) here
+      walk_adds (catalogue_system c) (nodes_of before) (stacked roots) (nodes_of ids) (stacked ss) (type_term r.now) (catalogue_entry d) (fresh ids r id e u) here
       (shown ids pending ss r p x)
       in
-      subst (λ xs. IsWalking (system_of c) (nodes_of before) (stacked roots) (nodes_of more) xs) (sym (stacked_more all found ss d a f))
-      (subst (λ xs. IsWalking (system_of c) (nodes_of before) (stacked roots) xs ((entry_of d).refs ++ stacked ss))
+      subst (λ xs. IsWalking (catalogue_system c) (nodes_of before) (stacked roots) (nodes_of more) xs) (sym (stacked_more all found ss d a f))
+      (subst (λ xs. IsWalking (catalogue_system c) (nodes_of before) (stacked roots) xs ((catalogue_entry d).refs ++ stacked ss))
       (sym (nodes_push ids more id m ∙ ap (λ i. nodes_of ids ++ term_of i ∷ []) e)) y)
 
   -- appending an identity and pushing what its description refers to leaves less work
@@ -138,34 +138,34 @@ module _ (c : Catalogue) (before : List TypeId) (roots : List (Bor MetaType)) wh
       → reverse all ≡ found ++ reverse ss → targets found ≡ references d → Walking more all
       → work_left c (nodes_of more) (length all) < work_left c (nodes_of ids) (length pending)
   shrinks ids more pending ss all found r id d p s m a f x =
-      let here : system_of c (term_of id) ≡ Some (entry_of d) = ap (option_map entry_of) s in
+      let here : catalogue_system c (term_of id) ≡ Some (catalogue_entry d) = ap (option_map catalogue_entry) s in
       let grown = nodes_push ids more id m in
-      let less = adds_less c (nodes_of ids) (term_of id) (entry_of d) (length ss) (subst (λ (xs : List Term). AreDistinct xs) grown x.distinct) here in
+      let less = adds_less c (nodes_of ids) (term_of id) (catalogue_entry d) (length ss) (subst (λ (xs : List Term). AreDistinct xs) grown x.distinct) here in
       let long : length pending ≡ suc (length ss) = ap (λ (xs : List (Bor MetaType)). length xs) p ∙ (length_push ss r ∙ omega arith) in
       subst (λ n. work_left c (nodes_of more) (length all) < work_left c (nodes_of ids) n) (sym long)
       (subst (λ n. work_left c (nodes_of more) n < work_left c (nodes_of ids) (suc (length ss))) (sym (length_more all found ss d a f))
-      (subst (λ xs. work_left c xs (length (entry_of d).refs + length ss) < work_left c (nodes_of ids) (suc (length ss))) (sym grown) less))
+      (subst (λ xs. work_left c xs (length (catalogue_entry d).refs + length ss) < work_left c (nodes_of ids) (suc (length ss))) (sym grown) less))
 
   -- with nothing on the stack, the identities extend the earlier ones by the roots
   pub ends :
       (ids : List TypeId) (pending : List (Bor MetaType)) → pending ≡ [] → Walking ids pending
-      → IsExtension (system_of c) (nodes_of before) (stacked roots) (nodes_of ids)
+      → IsExtension (catalogue_system c) (nodes_of before) (stacked roots) (nodes_of ids)
   ends ids pending e x =
-      walk_ends (system_of c) (nodes_of before) (stacked roots) (nodes_of ids)
-      (subst (λ (ps : List (Bor MetaType)). IsWalking (system_of c) (nodes_of before) (stacked roots) (nodes_of ids) (stacked ps)) e x)
+      walk_ends (catalogue_system c) (nodes_of before) (stacked roots) (nodes_of ids)
+      (subst (λ (ps : List (Bor MetaType)). IsWalking (catalogue_system c) (nodes_of before) (stacked roots) (nodes_of ids) (stacked ps)) e x)
 
   -- the identities and the new one are too many
   pub overflows :
       (ids : List TypeId) (pending ss : List (Bor MetaType)) (r : Bor MetaType) (id : TypeId)
       → pending ≡ ss ++ r ∷ [] → id ≡ r.now.identity
       → ¬ (IsKnown equals.eq ids id) → length ids ≡ 4294967295 → Walking ids pending
-      → IsCause (system_of c) (nodes_of before) (stacked roots) Full
+      → IsCause (catalogue_system c) (nodes_of before) (stacked roots) Full
   overflows ids pending ss r id p e u l x =
       let new = fresh ids r id e u in
       let all = nodes_of ids ++ type_term r.now ∷ [] in (
         all,
         distinct_push (nodes_of ids) (type_term r.now) x.distinct new,
-        λ k d h. kept_below (system_of c) (nodes_of before) (stacked roots) (nodes_of ids) (stacked ss) (type_term r.now) new (shown ids pending ss r p x) _ (Contains-get_or all k d h),
+        λ k d h. kept_below (catalogue_system c) (nodes_of before) (stacked roots) (nodes_of ids) (stacked ss) (type_term r.now) new (shown ids pending ss r p x) _ (Contains-get_or all k d h),
         let long = length_push (nodes_of ids) (type_term r.now) in let same = length_nodes ids in omega arith,
       )
     where

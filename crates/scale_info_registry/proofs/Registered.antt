@@ -26,10 +26,10 @@ use Rattle.scale_info_numberings.proofs.Walking.{walk_members}
 use Rattle.scale_info_catalogue.specs.declared.catalogue.Catalogue.{Catalogue}
 use Rattle.scale_info_types.specs.MetaDescriptions.{MetaDescription, type_term}
 use Rattle.scale_info_catalogue.specs.Catalogues.{described}
-use Rattle.scale_info_registry.specs.CatalogueSystems.{entry_of, system_of}
-use Rattle.scale_info_registry.specs.Registrations.{nodes_of, roots_of, index_in, ids_in, Registered}
+use Rattle.scale_info_registry.specs.CatalogueSystems.{catalogue_entry, catalogue_system}
+use Rattle.scale_info_registry.specs.Registrations.{nodes_of, roots_of, index_in, Registered}
 use Rattle.scale_info_registry.specs.Registrations.{registered, IsClosedRegistry, IsRegistration, AreDescribed, Keeps}
-use Rattle.scale_info_references.specs.Conversions.{with_ids}
+use Rattle.scale_info_references.specs.Conversions.{ids_in, with_ids}
 use Rattle.scale_info_registry.proofs.Numbered.{index_is}
 use Rattle.scale_info_references.proofs.Replaced.{shape_stays, ids_replaced}
 use Rattle.scale_info_registry.proofs.Terms.{known_by_term, known}
@@ -68,13 +68,13 @@ some_inside f (Some a) b e = (a, refl)
 
 -- each identity that an extension adds has a description in the catalogue
 pub all_described :
-    (c : Catalogue) (old new : List TypeId) (roots : List Term) (from : ℕ) → from ≡ length old → IsExtension (system_of c) (nodes_of old) roots (nodes_of new)
+    (c : Catalogue) (old new : List TypeId) (roots : List Term) (from : ℕ) → from ≡ length old → IsExtension (catalogue_system c) (nodes_of old) roots (nodes_of new)
     → (i : ℕ) (id : TypeId) → from ≤ i → slice_get new i ≡ Some id
     → (d : MetaDescription) × (described c (term_of id) ≡ Some d)
 all_described c old new roots from f x i id h e =
     let l = length_nodes old in
     let d = x.1.nodes i (term_of id) (omega arith) (at_node new i id e) in
-    some_inside entry_of (described c (term_of id)) d.0 d.1
+    some_inside catalogue_entry (described c (term_of id)) d.0 d.1
 
 -- descriptions, and that of the next identity, are those of their identities
 pub described_more :
@@ -108,8 +108,8 @@ pub is_registration :
     (c : Catalogue) (old new : List TypeId) (roots : List Term) (before after : List portable.Description)
     → length before ≡ length old → length after ≡ length new
     → (more : List TypeId) × (new ≡ old ++ more) → (more : List portable.Description) × (after ≡ before ++ more)
-    → IsExtension (system_of c) (nodes_of old) roots (nodes_of new) → AreDescribed c new (length before) after
-    → IsRegistration (system_of c) (registered old before) roots (registered new after)
+    → IsExtension (catalogue_system c) (nodes_of old) roots (nodes_of new) → AreDescribed c new (length before) after
+    → IsRegistration (catalogue_system c) (registered old before) roots (registered new after)
 is_registration c old new roots before after long all kept kept_types x described =
     record {
       nodes = x;
@@ -121,14 +121,14 @@ is_registration c old new roots before after long all kept kept_types x describe
           let within : i < length new = slice_get_within new i at.0 at.1 in
           let d = described i at.0 (omega arith) (omega arith) at.1 in
           let ty = with_ids (λ ty. index_in equals.eq new ty.identity) (λ text. text.now) d.0 in
-          let node : system_of c n ≡ Some (entry_of d.0) = ap (λ t. system_of c t) (sym at.2) ∙ ap (option_map entry_of) d.1 in
+          let node : catalogue_system c n ≡ Some (catalogue_entry d.0) = ap (λ t. catalogue_system c t) (sym at.2) ∙ ap (option_map catalogue_entry) d.1 in
           let walked = x.1.nodes i n (omega arith) e in
-          let same : walked.0 ≡ entry_of d.0 = same_Some walked.0 (entry_of d.0) (sym walked.1 ∙ node) in
+          let same : walked.0 ≡ catalogue_entry d.0 = same_Some walked.0 (catalogue_entry d.0) (sym walked.1 ∙ node) in
           let members : (m : Term) → Contains (roots_of (references d.0)) m → Contains (nodes_of new) m =
           λ m k.
           let p = walk_members (nodes_of new) x.0 walked.0.refs (i + 1) (x.0 i) walked.2 m (subst (λ (z : Entry Shape Term). Contains z.refs m) (sym same) k) in
           contains_at (nodes_of new) m p.0 p.1 in (
-            entry_of d.0,
+            catalogue_entry d.0,
             ty,
             node,
             d.2,

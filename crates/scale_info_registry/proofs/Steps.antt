@@ -7,7 +7,7 @@ use Rattle.scale_info_numberings.specs.Systems.{Grows}
 use Rattle.scale_info_catalogue.specs.Catalogues.{AreSame, HasOneMore, described}
 use Rattle.scale_info_types.specs.MetaDescriptions.{MetaDescription}
 use Rattle.scale_info_catalogue.specs.declared.catalogue.Catalogue.{Catalogue}
-use Rattle.scale_info_registry.specs.CatalogueSystems.{entry_of, system_of}
+use Rattle.scale_info_registry.specs.CatalogueSystems.{catalogue_entry, catalogue_system}
 use Rattle.scale_info_registry.specs.Registrations.{AreSteps, IsRegistration, Registered, Step}
 use Rattle.scale_info_registry.specs.Registrations.{last_step, step_roots}
 use Rattle.scale_info_registry.proofs.Composed.{registrations_compose_grown}
@@ -29,14 +29,14 @@ all_steps start done x (y ∷ ys) r s =
 -- a catalogue with one more description has what it had
 pub grows_by_one :
     (old new : Catalogue) (t : Term) (d : MetaDescription) → HasOneMore old new t d
-    → Grows (system_of old) (system_of new)
+    → Grows (catalogue_system old) (catalogue_system new)
 grows_by_one old new t d h n e s =
-    ap (option_map entry_of)
+    ap (option_map catalogue_entry)
     (h.others n
-    (λ q. none-some e (sym (ap (option_map entry_of) (ap (described old) q ∙ h.absent)) ∙ s)))
+    (λ q. none-some e (sym (ap (option_map catalogue_entry) (ap (described old) q ∙ h.absent)) ∙ s)))
     ∙ s
 
 -- a catalogue that stays has what it had
 pub grows_by_none :
-    (old new : Catalogue) → AreSame old new → Grows (system_of old) (system_of new)
-grows_by_none old new h n e s = ap (option_map entry_of) (h.descriptions n) ∙ s
+    (old new : Catalogue) → AreSame old new → Grows (catalogue_system old) (catalogue_system new)
+grows_by_none old new h n e s = ap (option_map catalogue_entry) (h.descriptions n) ∙ s

@@ -9,9 +9,10 @@ use Rattle.scale_info_types.specs.MetaDescriptions.{MetaDescription, type_term}
 use Rattle.scale_info_catalogue.specs.declared.catalogue.Catalogue.{Catalogue}
 
 -- the shape of a description, and the terms of the types that it refers to, in order
-abbrev pub entry_of : MetaDescription → Entry Shape Term
-entry_of d = record { shape = shape (λ text. text.now) d; refs = map type_term (references d) }
+abbrev pub catalogue_entry : MetaDescription → Entry Shape Term
+catalogue_entry d =
+    record { shape = shape (λ text. text.now) d; refs = map type_term (references d) }
 
 -- the entry of each term that has a description
-abbrev pub system_of : Catalogue → System Shape Term
-system_of c t = option_map entry_of (described c t)
+abbrev pub catalogue_system : Catalogue → System Shape Term
+catalogue_system c t = option_map catalogue_entry (described c t)

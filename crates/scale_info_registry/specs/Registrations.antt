@@ -10,9 +10,8 @@ use Rattle.scale_info_numberings.specs.Extensions.{IsExtension}
 use Rattle.scale_info_numberings.specs.Numberings.{AreDistinct}
 use Rattle.scale_info_numberings.specs.Systems.{Entry, Grows, System, IsReachedPast}
 use Rattle.scale_info_numberings.specs.Tables.{ArePlaces}
-use Rattle.scale_info_references.specs.Conversions.{with_ids}
+use Rattle.scale_info_references.specs.Conversions.{with_ids, ids_in}
 use Rattle.scale_info_types.specs.Portable as portable
-use Rattle.scale_info_types.specs.References.{references}
 use Rattle.scale_info_types.specs.Shapes.{Shape, shape}
 use Rattle.scale_info_types.specs.declared.meta_type.MetaType.{MetaType}
 use Rattle.scale_info_catalogue.specs.Catalogues.{described}
@@ -63,10 +62,6 @@ pub record Registered : Type 0 where
 -- a registry with these identities and descriptions
 abbrev pub registered : List TypeId → List portable.Description → Registered
 registered ids types = record { identities = ids; types = types }
-
--- the ids that a description refers to, in order
-abbrev pub ids_in : portable.Description → List ℕ
-ids_in ty = map (λ (r : portable.Id). r.id) (references ty)
 
 -- each identity has a description, and each id in a description is that of an identity
 abbrev pub IsClosedRegistry : Registered → Type 0

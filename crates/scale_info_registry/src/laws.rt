@@ -8,7 +8,7 @@ ghost use Rattle.scale_info_catalogue.specs.Catalogues.{AreSame, HasOneMore};
 ghost use Rattle.scale_info_types.specs.MetaDescriptions.{MetaDescription};
 ghost use Rattle.scale_info_types.specs.Shapes.{Shape};
 ghost use Rattle.scale_info_catalogue.specs.declared.catalogue.Catalogue.{Catalogue};
-ghost use Rattle.scale_info_registry.specs.CatalogueSystems.{system_of};
+ghost use Rattle.scale_info_registry.specs.CatalogueSystems.{catalogue_system};
 ghost use Rattle.scale_info_registry.specs.Registrations.{
   AreSteps,
   IsRegistration,
@@ -67,8 +67,9 @@ pub fn registrations_afresh()
 /// A catalogue with one more description has each entry that it had.
 pub fn catalogue_grows()
     ensures one_more { (old new : Catalogue) (t : Term) (d : MetaDescription)
-        → HasOneMore old new t d → Grows (system_of old) (system_of new) }
-    ensures same { (old new : Catalogue) → AreSame old new → Grows (system_of old) (system_of new) }
+        → HasOneMore old new t d → Grows (catalogue_system old) (catalogue_system new) }
+    ensures same { (old new : Catalogue) → AreSame old new
+        → Grows (catalogue_system old) (catalogue_system new) }
 {}
 
 /// Registries are equal exactly where their identities have the same terms and their descriptions

@@ -29,7 +29,7 @@ ghost use Rattle.scale_info_numberings.specs.Tables.{ArePlaces};
 ghost use Rattle.scale_info_types.specs.Iterators.{GivesAll};
 ghost use Rattle.scale_info_types.specs.Portable as portable;
 ghost use Rattle.scale_info_types.specs.declared.meta_type.MetaType.{MetaType};
-ghost use Rattle.scale_info_registry.specs.CatalogueSystems.{system_of};
+ghost use Rattle.scale_info_registry.specs.CatalogueSystems.{catalogue_system};
 ghost use Rattle.scale_info_catalogue.specs.Catalogues.{described};
 ghost use Rattle.scale_info_types.specs.MetaDescriptions.{MetaDescription, type_term};
 ghost use Rattle.scale_info_registry.specs.Registrations.{
@@ -128,13 +128,13 @@ impl Registry {
     ) -> Result<UntrackedSymbol<TypeId>, RegisterError>
         ensures known { Contains (nodes_of self.old.identities) (type_term ty.now)
             → IsOk result × (self.new ≡ self.old) }
-        ensures ok { OnOk result
-            (IsRegistration (system_of catalogue.now) self.old (type_term ty.now ∷ []) self.new) }
+        ensures ok { OnOk result (IsRegistration (catalogue_system catalogue.now) self.old
+            (type_term ty.now ∷ []) self.new) }
         ensures id { IfOk result (λ symbol.
             slice_get (nodes_of self.new.identities) symbol.id ≡ Some (type_term ty.now)) }
         ensures kept { Keeps self.old self.new }
         ensures err { OnErr result (self.new ≡ self.old) }
-        ensures cause { IfErr result (IsCause (system_of catalogue.now)
+        ensures cause { IfErr result (IsCause (catalogue_system catalogue.now)
             (nodes_of self.old.identities) (type_term ty.now ∷ [])) }
     {
         let _distinct = self.identities.elements();
@@ -165,14 +165,14 @@ impl Registry {
             → I.into_iter_gives types it → IsFinite (I.IntoIter.remaining it) }
         ensures ok { IfOk result (λ symbols. (given : List MetaType)
             × GivesAll I.into_iter_gives I.IntoIter.next_gives types given
-            × IsRegistration (system_of catalogue.now) self.old (roots_of given) self.new
+            × IsRegistration (catalogue_system catalogue.now) self.old (roots_of given) self.new
             × ArePlaces (nodes_of self.new.identities) (roots_of given)
             (map (λ (s : UntrackedSymbol TypeId). s.id) symbols.items)) }
         ensures kept { Keeps self.old self.new }
         ensures err { OnErr result (self.new ≡ self.old) }
         ensures cause { IfErr result (λ e. (e ≡ Memory) ⊎ ((given : List MetaType)
             × GivesAll I.into_iter_gives I.IntoIter.next_gives types given
-            × IsCause (system_of catalogue.now) (nodes_of self.old.identities)
+            × IsCause (catalogue_system catalogue.now) (nodes_of self.old.identities)
             (roots_of given) e)) }
     {
         self.map_into_portable(types, catalogue)
@@ -196,7 +196,7 @@ impl Registry {
             → I.into_iter_gives items it → IsFinite (I.IntoIter.remaining it) }
         ensures ok { IfOk result (λ outputs. (given : List I.Item)
             × GivesAll I.into_iter_gives I.IntoIter.next_gives items given
-            × IsRegistration (system_of catalogue.now) self.old
+            × IsRegistration (catalogue_system catalogue.now) self.old
             (flat_map I.Item.roots given) self.new
             × AllZip (λ x o. IsConverted I.Item.replaced (I.Item.roots x) self.new x o)
             given outputs.items) }
@@ -204,7 +204,7 @@ impl Registry {
         ensures err { OnErr result (self.new ≡ self.old) }
         ensures cause { IfErr result (λ e. (e ≡ Memory) ⊎ ((given : List I.Item)
             × GivesAll I.into_iter_gives I.IntoIter.next_gives items given
-            × IsCause (system_of catalogue.now) (nodes_of self.old.identities)
+            × IsCause (catalogue_system catalogue.now) (nodes_of self.old.identities)
             (flat_map I.Item.roots given) e)) }
     {
         let alloc = *self.types.allocator();
@@ -245,13 +245,13 @@ impl Registry {
         value: &T,
         catalogue: &Catalogue,
     ) -> Result<T::Output, RegisterError>
-        ensures ok { OnOk result (IsRegistration (system_of catalogue.now) self.old
+        ensures ok { OnOk result (IsRegistration (catalogue_system catalogue.now) self.old
             (roots_of (T.types value.now)) self.new) }
         ensures output { IfOk result (IsConverted (HasIds T.types T.with_ids)
             (roots_of (T.types value.now)) self.new value.now) }
         ensures err { OnErr result (self.new ≡ self.old) }
         ensures kept { Keeps self.old self.new }
-        ensures cause { IfErr result (IsCause (system_of catalogue.now)
+        ensures cause { IfErr result (IsCause (catalogue_system catalogue.now)
             (nodes_of self.old.identities) (roots_of (T.types value.now))) }
     {
         let alloc = *self.types.allocator();
@@ -281,12 +281,12 @@ impl Registry {
     where
         X::Output: Drop,
         ensures kept { Keeps self.old self.new }
-        ensures ok { OnOk result (IsRegistration (system_of catalogue.now) self.old
+        ensures ok { OnOk result (IsRegistration (catalogue_system catalogue.now) self.old
             (flat_map X.roots given.items) self.new) }
         ensures outputs { IfOk result (λ outputs.
             AllZip (λ x o. IsConverted X.replaced (X.roots x) self.new x o)
             given.items outputs.items) }
-        ensures cause { IfErr result (IsCause (system_of catalogue.now)
+        ensures cause { IfErr result (IsCause (catalogue_system catalogue.now)
             (nodes_of self.old.identities) (flat_map X.roots given.items)) }
     {
         let _distinct = self.identities.elements();
@@ -304,10 +304,10 @@ impl Registry {
         pending: Vec<&'a MetaType>,
         catalogue: &'a Catalogue,
     ) -> Result<(), RegisterError>
-        ensures ok { OnOk result (IsRegistration (system_of catalogue.now) self.old
+        ensures ok { OnOk result (IsRegistration (catalogue_system catalogue.now) self.old
             (stacked pending.entry.items) self.new) }
         ensures err { OnErr result (self.new ≡ self.old) }
-        ensures cause { IfErr result (IsCause (system_of catalogue.now)
+        ensures cause { IfErr result (IsCause (catalogue_system catalogue.now)
             (nodes_of self.old.identities) (stacked pending.entry.items)) }
     {
         let known = self.types.len();
@@ -339,11 +339,11 @@ fn register_in<'a>(
     ensures kept { (more : List TypeId) × (identities.new ≡ identities.old ++ more) }
     ensures kept_types { (more : List portable.Description)
         × (types.new.items ≡ types.old.items ++ more) }
-    ensures ok { OnOk result (IsRegistration (system_of catalogue.now)
+    ensures ok { OnOk result (IsRegistration (catalogue_system catalogue.now)
         (registered identities.old types.old.items) (stacked pending.entry.items)
         (registered identities.new types.new.items)) }
     ensures long { OnOk result (length types.new.items ≡ length identities.new) }
-    ensures cause { IfErr result (IsCause (system_of catalogue.now)
+    ensures cause { IfErr result (IsCause (catalogue_system catalogue.now)
         (nodes_of identities.old) (stacked pending.entry.items)) }
 {
     let _distinct = identities.elements();

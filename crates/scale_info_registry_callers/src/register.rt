@@ -2,7 +2,7 @@
 ghost use Rattle.scale_info_identities.specs.TypeIds.{Term};
 ghost use Rattle.scale_info_numberings.specs.Numberings.{IsNumbering};
 ghost use Rattle.scale_info_numberings.specs.Tables.{IsTable};
-ghost use Rattle.scale_info_registry.specs.CatalogueSystems.{system_of};
+ghost use Rattle.scale_info_registry.specs.CatalogueSystems.{catalogue_system};
 ghost use Rattle.scale_info_registry.specs.Registrations.{roots_of};
 ghost use Rattle.scale_info_walk.specs.TypeSystems.{entry_of};
 ghost use Rattle.std.specs.Prelude.{◌++◌, List, IfOk, map};
@@ -36,9 +36,10 @@ pub fn table_in_two_steps<T: TypeInfo>(
     second: Vec<MetaType>,
 ) -> anyhow::Result<PortableRegistry>
     ensures { IfOk result (λ table. (order : List Term)
-        × IsNumbering (system_of catalogue.new) (roots_of first.items ++ roots_of second.items)
+        × IsNumbering (catalogue_system catalogue.new)
+        (roots_of first.items ++ roots_of second.items)
         order
-        × IsTable (system_of catalogue.new) order (map entry_of table.types)) }
+        × IsTable (catalogue_system catalogue.new) order (map entry_of table.types)) }
 {
     catalogue_grows();
     registrations_compose();

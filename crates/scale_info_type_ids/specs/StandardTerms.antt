@@ -1,6 +1,6 @@
 -- The types of the standard library that this library knows, and its own three: the own term of
--- each, by the own terms of its parameters. A line for each type, or for types that share it, in the
--- order of the table of identities in docs/FORMATS.md.
+-- each, by the own terms of its parameters. A line for each type, or for types that share it, in
+-- the order of the table of identities in docs/FORMATS.md.
 use Rattle.std.specs.Prelude.{ℕ, List, [], ◌∷◌, codes}
 use Rattle.scale_info_identities.specs.TypeIds.{Term, term, terms, no_terms, more_terms}
 

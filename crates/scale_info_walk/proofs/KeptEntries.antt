@@ -21,7 +21,8 @@ use Rattle.scale_info_types.specs.declared.ty.PortableType.{PortableType}
 use Rattle.scale_info_walk.proofs.Visiting.{same_or_not}
 use Rattle.scale_info_walk.specs.Kept.{AreKept, kept_entry, number_of}
 use Rattle.scale_info_walk.specs.Pruned.{IsPruned}
-use Rattle.scale_info_walk.specs.TypeSystems.{entry_of, ids_in, types_system}
+use Rattle.scale_info_references.specs.Conversions.{ids_in}
+use Rattle.scale_info_walk.specs.TypeSystems.{entry_of, types_system}
 use Rattle.scale_info_walk.specs.Walks.{AreNumbers}
 
 -- kept entries, and the entry at index k with the next id, are the kept ones of one index more

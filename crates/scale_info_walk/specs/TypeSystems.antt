@@ -1,14 +1,9 @@
 -- A list of descriptions as a reference system, whose nodes are its indices.
 use Rattle.std.specs.Prelude.{ℕ, List, option_map, slice_get, map}
-use Rattle.scale_info_types.specs.Portable as portable
-use Rattle.scale_info_types.specs.References.{references}
+use Rattle.scale_info_references.specs.Conversions.{ids_in}
 use Rattle.scale_info_types.specs.Shapes.{Shape, shape}
 use Rattle.scale_info_types.specs.declared.ty.PortableType.{PortableType}
 use Rattle.scale_info_numberings.specs.Systems.{Entry, System}
-
--- the ids that a description refers to, in order
-abbrev pub ids_in : portable.Description → List ℕ
-ids_in ty = map (λ symbol. symbol.id) (references ty)
 
 -- the shape of a description and its references, as numbers; the `id` field is no part of it
 abbrev pub entry_of : PortableType → Entry Shape ℕ

@@ -3,7 +3,7 @@ ghost use Rattle.std.specs.Prelude.{◌≡◌, ◌+◌, ◌<◌, ◌^◌, ◌++�
 ghost use Rattle.std.specs.Prelude.{length, map, reverse};
 ghost use Rattle.scale_info_references.specs.Gathered.{targets};
 ghost use Rattle.scale_info_types.specs.Portable.{Id};
-ghost use Rattle.scale_info_walk.specs.TypeSystems.{ids_in};
+ghost use Rattle.scale_info_references.specs.Conversions.{ids_in};
 ghost use Rattle.scale_info_walk.specs.Walks.{IsNextOf};
 
 use scale_info_identities::interner::UntrackedSymbol;

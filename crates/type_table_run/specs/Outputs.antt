@@ -49,7 +49,8 @@ pub record Writes (command : Command) (old new : Option (List ℕ)) (input : Lis
   pub appends : Appends old new output
 
 -- the command has an output for the input, and known bytes grow by a prefix of it
-pub record WritesPrefix (command : Command) (old new : Option (List ℕ)) (input : List ℕ) : Type 0 where
+pub record WritesPrefix (command : Command) (old new : Option (List ℕ))
+    (input : List ℕ) : Type 0 where
   pub output : List ℕ
   pub outputs : Outputs command input output
   pub appends : AppendsPrefix old new output

@@ -8,13 +8,15 @@ use Rattle.scale_info_types.specs.declared.ty.TypeDef.TheVariants as def
 use Rattle.scale_info_types.specs.declared.ty.fields.Field.{Field}
 use Rattle.scale_info_types.specs.declared.ty.variant.Variant.{Variant}
 
--- the terms of the program's types
+-- the term of the program's type `Point`
 abbrev pub point_term : Term
 point_term = named (codes "tutorial::Point")
 
+-- the term of `Shape`
 abbrev pub shape_term : Term
 shape_term = named (codes "tutorial::Shape")
 
+-- the term of `Tree`
 abbrev pub tree_term : Term
 tree_term = named (codes "tutorial::Tree")
 

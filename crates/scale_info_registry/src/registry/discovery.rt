@@ -3,7 +3,7 @@ ghost use Rattle.std.specs.Prelude.{◌≡◌, ◌++◌, List, OnOk, IfErr, IfOk
 ghost use Rattle.scale_info_identities.specs.declared.type_id.TypeId.{TypeId};
 ghost use Rattle.scale_info_numberings.specs.Extensions.{IsExtension};
 ghost use Rattle.scale_info_numberings.specs.Numberings.{AreDistinct};
-ghost use Rattle.scale_info_registry.specs.CatalogueSystems.{system_of};
+ghost use Rattle.scale_info_registry.specs.CatalogueSystems.{catalogue_system};
 ghost use Rattle.scale_info_registry.specs.Registrations.{nodes_of, stacked, IsCause};
 ghost use Rattle.scale_info_registry.specs.declared.registry.discovery.RegisterError.TheVariants.{
   Memory,
@@ -73,9 +73,9 @@ pub(crate) fn discover<'a>(
 ) -> Result<(), RegisterError>
     requires distinct { AreDistinct (nodes_of identities.old) }
     ensures kept { (more : List TypeId) × (identities.new ≡ identities.old ++ more) }
-    ensures ok { OnOk result (IsExtension (system_of catalogue.now) (nodes_of identities.old)
+    ensures ok { OnOk result (IsExtension (catalogue_system catalogue.now) (nodes_of identities.old)
         (stacked pending.entry.items) (nodes_of identities.new)) }
-    ensures err { IfErr result (IsCause (system_of catalogue.now) (nodes_of identities.old)
+    ensures err { IfErr result (IsCause (catalogue_system catalogue.now) (nodes_of identities.old)
         (stacked pending.entry.items)) }
 {
     while let Some(next) = pending.pop() {

@@ -30,7 +30,7 @@ ghost use Rattle.scale_info_registry.specs.Parts.{
   variant_types,
   variant_with_ids,
 };
-ghost use Rattle.scale_info_registry.specs.CatalogueSystems.{system_of};
+ghost use Rattle.scale_info_registry.specs.CatalogueSystems.{catalogue_system};
 ghost use Rattle.scale_info_types.specs.MetaDescriptions.{type_term};
 ghost use Rattle.scale_info_registry.specs.Registrations.{
   nodes_of,
@@ -83,12 +83,12 @@ pub trait IntoPortable {
         registry: &mut Registry,
         catalogue: &Catalogue,
     ) -> Result<Self::Output, RegisterError>
-        ensures ok { OnOk result
-            (IsRegistration (system_of catalogue.now) registry.old (roots self) registry.new) }
+        ensures ok { OnOk result (IsRegistration (catalogue_system catalogue.now) registry.old
+            (roots self) registry.new) }
         ensures output { IfOk result
             (λ output. IsConverted replaced (roots self) registry.new self output) }
         ensures err { OnErr result (Keeps registry.old registry.new) }
-        ensures cause { IfErr result (IsCause (system_of catalogue.now)
+        ensures cause { IfErr result (IsCause (catalogue_system catalogue.now)
             (nodes_of registry.old.identities) (roots self)) };
 }
 

@@ -6,7 +6,7 @@ use Rattle.std.proofs.lemmas.Result.{err_from_is_err_and}
 use Rattle.scale_info_identities.specs.TypeIds.{Term}
 use Rattle.scale_info_types.specs.Portable.{Id}
 use Rattle.scale_info_numberings.specs.Tables.{ArePlaces}
-use Rattle.scale_info_registry.specs.CatalogueSystems.{system_of}
+use Rattle.scale_info_registry.specs.CatalogueSystems.{catalogue_system}
 use Rattle.scale_info_registry.specs.Registrations.{IsCause, IsRegistration, nodes_of, registered, roots_of}
 use Rattle.scale_info_registry.specs.declared.registry.discovery.RegisterError.TheVariants as register
 use Rattle.scale_info_export.proofs.Exported.{register_error}
@@ -14,7 +14,7 @@ use Rattle.scale_info_export.proofs.export.registered_table.Goals as goal
 
 pub returns-in_err-symbols-clause-cause : goal.returns-in_err-symbols-clause-cause
 returns-in_err-symbols-clause-cause c =
-    let S = system_of c.args.catalogue.now in
+    let S = catalogue_system c.args.catalogue.now in
     let roots = roots_of c.args.types.now in
     let p = err_from_is_err_and c.from_residual-in_err-symbols.result c.from_residual-in_err-symbols.ensures.1 in
     let e = c.in_err-symbols.field-0.0 in
@@ -33,7 +33,7 @@ returns-in_err-symbols-clause-cause c =
 
 pub returns-clause-ok : goal.returns-clause-ok
 returns-clause-ok c =
-    let S = system_of c.args.catalogue.now in
+    let S = catalogue_system c.args.catalogue.now in
     let roots = roots_of c.args.types.now in
     let after = c.register_types.new.self in
     let all = YieldsList-from_vec c.in_ok-copies.field-0.items (search rules) (search rules) in

@@ -4,7 +4,7 @@ use Rattle.std.proofs.lemmas.List.{map-append, take_all, take_more}
 use Rattle.scale_info_export.specs.Headline.{AreAccepted, History, IsTableOf, IsWritten, Pruning}
 use Rattle.scale_info_export.specs.Headline.{registry_of}
 use Rattle.scale_info_identities.specs.TypeIds.{Term}
-use Rattle.scale_info_registry.specs.CatalogueSystems.{system_of}
+use Rattle.scale_info_registry.specs.CatalogueSystems.{catalogue_system}
 use Rattle.scale_info_registry.specs.Registrations.{IsRegistration, registered, roots_of, step_roots}
 use Rattle.scale_info_tables.proofs.Interned.{length_numbered}
 use Rattle.scale_info_types.specs.MetaDescriptions.{type_term}
@@ -12,7 +12,7 @@ use Rattle.scale_info_export_callers.proofs.written.register_prune_write.Goals a
 
 pub loop-ty-preserved : goal.loop-ty-preserved
 loop-ty-preserved g c =
-    let S = system_of c.args.catalogue.now in
+    let S = catalogue_system c.args.catalogue.now in
     let others = c.args.others.now in
     let ty = c.ty-item.result in
     let first = type_term c.args.first.now in
@@ -28,7 +28,7 @@ loop-ty-preserved g c =
 
 pub returns : goal.returns
 returns g c =
-    let S = system_of c.args.catalogue.now in
+    let S = catalogue_system c.args.catalogue.now in
     let others = c.args.others.now in
     let first = type_term c.args.first.now in
     let h : History =

@@ -1,9 +1,9 @@
 use Rattle.std.proofs.Common.{[], ◌∷◌, take}
-use Rattle.scale_info_registry.specs.CatalogueSystems.{system_of}
+use Rattle.scale_info_registry.specs.CatalogueSystems.{catalogue_system}
 use Rattle.scale_info_registry.specs.Registrations.{IsRegistration, registered, roots_of}
 use Rattle.scale_info_types.specs.MetaDescriptions.{type_term}
 use Rattle.scale_info_export_callers.proofs.written.register_prune_write.Given as goal
 
 abbrev pub invariant-loop-ty : goal.invariant-loop-ty
 invariant-loop-ty g l =
-    IsRegistration (system_of l.fn.catalogue) (registered [] []) (type_term l.fn.first ∷ roots_of (take l.ty-index l.others)) l.registry
+    IsRegistration (catalogue_system l.fn.catalogue) (registered [] []) (type_term l.fn.first ∷ roots_of (take l.ty-index l.others)) l.registry

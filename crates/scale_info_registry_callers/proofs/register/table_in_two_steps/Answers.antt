@@ -1,6 +1,6 @@
 use Rattle.std.proofs.Common.{◌≡◌, [], rules, subst}
 use Rattle.scale_info_numberings.specs.Systems.{Grows}
-use Rattle.scale_info_registry.specs.CatalogueSystems.{system_of}
+use Rattle.scale_info_registry.specs.CatalogueSystems.{catalogue_system}
 use Rattle.scale_info_registry.specs.Registrations.{IsRegistration, nodes_of, registered, roots_of}
 use Rattle.scale_info_registry_callers.proofs.Drained.{drained, either_way}
 use Rattle.scale_info_registry_callers.proofs.register.table_in_two_steps.Goals as goal
@@ -11,17 +11,17 @@ returns g c =
     let two = c.in_ok-register_types-2.ensures.ok in
     let first : one.0 ≡ c.args.first.items = drained one.1.0 c.args.first.items one.0 one.1.1.0 (search rules) one.1.2 in
     let second : two.0 ≡ c.args.second.items = drained two.1.0 c.args.second.items two.0 two.1.1.0 (search rules) two.1.2 in
-    let grows : Grows (system_of c.args.catalogue.now) (system_of c.add.new.self) =
+    let grows : Grows (catalogue_system c.args.catalogue.now) (catalogue_system c.add.new.self) =
     either_way c.in_ok-add.field-0
     (λ new. let more = c.in_ok-add.ensures.new new in c.catalogue_grows.ensures.one_more _ _ _ _ more.2)
     (λ known. c.catalogue_grows.ensures.same _ _ (c.in_ok-add.ensures.known_same known)) in
     let before = c.register_types.new.self in
     let after = c.register_types-2.new.self in
-    let was : IsRegistration (system_of c.args.catalogue.now) (registered [] []) (roots_of c.args.first.items) before =
-    subst (λ given. IsRegistration (system_of c.args.catalogue.now) (registered [] []) (roots_of given) before) first
-    (subst (λ r. IsRegistration (system_of c.args.catalogue.now) r (roots_of one.0) before) c.new-registry.ensures one.2) in
-    let then : IsRegistration (system_of c.add.new.self) before (roots_of c.args.second.items) after =
-    subst (λ given. IsRegistration (system_of c.add.new.self) before (roots_of given) after) second two.2 in
+    let was : IsRegistration (catalogue_system c.args.catalogue.now) (registered [] []) (roots_of c.args.first.items) before =
+    subst (λ given. IsRegistration (catalogue_system c.args.catalogue.now) (registered [] []) (roots_of given) before) first
+    (subst (λ r. IsRegistration (catalogue_system c.args.catalogue.now) r (roots_of one.0) before) c.new-registry.ensures one.2) in
+    let then : IsRegistration (catalogue_system c.add.new.self) before (roots_of c.args.second.items) after =
+    subst (λ given. IsRegistration (catalogue_system c.add.new.self) before (roots_of given) after) second two.2 in
     let both = c.registrations_compose.ensures _ _ _ _ _ _ _ grows was then in
     let table =
     c.registered_tables.ensures _ _ after c.in_ok-from_registry.field-0 both c.in_ok-from_registry.ensures.entries

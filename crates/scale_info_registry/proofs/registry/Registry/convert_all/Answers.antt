@@ -1,7 +1,7 @@
 use Rattle.std.proofs.Common.{rules, ◌≡◌, ◌∷◌, ◌++◌, [], ◌∙◌, ap, sym, subst, flat_map}
 use Rattle.std.proofs.lemmas.Result.{err_from_is_err_and}
 use Rattle.std.specs.Vec.Iter.{into_iter_items}
-use Rattle.scale_info_registry.specs.CatalogueSystems.{system_of}
+use Rattle.scale_info_registry.specs.CatalogueSystems.{catalogue_system}
 use Rattle.scale_info_registry.specs.Registrations.{registered, IsRegistration}
 use Rattle.scale_info_registry.proofs.Registered.{registers_nothing}
 use Rattle.scale_info_registry.proofs.Composed.{one_more, cause_before, taken_front, roots_so_far}
@@ -9,7 +9,7 @@ use Rattle.scale_info_registry.proofs.registry.Registry.convert_all.Goals as goa
 
 pub loop-item-init : goal.loop-item-init
 loop-item-init g c =
-    let S = system_of c.args.catalogue.now in (
+    let S = catalogue_system c.args.catalogue.now in (
       tt,
       tt,
       subst (λ v. IsRegistration S v [] v) c.self.view_is (registers_nothing S (registered c.self.inside.identities c.self.inside.types.items) c.elements-distinct.ensures.distinct),
@@ -18,7 +18,7 @@ loop-item-init g c =
 
 pub returns-in_err-into_portable-clause-cause : goal.returns-in_err-into_portable-clause-cause
 returns-in_err-into_portable-clause-cause g c =
-    let S = system_of c.args.catalogue.now in
+    let S = catalogue_system c.args.catalogue.now in
     let p = err_from_is_err_and c.from_residual.result c.from_residual.ensures.1 in
     let front = taken_front _ c.loop-item.yielded _ c.loop-item.yielded_by in
     let all : c.args.given.items ≡ c.loop-item.yielded ++ c.in-Some.item ∷ into_iter_items c.next.new.self =
@@ -30,7 +30,7 @@ returns-in_err-into_portable-clause-cause g c =
 
 pub loop-item-preserved : goal.loop-item-preserved
 loop-item-preserved g c =
-    let S = system_of c.args.catalogue.now in
+    let S = catalogue_system c.args.catalogue.now in
     let m =
     one_more g.X.IntoPortable.roots g.X.IntoPortable.replaced S c.args.self.now c.loop-item.self c.into_portable.new.registry c.loop-item.yielded c.loop-item.outputs.items c.push.new.self.items
     c.in-Some.item c.in_ok-into_portable.field-0 (search rules) c.loop-item.invariant.2 c.loop-item.invariant.3 c.in_ok-into_portable.ensures.ok c.in_ok-into_portable.ensures.output

@@ -2,7 +2,7 @@ use Rattle.std.proofs.Common.{rules, refl, subst, sym, map, ℕ}
 use Rattle.std.proofs.lemmas.Result.{err_from_is_err_and}
 use Rattle.scale_info_numberings.specs.Tables.{ArePlaces}
 use Rattle.scale_info_identities.specs.contracts.type_id.TypeIdPartialEq.TheImpl.{ghosts as equals}
-use Rattle.scale_info_registry.specs.CatalogueSystems.{system_of}
+use Rattle.scale_info_registry.specs.CatalogueSystems.{catalogue_system}
 use Rattle.scale_info_registry.specs.Registrations.{nodes_of, roots_of, stacked, index_in, IsCause, IsRegistration}
 use Rattle.scale_info_types.specs.declared.meta_type.MetaType.{MetaType}
 use Rattle.scale_info_registry.proofs.Discovered.{stacked_alone}
@@ -14,19 +14,19 @@ returns-in_err-register-clause-cause g c =
     let p = err_from_is_err_and c.from_residual-in_err-register.result c.from_residual-in_err-register.ensures.1 in
     let types = g.T.HasTypes.types c.args.value.now in
     let e = stacked_alone c.in_ok-pending.pending.items c.in_ok-types.field-0.items c.new.result.items types c.in_ok-pending.ensures.ok c.new.ensures.items c.in_ok-types.ensures in
-    rw (p.1, p.2) (subst (λ ns. IsCause (system_of c.args.catalogue.now) (nodes_of c.args.self.now.identities) ns c.in_err-register.field-0.0) e c.in_err-register.ensures.cause)
+    rw (p.1, p.2) (subst (λ ns. IsCause (catalogue_system c.args.catalogue.now) (nodes_of c.args.self.now.identities) ns c.in_err-register.field-0.0) e c.in_err-register.ensures.cause)
 
 pub returns-in-Ok-clause-ok : goal.returns-in-Ok-clause-ok
 returns-in-Ok-clause-ok g c =
     let types = g.T.HasTypes.types c.args.value.now in
     let e = stacked_alone c.in_ok-pending.pending.items c.in_ok-types.field-0.items c.new.result.items types c.in_ok-pending.ensures.ok c.new.ensures.items c.in_ok-types.ensures in
-    subst (λ ns. IsRegistration (system_of c.args.catalogue.now) c.args.self.now ns c.register.new.self) e c.in_ok-register.ensures.ok
+    subst (λ ns. IsRegistration (catalogue_system c.args.catalogue.now) c.args.self.now ns c.register.new.self) e c.in_ok-register.ensures.ok
 
 pub returns-in-Ok-clause-output : goal.returns-in-Ok-clause-output
 returns-in-Ok-clause-output g c =
     let types = g.T.HasTypes.types c.args.value.now in
     let x =
-    root_indices (system_of c.args.catalogue.now) c.args.self.now c.register.new.self types
+    root_indices (catalogue_system c.args.catalogue.now) c.args.self.now c.register.new.self types
     (returns-in-Ok-clause-ok g c)
     in
     let id_of : MetaType → ℕ = λ ty. index_in equals.eq c.self-2.inside.identities ty.identity in (
@@ -42,11 +42,11 @@ returns-in-Ok-clause-output g c =
 pub invariant_of-self : goal.invariant_of-self
 invariant_of-self g c =
     cut_kept c.args.self.now c.register.new.self c.self.inside.identities c.self-2.inside.identities c.truncate.new.self c.self.inside.types.items c.self-2.inside.types.items c.truncate-in-Err.new.self.items
-    c.len-known.result c.self.view_is c.self-2.view_is (keeps (system_of c.args.catalogue.now) c.args.self.now c.register.new.self (stacked c.in_ok-pending.pending.items) c.in_ok-register.ensures.ok)
+    c.len-known.result c.self.view_is c.self-2.view_is (keeps (catalogue_system c.args.catalogue.now) c.args.self.now c.register.new.self (stacked c.in_ok-pending.pending.items) c.in_ok-register.ensures.ok)
     (search rules) c.self.invariant c.truncate.ensures c.truncate-in-Err.ensures.items
 
 pub returns-in-Err-clause-kept : goal.returns-in-Err-clause-kept
 returns-in-Err-clause-kept g c =
     cut_keeps c.args.self.now c.register.new.self c.self.inside.identities c.self-2.inside.identities c.truncate.new.self c.self.inside.types.items c.self-2.inside.types.items c.truncate-in-Err.new.self.items
-    c.len-known.result c.self.view_is c.self-2.view_is (keeps (system_of c.args.catalogue.now) c.args.self.now c.register.new.self (stacked c.in_ok-pending.pending.items) c.in_ok-register.ensures.ok)
+    c.len-known.result c.self.view_is c.self-2.view_is (keeps (catalogue_system c.args.catalogue.now) c.args.self.now c.register.new.self (stacked c.in_ok-pending.pending.items) c.in_ok-register.ensures.ok)
     (search rules) c.self.invariant c.truncate.ensures c.truncate-in-Err.ensures.items

@@ -3,7 +3,7 @@ use Rattle.std.proofs.lemmas.Bool.{false≢true}
 use Rattle.std.proofs.lemmas.Result.{err_from_is_err_and}
 use Rattle.scale_info_identities.specs.TypeIds.{term_of}
 use Rattle.scale_info_identities.specs.contracts.type_id.TypeIdPartialEq.TheImpl.{ghosts as equals}
-use Rattle.scale_info_registry.specs.CatalogueSystems.{system_of}
+use Rattle.scale_info_registry.specs.CatalogueSystems.{catalogue_system}
 use Rattle.scale_info_registry.specs.Registrations.{registered, nodes_of, IsCause, IsRegistration, index_in}
 use Rattle.scale_info_registry.proofs.Terms.{known, known_by_term}
 use Rattle.scale_info_registry.proofs.Registered.{registers_known, unknown, root_index}
@@ -13,9 +13,9 @@ pub returns-in-Some-clause-ok : goal.returns-in-Some-clause-ok
 returns-in-Some-clause-ok c =
     let id = c.type_id.result.now in
     let k = (known c.self.inside.identities id).0 (c.in-Some.symbol.id, c.in-Some.ensures.found) in
-    subst (λ i. IsRegistration (system_of c.args.catalogue.now) c.args.self.now (term_of i ∷ []) c.args.self.now) c.type_id.ensures
-    (subst (λ v. IsRegistration (system_of c.args.catalogue.now) v (term_of id ∷ []) v) c.self.view_is
-    (registers_known (system_of c.args.catalogue.now) (registered c.self.inside.identities c.self.inside.types.items) id c.elements-distinct.ensures.distinct k))
+    subst (λ i. IsRegistration (catalogue_system c.args.catalogue.now) c.args.self.now (term_of i ∷ []) c.args.self.now) c.type_id.ensures
+    (subst (λ v. IsRegistration (catalogue_system c.args.catalogue.now) v (term_of id ∷ []) v) c.self.view_is
+    (registers_known (catalogue_system c.args.catalogue.now) (registered c.self.inside.identities c.self.inside.types.items) id c.elements-distinct.ensures.distinct k))
 
 pub returns-in-Some-clause-id : goal.returns-in-Some-clause-id
 returns-in-Some-clause-id c =
@@ -47,12 +47,12 @@ pub returns-in_err-register-clause-cause : goal.returns-in_err-register-clause-c
 returns-in_err-register-clause-cause c =
     let p = err_from_is_err_and c.from_residual-in_err-register.result c.from_residual-in_err-register.ensures.1 in
     rw (p.1, p.2)
-    (subst (λ ns. IsCause (system_of c.args.catalogue.now) (nodes_of c.args.self.now.identities) ns c.in_err-register.field-0.0) c.in_ok-alone.ensures.ok c.in_err-register.ensures.cause)
+    (subst (λ ns. IsCause (catalogue_system c.args.catalogue.now) (nodes_of c.args.self.now.identities) ns c.in_err-register.field-0.0) c.in_ok-alone.ensures.ok c.in_err-register.ensures.cause)
 
 pub returns-clause-id : goal.returns-clause-id
 returns-clause-id c =
     let id = c.args.ty.now.identity in
-    let S = system_of c.args.catalogue.now in
+    let S = catalogue_system c.args.catalogue.now in
     let x = subst (λ ns. IsRegistration S c.args.self.now ns c.register.new.self) c.in_ok-alone.ensures.ok c.in_ok-register.ensures.ok in
     rw c.id.ensures
     (subst (λ v. slice_get (nodes_of c.register.new.self.identities) (index_in equals.eq v.identities id) ≡ Some (term_of id)) (sym c.self-2.view_is)

@@ -3,7 +3,7 @@ use Rattle.std.proofs.Common.{option_map, rules, ◌≡◌, ◌++◌, ◌∷◌,
 use Rattle.scale_info_identities.specs.TypeIds.{term_of}
 use Rattle.scale_info_identities.specs.Interned.{IsKnown}
 use Rattle.scale_info_identities.specs.contracts.type_id.TypeIdPartialEq.TheImpl.{ghosts as equals}
-use Rattle.scale_info_registry.specs.CatalogueSystems.{system_of, entry_of}
+use Rattle.scale_info_registry.specs.CatalogueSystems.{catalogue_system, catalogue_entry}
 use Rattle.scale_info_catalogue.specs.Catalogues.{described}
 use Rattle.scale_info_registry.specs.Registrations.{nodes_of, stacked}
 use Rattle.scale_info_numberings.proofs.WorkLists.{walk_starts}
@@ -12,7 +12,7 @@ use Rattle.scale_info_registry.proofs.registry.discovery.discover.Goals as goal
 
 pub loop-next-init : goal.loop-next-init
 loop-next-init c =
-    (walk_starts (system_of c.args.catalogue.now) (nodes_of c.args.identities.now) (stacked c.args.pending.items) c.requires.distinct, ([], sym (append-nil c.args.identities.now)))
+    (walk_starts (catalogue_system c.args.catalogue.now) (nodes_of c.args.identities.now) (stacked c.args.pending.items) c.requires.distinct, ([], sym (append-nil c.args.identities.now)))
 
 pub loop-next-preserved-then-is_some : goal.loop-next-preserved-then-is_some
 loop-next-preserved-then-is_some c =
@@ -29,7 +29,7 @@ returns-in_default-get-clause-err c =
     let m = meets cat c.args.identities.now c.args.pending.items c.loop-next.identities c.loop-next.pending.items c.pop.new.self.items c.in-Some.next id c.in-Some.ensures.items c.type_id-id.ensures u c.loop-next.invariant.0 in
     let same : c.in_ok-try_clone.field-0 ≡ id = c.in_ok-try_clone.ensures in
     let none : described cat (term_of id) ≡ None = search rules in
-    rw same (m, ap (option_map entry_of) none)
+    rw same (m, ap (option_map catalogue_entry) none)
 
 pub returns-in-Err-Full-clause-err : goal.returns-in-Err-Full-clause-err
 returns-in-Err-Full-clause-err c =

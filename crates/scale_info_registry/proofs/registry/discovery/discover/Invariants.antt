@@ -1,6 +1,6 @@
 use Rattle.std.proofs.Common.{◌≡◌, ◌++◌, List, length}
 use Rattle.scale_info_identities.specs.declared.type_id.TypeId.{TypeId}
-use Rattle.scale_info_registry.specs.CatalogueSystems.{system_of}
+use Rattle.scale_info_registry.specs.CatalogueSystems.{catalogue_system}
 use Rattle.scale_info_registry.specs.Registrations.{nodes_of, stacked}
 use Rattle.scale_info_numberings.proofs.WorkLists.{IsWalking}
 use Rattle.scale_info_registry.proofs.CatalogueWeights.{work_left}
@@ -8,7 +8,7 @@ use Rattle.scale_info_registry.proofs.registry.discovery.discover.Given as goal
 
 abbrev pub invariant-loop-next : goal.invariant-loop-next
 invariant-loop-next l =
-    IsWalking (system_of l.catalogue) (nodes_of l.fn.identities) (stacked l.fn.pending.items) (nodes_of l.identities) (stacked l.pending.items)
+    IsWalking (catalogue_system l.catalogue) (nodes_of l.fn.identities) (stacked l.fn.pending.items) (nodes_of l.identities) (stacked l.pending.items)
     × ((more : List TypeId) × (l.identities ≡ l.fn.identities ++ more))
 
 abbrev pub decreases-loop-next : goal.decreases-loop-next

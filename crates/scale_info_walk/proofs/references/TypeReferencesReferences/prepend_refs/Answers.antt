@@ -3,7 +3,8 @@ use Rattle.std.proofs.lemmas.Option.{slice_get-get_or}
 use Rattle.scale_info_numberings.specs.Systems.{Entry}
 use Rattle.scale_info_types.specs.Shapes.{Shape}
 use Rattle.scale_info_types.specs.declared.ty.PortableType.{PortableType}
-use Rattle.scale_info_walk.specs.TypeSystems.{types_system, entry_of, ids_in}
+use Rattle.scale_info_references.specs.Conversions.{ids_in}
+use Rattle.scale_info_walk.specs.TypeSystems.{types_system, entry_of}
 use Rattle.scale_info_walk.proofs.references.TypeReferencesReferences.prepend_refs.Goals as goal
 
 prepended :

@@ -1,6 +1,6 @@
-use Rattle.scale_info_registry.specs.CatalogueSystems.{system_of}
+use Rattle.scale_info_registry.specs.CatalogueSystems.{catalogue_system}
 use Rattle.scale_info_registry.proofs.Registered.{registers_nothing}
 use Rattle.scale_info_registry.proofs.registry.into_portable.RefStrIntoPortable.into_portable.Goals as goal
 
 pub returns-clause-ok : goal.returns-clause-ok
-returns-clause-ok c = registers_nothing (system_of c.args._catalogue.now) c.args.registry.now c.allocator.ensures.distinct
+returns-clause-ok c = registers_nothing (catalogue_system c.args._catalogue.now) c.args.registry.now c.allocator.ensures.distinct
