@@ -1,0 +1,27 @@
+//! A program that makes calls of `scale_info` between marks, and prints what each did.
+//!
+//! Each line of the standard input is a call and its input.
+#![tactic(auto)]
+
+use std::test::Fail;
+use type_refusals_common::outcomes::{Outcome, print};
+use type_refusals_tables::calls;
+
+/// Makes the call of a line.
+fn outcome(rt: &HostRuntime, name: &str, input: &str) -> Result<Outcome, Fail> {
+    if let Some(outcome) = calls::call(rt, name, input)? {
+        return Ok(outcome);
+    }
+    Err(Fail::new("no call has this name"))
+}
+
+/// Makes the call of each line of the standard input, and prints what it did.
+fn main(rt: HostRuntime) -> Result<(), Fail> {
+    for line in rt.lines(rt.alloc()) {
+        let line = line?;
+        let (name, input) = line.as_str().split_once(' ').unwrap_or((line.as_str(), ""));
+        println!(rt; "{line}")?;
+        print(&rt, &outcome(&rt, name, input)?)?;
+    }
+    Ok(())
+}

@@ -1,0 +1,129 @@
+//! Types by their names, what they are described as, and a catalogue of them.
+use crate::own::{Bits, Mapping, Recursive};
+use scale_info::impls::{Compact, meta_type};
+use scale_info::meta_type::{Catalogue, Identified};
+use scale_info::{
+    Field, MetaType, Path, Type, TypeDef, TypeDefBitSequence, TypeDefMap, TypeDefVariant, TypeInfo,
+    TypeParameter, Variant,
+};
+use std::alloc::{AllocError, Global};
+use std::ops::Range;
+use std::test::Fail;
+
+/// A pair of `u32` and `bool`.
+pub type Pair = (u32, bool);
+
+/// The type of this name. There is one of each kind of definition.
+pub fn type_named(alloc: Global, name: &str) -> Result<MetaType, Fail> {
+    let ty = match name {
+        "u32" => meta_type::<u32>(alloc)?,
+        "Vec<u32>" => meta_type::<Vec<u32>>(alloc)?,
+        "[u8; 32]" => meta_type::<[u8; 32]>(alloc)?,
+        "(u32, bool)" => meta_type::<Pair>(alloc)?,
+        "Option<(u32, bool)>" => meta_type::<Option<Pair>>(alloc)?,
+        "Compact<u32>" => meta_type::<Compact<u32>>(alloc)?,
+        "Range<u8>" => meta_type::<Range<u8>>(alloc)?,
+        "Recursive" => meta_type::<Recursive>(alloc)?,
+        "Bits" => meta_type::<Bits>(alloc)?,
+        "Mapping" => meta_type::<Mapping>(alloc)?,
+        _ => return Err(Fail::new("no type has this name")),
+    };
+    Ok(ty)
+}
+
+/// What the type of this name is described as.
+pub fn description_named(alloc: Global, name: &str) -> Result<Type, Fail> {
+    let description = match name {
+        "u32" => <u32>::type_info(alloc)?,
+        "Vec<u32>" => <Vec<u32>>::type_info(alloc)?,
+        "[u8; 32]" => <[u8; 32]>::type_info(alloc)?,
+        "(u32, bool)" => <Pair>::type_info(alloc)?,
+        "Option<(u32, bool)>" => <Option<Pair>>::type_info(alloc)?,
+        "Compact<u32>" => <Compact<u32>>::type_info(alloc)?,
+        "Range<u8>" => <Range<u8>>::type_info(alloc)?,
+        "Recursive" => recursive(alloc)?,
+        "Bits" => Type::from_def(alloc, TypeDefBitSequence::new::<u8, u32>(alloc)?),
+        "Mapping" => mapping(alloc)?,
+        _ => return Err(Fail::new("no type has this name")),
+    };
+    Ok(description)
+}
+
+/// A map from `u32` to `bool`.
+fn mapping(alloc: Global) -> Result<Type, AllocError> {
+    let map = TypeDefMap::new(meta_type::<u32>(alloc)?, meta_type::<bool>(alloc)?);
+    Ok(Type::from_def(alloc, TypeDef::from(map)))
+}
+
+/// A field with a name, a name of its type, and docs.
+pub fn documented_field(alloc: Global) -> Result<Field, AllocError> {
+    let docs = vec![in alloc; "f", "g"]?;
+    let ty = meta_type::<Box<Recursive>>(alloc)?;
+    Ok(Field::new(Some("value"), ty, Some("Box<Recursive>"), docs))
+}
+
+/// A variant with a field and docs.
+pub fn documented_variant(alloc: Global) -> Result<Variant, AllocError> {
+    let fields = vec![in alloc; documented_field(alloc)?]?;
+    Ok(Variant::new("Value", fields, 7, vec![in alloc; "v"]?))
+}
+
+/// A skipped parameter, and one that is given `bool`.
+pub fn parameters(alloc: Global) -> Result<Vec<TypeParameter>, AllocError> {
+    let given = TypeParameter::new("T", Some(meta_type::<bool>(alloc)?));
+    Ok(vec![in alloc; TypeParameter::new("S", None), given]?)
+}
+
+/// The path `demo::Recursive`.
+pub fn demo_path(alloc: Global) -> Result<Path, AllocError> {
+    Path::from_segments_unchecked(alloc, vec![in alloc; "demo", "Recursive"]?)
+}
+
+/// An enum of itself, with docs of the type, of a variant and of its field.
+fn recursive(alloc: Global) -> Result<Type, AllocError> {
+    let variants = vec![in alloc; documented_variant(alloc)?]?;
+    let def = TypeDef::from(TypeDefVariant::from(variants));
+    let docs = vec![in alloc; "d", ""]?;
+    Type::new(alloc, demo_path(alloc)?, parameters(alloc)?, def, docs)
+}
+
+/// Adds the types that others refer to.
+fn add_plain(catalogue: &mut Catalogue) -> Result<(), Fail> {
+    catalogue.add::<bool>()?;
+    catalogue.add::<u8>()?;
+    catalogue.add::<u32>()?;
+    catalogue.add::<String>()?;
+    Ok(())
+}
+
+/// Adds standard types with arguments.
+fn add_generic(catalogue: &mut Catalogue) -> Result<(), Fail> {
+    catalogue.add::<Vec<u32>>()?;
+    catalogue.add::<[u8; 32]>()?;
+    catalogue.add::<Pair>()?;
+    catalogue.add::<Option<Pair>>()?;
+    catalogue.add::<Compact<u32>>()?;
+    catalogue.add::<Range<u8>>()?;
+    Ok(())
+}
+
+/// Adds what the program's own type of this name is described as.
+fn add_own<T: Identified>(
+    alloc: Global,
+    catalogue: &mut Catalogue,
+    name: &str,
+) -> Result<(), Fail> {
+    catalogue.add_described(T::type_id(alloc)?, description_named(alloc, name)?)?;
+    Ok(())
+}
+
+/// The catalogue of all types here.
+pub fn catalogue(alloc: Global) -> Result<Catalogue, Fail> {
+    let mut all = Catalogue::new(alloc);
+    add_plain(&mut all)?;
+    add_generic(&mut all)?;
+    add_own::<Recursive>(alloc, &mut all, "Recursive")?;
+    add_own::<Bits>(alloc, &mut all, "Bits")?;
+    add_own::<Mapping>(alloc, &mut all, "Mapping")?;
+    Ok(all)
+}

@@ -1,0 +1,64 @@
+//! Tables as JSON.
+use scale_info::{append_json, append_json_of, from_json, to_json};
+use std::alloc::Global;
+use std::fmt::Debug;
+use std::test::Fail;
+use type_refusals_common::answers::{Answer, encoded, failed};
+use type_refusals_common::inputs::{bytes_of, output, table_of};
+use type_refusals_common::marks::{begin, end};
+use type_refusals_common::outcomes::Outcome;
+
+/// The tree of a table.
+pub fn tree_of(rt: &HostRuntime, row: &str) -> Result<Outcome, Fail> {
+    let table = table_of(rt.alloc(), row)?;
+    begin(rt);
+    let returned = to_json(rt.alloc(), &table);
+    end(rt);
+    let answer = match returned {
+        Ok(tree) => Answer::Done(tree.to_string(rt.alloc())?),
+        Err(error) => failed(rt.alloc(), &error)?,
+    };
+    Ok(Outcome::of(answer))
+}
+
+/// The table of a tree.
+pub fn table_from(rt: &HostRuntime, row: &str) -> Result<Outcome, Fail> {
+    let tree = to_json(rt.alloc(), &table_of(rt.alloc(), row)?)?;
+    begin(rt);
+    let returned = from_json(rt.alloc(), &tree);
+    end(rt);
+    Ok(Outcome::of(encoded(rt.alloc(), returned)?))
+}
+
+/// The answer of written bytes, or of an error.
+fn written<E: Debug + Drop>(alloc: Global, returned: Result<Vec<u8>, E>) -> Result<Outcome, Fail> {
+    let answer = match returned {
+        Ok(bytes) => Answer::Done(hex::encode(alloc, bytes.as_slice())?),
+        Err(error) => failed(alloc, &error)?,
+    };
+    Ok(Outcome::of(answer))
+}
+
+/// The text of a table.
+pub fn text_of(rt: &HostRuntime, row: &str) -> Result<Outcome, Fail> {
+    let table = table_of(rt.alloc(), row)?;
+    let out = output(rt.alloc())?;
+    begin(rt);
+    let returned = append_json(&table, out);
+    end(rt);
+    written(rt.alloc(), returned)
+}
+
+/// The text of a table from its bytes.
+pub fn text_of_bytes(rt: &HostRuntime, row: &str) -> Result<Outcome, Fail> {
+    let bytes = bytes_of(rt.alloc(), row)?;
+    let out = output(rt.alloc())?;
+    begin(rt);
+    let returned = append_json_of(rt.alloc(), &bytes, out);
+    end(rt);
+    let text = match returned {
+        Ok((text, _)) => Ok(text),
+        Err(error) => Err(error),
+    };
+    written(rt.alloc(), text)
+}

@@ -1,0 +1,124 @@
+//! Walks over tables, and what is kept of them.
+use scale_info::walk::{Numbering, Refs, number, number_recursive};
+use scale_info::{PortableRegistry, RetainError, append_pruned, prune};
+use std::alloc::Global;
+use std::test::Fail;
+use type_refusals_common::answers::{Answer, digits, failed, shown};
+use type_refusals_common::inputs::{bytes_of, output, table_of};
+use type_refusals_common::marks::{begin, end};
+use type_refusals_common::outcomes::Outcome;
+
+/// Every second index of a table.
+fn chosen(alloc: Global, table: &PortableRegistry) -> Result<Vec<u32>, Fail> {
+    let mut ids = Vec::new(alloc);
+    for (id, _) in table.entries() {
+        if id % 2 == 0 {
+            ids.push(id)?;
+        }
+    }
+    Ok(ids)
+}
+
+/// Keeps what every second entry reaches.
+pub fn retain(rt: &HostRuntime, row: &str) -> Result<Outcome, Fail> {
+    let mut table = table_of(rt.alloc(), row)?;
+    let before = digits(rt.alloc(), &table)?;
+    let mut asked = 0usize;
+    begin(rt);
+    let returned = table.retain(rt.alloc(), |id| {
+        asked = asked.saturating_add(1);
+        id % 2 == 0
+    });
+    end(rt);
+    let after = digits(rt.alloc(), &table)?;
+    let mut outcome = Outcome::lending(before, after, shown(rt.alloc(), returned)?);
+    outcome.asked = Some(asked);
+    Ok(outcome)
+}
+
+/// Appends the table of what every second entry reaches, with the new ids.
+pub fn prune_bytes(rt: &HostRuntime, row: &str) -> Result<Outcome, Fail> {
+    let bytes = bytes_of(rt.alloc(), row)?;
+    let ids = chosen(rt.alloc(), &table_of(rt.alloc(), row)?)?;
+    let mut out = output(rt.alloc())?;
+    let before = hex::encode(rt.alloc(), out.as_slice())?;
+    begin(rt);
+    let returned = prune(rt.alloc(), &bytes, &ids, &mut out);
+    end(rt);
+    let after = hex::encode(rt.alloc(), out.as_slice())?;
+    Ok(Outcome::lending(before, after, shown(rt.alloc(), returned)?))
+}
+
+/// Appends the table of what every second entry reaches.
+pub fn append_pruned_bytes(rt: &HostRuntime, row: &str) -> Result<Outcome, Fail> {
+    let bytes = bytes_of(rt.alloc(), row)?;
+    let ids = chosen(rt.alloc(), &table_of(rt.alloc(), row)?)?;
+    let mut out = output(rt.alloc())?;
+    let before = hex::encode(rt.alloc(), out.as_slice())?;
+    begin(rt);
+    let returned = append_pruned(rt.alloc(), &bytes, &ids, &mut out);
+    end(rt);
+    let after = hex::encode(rt.alloc(), out.as_slice())?;
+    Ok(Outcome::lending(before, after, shown(rt.alloc(), returned)?))
+}
+
+/// The outcome of a walk.
+fn walked(alloc: Global, returned: Result<Numbering, RetainError>) -> Result<Outcome, Fail> {
+    let answer = match returned {
+        Ok(found) => {
+            let (order, steps) = (found.order, found.steps);
+            Answer::Done(format!(in alloc; "{order:?} in {steps} steps")?)
+        }
+        Err(error) => failed(alloc, &error)?,
+    };
+    Ok(Outcome::of(answer))
+}
+
+/// Numbers what every second entry reaches.
+pub fn number_table(rt: &HostRuntime, row: &str) -> Result<Outcome, Fail> {
+    let table = table_of(rt.alloc(), row)?;
+    let ids = chosen(rt.alloc(), &table)?;
+    begin(rt);
+    let returned = number(rt.alloc(), table.types(), &ids);
+    end(rt);
+    walked(rt.alloc(), returned)
+}
+
+/// Numbers what every second entry reaches, by a recursion.
+pub fn number_table_recursively(rt: &HostRuntime, row: &str) -> Result<Outcome, Fail> {
+    let table = table_of(rt.alloc(), row)?;
+    let ids = chosen(rt.alloc(), &table)?;
+    begin(rt);
+    let returned = number_recursive(rt.alloc(), table.types(), &ids);
+    end(rt);
+    walked(rt.alloc(), returned)
+}
+
+/// The references of the first description.
+fn all_of(alloc: Global, mut refs: Refs) -> Result<Vec<u32>, Fail> {
+    let mut ids = Vec::new(alloc);
+    for _ in 0..64 {
+        let mut steps = 0;
+        match refs.next(&mut steps) {
+            Some(id) => ids.push(id)?,
+            None => break,
+        }
+    }
+    Ok(ids)
+}
+
+/// Lists the references of the entry at index 0.
+pub fn refs_of(rt: &HostRuntime, row: &str) -> Result<Outcome, Fail> {
+    let table = table_of(rt.alloc(), row)?;
+    let Some(ty) = table.resolve(0) else {
+        return Err(Fail::new("the table is empty"));
+    };
+    begin(rt);
+    let returned = Refs::of(rt.alloc(), ty);
+    end(rt);
+    let ids = match returned {
+        Ok(refs) => Ok(all_of(rt.alloc(), refs)?),
+        Err(error) => Err(error),
+    };
+    Ok(Outcome::of(shown(rt.alloc(), ids)?))
+}
