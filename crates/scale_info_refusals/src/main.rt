@@ -5,11 +5,15 @@
 
 use std::test::Fail;
 use type_refusals_common::outcomes::{Outcome, print};
-use type_refusals_tables::calls;
+use type_refusals_parts::calls as calls_of_parts;
+use type_refusals_tables::calls as calls_of_tables;
 
 /// Makes the call of a line.
 fn outcome(rt: &HostRuntime, name: &str, input: &str) -> Result<Outcome, Fail> {
-    if let Some(outcome) = calls::call(rt, name, input)? {
+    if let Some(outcome) = calls_of_tables::call(rt, name, input)? {
+        return Ok(outcome);
+    }
+    if let Some(outcome) = calls_of_parts::call(rt, name, input)? {
         return Ok(outcome);
     }
     Err(Fail::new("no call has this name"))

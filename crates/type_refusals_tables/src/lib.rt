@@ -1,7 +1,13 @@
-//! Calls over bytes and tables, each made once between marks.
+//! Calls over bytes, tables and registries, each made once between marks.
 #![tactic(auto)]
 
+pub mod builders;
 pub mod bytes;
 pub mod calls;
+pub mod conversions;
 pub mod json;
+pub mod looks;
 pub mod prunings;
+pub mod registrations;
+pub mod registries;
+pub mod values;

@@ -1,0 +1,107 @@
+//! The calls of this library, by their names.
+use crate::{catalogues, constructors, copies, identities, interners, looks, moves, paths};
+use std::test::Fail;
+use type_refusals_common::outcomes::Outcome;
+
+/// Makes the call of this name; None if there is none.
+pub fn call(rt: &HostRuntime, name: &str, input: &str) -> Result<Option<Outcome>, Fail> {
+    let outcome = match name {
+        "type_id" => identities::type_id(rt, input)?,
+        "type_info" => identities::type_info(rt, input)?,
+        "MetaType::new" => identities::new(rt, input)?,
+        "meta_type" => identities::meta_type_of(rt, input)?,
+        "TypeDefSequence::of" => identities::sequence_of(rt, input)?,
+        "Catalogue::add" => catalogues::add(rt, input)?,
+        "add_described" => catalogues::add_described(rt, input)?,
+        "add_described_again" => catalogues::add_described_again(rt, input)?,
+        "look_at_catalogue" => catalogues::look(rt, input)?,
+        _ => return call_of_copies(rt, name, input),
+    };
+    Ok(Some(outcome))
+}
+
+/// Makes the call of this name that copies; None if there is none.
+fn call_of_copies(rt: &HostRuntime, name: &str, input: &str) -> Result<Option<Outcome>, Fail> {
+    let outcome = match name {
+        "try_clone_portable" => copies::portable_part(rt, input)?,
+        "try_clone_meta" => copies::meta_part(rt, input)?,
+        "MetaType::try_clone" => copies::meta_type(rt, input)?,
+        "TypeId::try_clone" => copies::identity(rt, input)?,
+        "Type::try_clone" => copies::meta_description(rt, input)?,
+        "TypeDef::try_clone" => copies::meta_definition(rt, input)?,
+        "try_clone_description" => copies::description(rt, input)?,
+        "try_clone_definition" => copies::definition(rt, input)?,
+        "Items::try_clone" => copies::list(rt, input)?,
+        "Form::copy" => copies::by_form(rt, input)?,
+        _ => return call_of_paths(rt, name, input),
+    };
+    Ok(Some(outcome))
+}
+
+/// Makes the call of this name that makes a path or a definition; None if there is none.
+fn call_of_paths(rt: &HostRuntime, name: &str, input: &str) -> Result<Option<Outcome>, Fail> {
+    let outcome = match name {
+        "Path::new" => paths::new(rt, input)?,
+        "Path::new_with_replace" => paths::new_with_replace(rt, input)?,
+        "Path::from_segments" => paths::from_segments(rt, input)?,
+        "Path::from_segments_unchecked" => paths::from_segments_unchecked(rt, input)?,
+        "Path::ident" => paths::ident(rt, input)?,
+        "intern_or_get" => interners::intern_or_get(rt, input)?,
+        "intern_or_get_known" => interners::intern_or_get(rt, input)?,
+        "look_at_interner" => interners::look(rt, input)?,
+        "truncate_interner" => interners::truncate(rt)?,
+        _ => return call_of_constructors(rt, name, input),
+    };
+    Ok(Some(outcome))
+}
+
+/// Makes the call of this name that makes a description; None if there is none.
+fn call_of_constructors(
+    rt: &HostRuntime,
+    name: &str,
+    input: &str,
+) -> Result<Option<Outcome>, Fail> {
+    let outcome = match name {
+        "Type::new" => constructors::description(rt, input)?,
+        "Type::new_portable" => constructors::portable_description(rt, input)?,
+        "TypeDefComposite::new" => constructors::composite(rt, input)?,
+        "TypeDefVariant::new" => constructors::variants(rt, input)?,
+        "TypeDefTuple::new" => constructors::tuple(rt, input)?,
+        "TypeDefTuple::new_portable" => constructors::portable_tuple(rt, input)?,
+        "TypeDefBitSequence::new" => constructors::bit_sequence(rt, input)?,
+        "look_at_description" => looks::description(rt, input)?,
+        "compare_descriptions" => looks::compare(rt, input)?,
+        "compare_types" => looks::types(rt, input)?,
+        "is_rust_identifier" => looks::identifier(rt, input)?,
+        "look_at" => look_at(rt, input)?,
+        "move_into" => move_into(rt, input)?,
+        _ => return Ok(None),
+    };
+    Ok(Some(outcome))
+}
+
+/// Asks a part of a description for its parts.
+fn look_at(rt: &HostRuntime, kind: &str) -> Result<Outcome, Fail> {
+    match kind {
+        "field" => looks::field(rt),
+        "variant" => looks::variant(rt),
+        "path" => looks::path(rt),
+        _ => Err(Fail::new("no kind has this name")),
+    }
+}
+
+/// Makes a value of this kind.
+fn move_into(rt: &HostRuntime, kind: &str) -> Result<Outcome, Fail> {
+    match kind {
+        "field" => moves::field(rt),
+        "variant" => moves::variant(rt),
+        "parameter" => moves::parameter(rt),
+        "entry" => moves::entry(rt),
+        "definitions" => moves::definitions(rt),
+        "lists" => moves::lists(rt),
+        "identity" => moves::identity(rt),
+        "empty parts" => moves::empty_parts(rt),
+        "empty collections" => moves::empty_collections(rt),
+        _ => Err(Fail::new("no kind has this name")),
+    }
+}

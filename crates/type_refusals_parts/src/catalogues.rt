@@ -1,0 +1,90 @@
+//! Catalogues, to which descriptions are added.
+use scale_info::impls::Compact;
+use scale_info::meta_type::{Catalogue, Identified};
+use scale_info::{TypeId, TypeInfo};
+use std::alloc::Global;
+use std::ops::Range;
+use std::test::Fail;
+use type_refusals_common::answers::{Answer, shown};
+use type_refusals_common::marks::{begin, end};
+use type_refusals_common::outcomes::Outcome;
+use type_refusals_common::own::Missing;
+use type_refusals_common::types::{Pair, catalogue, description_named, type_named};
+
+/// A catalogue of `u8`.
+fn catalogue_of_u8(alloc: Global) -> Result<Catalogue, Fail> {
+    let mut known = Catalogue::new(alloc);
+    known.add::<u8>()?;
+    Ok(known)
+}
+
+/// How many descriptions a catalogue has, and whether it has one of this identity and of `u8`.
+fn state(alloc: Global, known: &Catalogue, identity: &TypeId) -> Result<String, Fail> {
+    let (len, new) = (known.len(), known.get(identity).is_some());
+    let old = known.get(&<u8>::type_id(alloc)?).is_some();
+    Ok(format!(in alloc; "{len} {new} {old}")?)
+}
+
+/// Adds a type.
+fn add_of<T: TypeInfo>(rt: &HostRuntime) -> Result<Outcome, Fail> {
+    let mut known = catalogue_of_u8(rt.alloc())?;
+    let identity = T::Identity::type_id(rt.alloc())?;
+    let before = state(rt.alloc(), &known, &identity)?;
+    begin(rt);
+    let returned = known.add::<T>();
+    end(rt);
+    let after = state(rt.alloc(), &known, &identity)?;
+    Ok(Outcome::lending(before, after, shown(rt.alloc(), returned)?))
+}
+
+/// Adds the type of this name.
+pub fn add(rt: &HostRuntime, name: &str) -> Result<Outcome, Fail> {
+    match name {
+        "u32" => add_of::<u32>(rt),
+        "Vec<u32>" => add_of::<Vec<u32>>(rt),
+        "[u8; 32]" => add_of::<[u8; 32]>(rt),
+        "(u32, bool)" => add_of::<Pair>(rt),
+        "Option<(u32, bool)>" => add_of::<Option<Pair>>(rt),
+        "Compact<u32>" => add_of::<Compact<u32>>(rt),
+        "Range<u8>" => add_of::<Range<u8>>(rt),
+        _ => Err(Fail::new("no type has this name")),
+    }
+}
+
+/// Adds the description of this name under an identity, and says what is lent and returned.
+fn add_to(rt: &HostRuntime, mut known: Catalogue, name: &str) -> Result<Outcome, Fail> {
+    let identity = Missing::type_id(rt.alloc())?;
+    let description = description_named(rt.alloc(), name)?;
+    let before = state(rt.alloc(), &known, &identity)?;
+    let given = Missing::type_id(rt.alloc())?;
+    begin(rt);
+    let returned = known.add_described(given, description);
+    end(rt);
+    let after = state(rt.alloc(), &known, &identity)?;
+    Ok(Outcome::lending(before, after, shown(rt.alloc(), returned)?))
+}
+
+/// Adds the description of this name under a new identity.
+pub fn add_described(rt: &HostRuntime, name: &str) -> Result<Outcome, Fail> {
+    let known = catalogue_of_u8(rt.alloc())?;
+    add_to(rt, known, name)
+}
+
+/// Adds the description of this name under an identity that has it.
+pub fn add_described_again(rt: &HostRuntime, name: &str) -> Result<Outcome, Fail> {
+    let mut known = catalogue_of_u8(rt.alloc())?;
+    let identity = Missing::type_id(rt.alloc())?;
+    known.add_described(identity, description_named(rt.alloc(), name)?)?;
+    add_to(rt, known, name)
+}
+
+/// Looks a type up.
+pub fn look(rt: &HostRuntime, name: &str) -> Result<Outcome, Fail> {
+    let known = catalogue(rt.alloc())?;
+    let ty = type_named(rt.alloc(), name)?;
+    begin(rt);
+    let found = ty.type_info(&known).is_some();
+    let (same, len) = (known.get(ty.type_id()).is_some(), known.len());
+    end(rt);
+    Ok(Outcome::of(Answer::Done(format!(in rt.alloc(); "{found} {same} {len}")?)))
+}

@@ -1,0 +1,73 @@
+//! Interners of texts.
+use scale_info::Text;
+use scale_info::interner::{InternError, Interner, UntrackedSymbol};
+use std::alloc::Global;
+use std::test::Fail;
+use type_refusals_common::answers::{Answer, shown};
+use type_refusals_common::marks::{begin, end};
+use type_refusals_common::outcomes::Outcome;
+use type_vectors_common::parts::text;
+
+/// The interner of four texts.
+fn interner(alloc: Global) -> Result<Interner<Text>, Fail> {
+    let mut texts = Interner::new(alloc);
+    for chars in ["Hello", ", World!", "", "1 2 3"] {
+        texts.intern_or_get(text(alloc, chars)?)?;
+    }
+    Ok(texts)
+}
+
+/// The elements of an interner.
+fn state(alloc: Global, texts: &Interner<Text>) -> Result<String, Fail> {
+    let elements = texts.elements();
+    Ok(format!(in alloc; "{elements:?}")?)
+}
+
+/// Whether the element is new, and its number.
+fn numbered(
+    returned: Result<(bool, UntrackedSymbol<Text>), InternError>,
+) -> Result<(bool, u32), InternError> {
+    match returned {
+        Ok((is_new, symbol)) => Ok((is_new, symbol.id())),
+        Err(error) => Err(error),
+    }
+}
+
+/// Interns a text.
+pub fn intern_or_get(rt: &HostRuntime, chars: &str) -> Result<Outcome, Fail> {
+    let mut texts = interner(rt.alloc())?;
+    let value = text(rt.alloc(), chars)?;
+    let before = state(rt.alloc(), &texts)?;
+    begin(rt);
+    let returned = texts.intern_or_get(value);
+    end(rt);
+    let after = state(rt.alloc(), &texts)?;
+    Ok(Outcome::lending(before, after, shown(rt.alloc(), numbered(returned))?))
+}
+
+/// Looks a text up, and what its symbol stands for.
+pub fn look(rt: &HostRuntime, chars: &str) -> Result<Outcome, Fail> {
+    let (texts, value) = (interner(rt.alloc())?, text(rt.alloc(), chars)?);
+    let other = interner(rt.alloc())?;
+    begin(rt);
+    let id = texts.get(&value).map(|symbol| symbol.into_untracked().id());
+    let found = match texts.get(&value) {
+        Some(symbol) => other.resolve(symbol).is_some(),
+        None => false,
+    };
+    let (len, same) = (texts.elements().len(), texts == other);
+    end(rt);
+    Ok(Outcome::of(Answer::Done(format!(in rt.alloc(); "{id:?} {found} {len} {same}")?)))
+}
+
+/// Keeps the first two texts.
+pub fn truncate(rt: &HostRuntime) -> Result<Outcome, Fail> {
+    let mut texts = interner(rt.alloc())?;
+    let before = state(rt.alloc(), &texts)?;
+    begin(rt);
+    texts.truncate(2);
+    end(rt);
+    let after = state(rt.alloc(), &texts)?;
+    let answer = Answer::Done(format!(in rt.alloc(); "truncated")?);
+    Ok(Outcome::lending(before, after, answer))
+}

@@ -1,0 +1,12 @@
+//! Calls over types of a program and over parts of descriptions, each made once between marks.
+#![tactic(auto)]
+
+pub mod calls;
+pub mod catalogues;
+pub mod constructors;
+pub mod copies;
+pub mod identities;
+pub mod interners;
+pub mod looks;
+pub mod moves;
+pub mod paths;

@@ -1,0 +1,90 @@
+//! Getters, comparisons and hashes, which do not allocate.
+use scale_info::utils::is_rust_identifier;
+use std::hash::{FoldHasher, Hash, Hasher};
+use std::test::Fail;
+use type_refusals_common::answers::Answer;
+use type_refusals_common::marks::{begin, end};
+use type_refusals_common::outcomes::Outcome;
+use type_refusals_common::types::{description_named, type_named};
+use type_vectors_common::parts;
+
+/// The outcome that this text shows.
+fn seen(text: String) -> Outcome {
+    Outcome::of(Answer::Done(text))
+}
+
+/// Asks a field for its parts.
+pub fn field(rt: &HostRuntime) -> Result<Outcome, Fail> {
+    let field = parts::field(rt.alloc(), Some("n"), 3, Some("N"), &["d", ""])?;
+    begin(rt);
+    let names = (field.name().is_some(), field.type_name().is_some());
+    let (id, lines) = (field.ty().id(), field.docs().len());
+    end(rt);
+    Ok(seen(format!(in rt.alloc(); "{names:?} {id} {lines}")?))
+}
+
+/// Asks a variant for its parts.
+pub fn variant(rt: &HostRuntime) -> Result<Outcome, Fail> {
+    let variant = parts::variant(rt.alloc(), "V", &[1, 2], 255, &["v"])?;
+    begin(rt);
+    let (len, index) = (variant.name().len(), variant.index());
+    let (fields, lines) = (variant.fields().len(), variant.docs().len());
+    end(rt);
+    Ok(seen(format!(in rt.alloc(); "{len} {index} {fields} {lines}")?))
+}
+
+/// Asks a path for its parts.
+pub fn path(rt: &HostRuntime) -> Result<Outcome, Fail> {
+    let path = parts::path(rt.alloc(), &["hello", "world", "Planet"])?;
+    begin(rt);
+    let (segments, modules) = (path.segments().len(), path.namespace().len());
+    let is_empty = path.is_empty();
+    end(rt);
+    Ok(seen(format!(in rt.alloc(); "{segments} {modules} {is_empty}")?))
+}
+
+/// Asks the description of this name for its parts.
+pub fn description(rt: &HostRuntime, name: &str) -> Result<Outcome, Fail> {
+    let ty = description_named(rt.alloc(), name)?;
+    begin(rt);
+    let (is_empty, params) = (ty.path().is_empty(), ty.type_params().len());
+    let lines = ty.docs().len();
+    end(rt);
+    Ok(seen(format!(in rt.alloc(); "{is_empty} {params} {lines}")?))
+}
+
+/// Compares descriptions.
+pub fn compare(rt: &HostRuntime, name: &str) -> Result<Outcome, Fail> {
+    let (left, right) = (
+        description_named(rt.alloc(), name)?,
+        description_named(rt.alloc(), name)?,
+    );
+    let other = description_named(rt.alloc(), "(u32, bool)")?;
+    begin(rt);
+    let (same, order) = (left == right, left.cmp(&other));
+    end(rt);
+    Ok(seen(format!(in rt.alloc(); "{same} {order:?}")?))
+}
+
+/// Compares and hashes types.
+pub fn types(rt: &HostRuntime, name: &str) -> Result<Outcome, Fail> {
+    let (left, right) = (
+        type_named(rt.alloc(), name)?,
+        type_named(rt.alloc(), "u32")?,
+    );
+    let mut hasher = FoldHasher::default();
+    begin(rt);
+    let (same, order) = (left == right, left.type_id().cmp(right.type_id()));
+    left.hash(&mut hasher);
+    let hash = hasher.finish();
+    end(rt);
+    Ok(seen(format!(in rt.alloc(); "{same} {order:?} {hash}")?))
+}
+
+/// Tells an identifier.
+pub fn identifier(rt: &HostRuntime, text: &str) -> Result<Outcome, Fail> {
+    begin(rt);
+    let is_identifier = is_rust_identifier(text);
+    end(rt);
+    Ok(seen(format!(in rt.alloc(); "{is_identifier}")?))
+}

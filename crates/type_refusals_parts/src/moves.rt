@@ -1,0 +1,122 @@
+//! Constructors that move what they are given, or make something empty. None allocates.
+use scale_info::form::PortableForm;
+use scale_info::interner::Interner;
+use scale_info::meta_type::Catalogue;
+use scale_info::walk::Refs;
+use scale_info::{
+    Field, Items, Path, PortableRegistryBuilder, PortableType, Registry, Text, Type, TypeDef,
+    TypeDefArray, TypeDefCompact, TypeDefMap, TypeDefPrimitive, TypeId, TypeParameter, Variant,
+};
+use std::test::Fail;
+use type_refusals_common::answers::{Answer, digits};
+use type_refusals_common::marks::{begin, end};
+use type_refusals_common::outcomes::Outcome;
+use type_vectors_common::parts;
+
+/// The outcome that this text shows.
+fn seen(text: String) -> Outcome {
+    Outcome::of(Answer::Done(text))
+}
+
+/// Makes a field.
+pub fn field(rt: &HostRuntime) -> Result<Outcome, Fail> {
+    let (name, docs) = (
+        parts::text(rt.alloc(), "n")?,
+        parts::texts(rt.alloc(), &["d"])?,
+    );
+    begin(rt);
+    let made = Field::<PortableForm>::new(Some(name), parts::id(3), None, docs);
+    end(rt);
+    Ok(seen(digits(rt.alloc(), &made)?))
+}
+
+/// Makes a variant.
+pub fn variant(rt: &HostRuntime) -> Result<Outcome, Fail> {
+    let (name, docs) = (
+        parts::text(rt.alloc(), "V")?,
+        parts::texts(rt.alloc(), &["v"])?,
+    );
+    let fields = parts::unnamed_fields(rt.alloc(), &[1, 2])?;
+    begin(rt);
+    let made = Variant::<PortableForm>::new(name, fields, 7, docs);
+    end(rt);
+    Ok(seen(digits(rt.alloc(), &made)?))
+}
+
+/// Makes a parameter and an entry.
+pub fn parameter(rt: &HostRuntime) -> Result<Outcome, Fail> {
+    let name = parts::text(rt.alloc(), "T")?;
+    begin(rt);
+    let made = TypeParameter::new_portable(name, Some(parts::id(7)));
+    end(rt);
+    Ok(seen(digits(rt.alloc(), &made)?))
+}
+
+/// Makes an entry whose description has a definition alone.
+pub fn entry(rt: &HostRuntime) -> Result<Outcome, Fail> {
+    begin(rt);
+    let made = PortableType::new(9, Type::from_def(rt.alloc(), parts::sequence(2)));
+    end(rt);
+    Ok(seen(digits(rt.alloc(), &made)?))
+}
+
+/// Makes definitions.
+pub fn definitions(rt: &HostRuntime) -> Result<Outcome, Fail> {
+    begin(rt);
+    let array: TypeDef<PortableForm> = TypeDef::from(TypeDefArray::new(32, parts::id(1)));
+    let compact: TypeDef<PortableForm> = TypeDef::from(TypeDefCompact::new(parts::id(1)));
+    let map: TypeDef<PortableForm> = TypeDef::from(TypeDefMap::new(parts::id(1), parts::id(2)));
+    let primitive: TypeDef<PortableForm> = TypeDef::from(TypeDefPrimitive::U8);
+    end(rt);
+    let (array, compact) = (digits(rt.alloc(), &array)?, digits(rt.alloc(), &compact)?);
+    let (map, primitive) = (digits(rt.alloc(), &map)?, digits(rt.alloc(), &primitive)?);
+    Ok(seen(format!(in rt.alloc(); "{array} {compact} {map} {primitive}")?))
+}
+
+/// Turns a list and a text into those of this library, and back.
+pub fn lists(rt: &HostRuntime) -> Result<Outcome, Fail> {
+    let (list, text) = (
+        vec![in rt.alloc(); 7u32, 8]?,
+        String::from_str(rt.alloc(), "a text")?,
+    );
+    begin(rt);
+    let list = Items::from(list).into_vec();
+    let text = Text::from(text).into_string();
+    end(rt);
+    Ok(seen(format!(in rt.alloc(); "{list:?} {text}")?))
+}
+
+/// Makes an identity.
+pub fn identity(rt: &HostRuntime) -> Result<Outcome, Fail> {
+    let nums = vec![in rt.alloc(); 4usize]?;
+    begin(rt);
+    let made = TypeId::new("array", nums, Vec::new(rt.alloc()));
+    end(rt);
+    Ok(seen(format!(in rt.alloc(); "{made:?}")?))
+}
+
+/// Makes empty lists, an empty path and a list of references.
+pub fn empty_parts(rt: &HostRuntime) -> Result<Outcome, Fail> {
+    begin(rt);
+    let path = Path::<PortableForm>::empty(rt.alloc());
+    let items = Items::<u32>::new(rt.alloc());
+    let mut refs = Refs::new(rt.alloc());
+    let mut steps = 0;
+    let first = refs.next(&mut steps);
+    end(rt);
+    let (is_empty, len) = (path.is_empty(), items.len());
+    Ok(seen(format!(in rt.alloc(); "{is_empty} {len} {first:?}")?))
+}
+
+/// Makes an empty registry, catalogue, interner and builder of a table.
+pub fn empty_collections(rt: &HostRuntime) -> Result<Outcome, Fail> {
+    begin(rt);
+    let registry = Registry::new(rt.alloc());
+    let catalogue = Catalogue::new(rt.alloc());
+    let interner = Interner::<u32>::new(rt.alloc());
+    let builder = PortableRegistryBuilder::new(rt.alloc());
+    end(rt);
+    let (types, described) = (registry.types().count(), catalogue.len());
+    let (elements, next) = (interner.elements().len(), builder.next_type_id());
+    Ok(seen(format!(in rt.alloc(); "{types} {described} {elements} {next}")?))
+}

@@ -1,0 +1,132 @@
+//! Registrations of types of a program.
+use crate::registries::{descriptions, listed, registry_of, registry_of_u8, state};
+use scale_info::export::{Exported, export};
+use scale_info::meta_type::Catalogue;
+use scale_info::{IntoPortable, MetaType, PortableRegistry, Scale, tuple_meta_type};
+use std::alloc::Global;
+use std::test::Fail;
+use type_refusals_common::answers::{Answer, encoded, failed};
+use type_refusals_common::inputs::output;
+use type_refusals_common::marks::{begin, end};
+use type_refusals_common::outcomes::Outcome;
+use type_refusals_common::types::{catalogue, documented_field, type_named};
+
+/// Registers a type.
+pub fn register_type(rt: &HostRuntime, name: &str) -> Result<Outcome, Fail> {
+    let known = catalogue(rt.alloc())?;
+    let mut registry = registry_of_u8(rt.alloc(), &known)?;
+    let ty = type_named(rt.alloc(), name)?;
+    let before = state(rt.alloc(), &registry, &known)?;
+    begin(rt);
+    let returned = registry.register_type(&ty, &known);
+    end(rt);
+    let after = state(rt.alloc(), &registry, &known)?;
+    Ok(Outcome::lending(before, after, encoded(rt.alloc(), returned)?))
+}
+
+/// Registers a type that the registry has, under a catalogue without descriptions.
+pub fn register_known_type(rt: &HostRuntime, name: &str) -> Result<Outcome, Fail> {
+    let mut registry = registry_of(rt.alloc(), &catalogue(rt.alloc())?, name)?;
+    let (ty, nothing) = (type_named(rt.alloc(), name)?, Catalogue::new(rt.alloc()));
+    let before = descriptions(rt.alloc(), &registry)?;
+    begin(rt);
+    let returned = registry.register_type(&ty, &nothing);
+    end(rt);
+    let after = descriptions(rt.alloc(), &registry)?;
+    Ok(Outcome::lending(before, after, encoded(rt.alloc(), returned)?))
+}
+
+/// `bool`, the type of this name, and `String`.
+fn three(alloc: Global, name: &str) -> Result<Vec<MetaType>, Fail> {
+    let mut types = tuple_meta_type!(alloc; bool)?;
+    types.push(type_named(alloc, name)?)?;
+    types.push(MetaType::new::<String>(alloc)?)?;
+    Ok(types)
+}
+
+/// Registers three types.
+pub fn register_types(rt: &HostRuntime, name: &str) -> Result<Outcome, Fail> {
+    let known = catalogue(rt.alloc())?;
+    let mut registry = registry_of_u8(rt.alloc(), &known)?;
+    let types = three(rt.alloc(), name)?;
+    let before = state(rt.alloc(), &registry, &known)?;
+    begin(rt);
+    let returned = registry.register_types(types, &known);
+    end(rt);
+    let after = state(rt.alloc(), &registry, &known)?;
+    Ok(Outcome::lending(before, after, encoded(rt.alloc(), listed(returned))?))
+}
+
+/// Converts two fields.
+pub fn map_into_portable(rt: &HostRuntime) -> Result<Outcome, Fail> {
+    let known = catalogue(rt.alloc())?;
+    let mut registry = registry_of_u8(rt.alloc(), &known)?;
+    let fields = vec![in rt.alloc();
+        documented_field(rt.alloc())?,
+        documented_field(rt.alloc())?,
+    ]?;
+    let before = state(rt.alloc(), &registry, &known)?;
+    begin(rt);
+    let returned = registry.map_into_portable(fields, &known);
+    end(rt);
+    let after = state(rt.alloc(), &registry, &known)?;
+    Ok(Outcome::lending(before, after, encoded(rt.alloc(), listed(returned))?))
+}
+
+/// Converts a value.
+pub fn into_portable<T: IntoPortable + Drop>(rt: &HostRuntime, value: T) -> Result<Outcome, Fail>
+where
+    T::Output: Scale,
+{
+    let known = catalogue(rt.alloc())?;
+    let mut registry = registry_of_u8(rt.alloc(), &known)?;
+    let before = descriptions(rt.alloc(), &registry)?;
+    begin(rt);
+    let returned = value.into_portable(&mut registry, &known);
+    end(rt);
+    let after = descriptions(rt.alloc(), &registry)?;
+    Ok(Outcome::lending(before, after, encoded(rt.alloc(), returned)?))
+}
+
+/// Makes the table of a registry.
+pub fn from_registry(rt: &HostRuntime, name: &str) -> Result<Outcome, Fail> {
+    let registry = registry_of(rt.alloc(), &catalogue(rt.alloc())?, name)?;
+    begin(rt);
+    let returned = PortableRegistry::from_registry(rt.alloc(), &registry);
+    end(rt);
+    Ok(Outcome::of(encoded(rt.alloc(), returned)?))
+}
+
+/// The ids and the map of what was written.
+fn written(alloc: Global, exported: Exported) -> Result<Answer, Fail> {
+    let (ids, map) = (exported.ids, exported.map);
+    Ok(Answer::Done(format!(in alloc; "{ids:?} {map:?}")?))
+}
+
+/// Writes what the second of three types reaches.
+pub fn export_types(rt: &HostRuntime, name: &str) -> Result<Outcome, Fail> {
+    let known = catalogue(rt.alloc())?;
+    let types = three(rt.alloc(), name)?;
+    let mut out = output(rt.alloc())?;
+    let before = hex::encode(rt.alloc(), out.as_slice())?;
+    let mut asked = 0usize;
+    begin(rt);
+    let returned = export(
+        &known,
+        &types,
+        |id| {
+            asked = asked.saturating_add(1);
+            id == 1
+        },
+        &mut out,
+    );
+    end(rt);
+    let after = hex::encode(rt.alloc(), out.as_slice())?;
+    let answer = match returned {
+        Ok(exported) => written(rt.alloc(), exported)?,
+        Err(error) => failed(rt.alloc(), &error)?,
+    };
+    let mut outcome = Outcome::lending(before, after, answer);
+    outcome.asked = Some(asked);
+    Ok(outcome)
+}

@@ -1,0 +1,48 @@
+//! Registries, and what they show.
+use scale_info::meta_type::Catalogue;
+use scale_info::{Items, MetaType, Registry};
+use std::alloc::Global;
+use std::test::Fail;
+use type_refusals_common::answers::digits;
+use type_refusals_common::types::type_named;
+
+/// The registry of `u8` and of the type of this name.
+pub fn registry_of(alloc: Global, known: &Catalogue, name: &str) -> Result<Registry, Fail> {
+    let mut registry = Registry::new(alloc);
+    registry.register_type(&MetaType::new::<u8>(alloc)?, known)?;
+    registry.register_type(&type_named(alloc, name)?, known)?;
+    Ok(registry)
+}
+
+/// The registry of `u8`.
+pub fn registry_of_u8(alloc: Global, known: &Catalogue) -> Result<Registry, Fail> {
+    let mut registry = Registry::new(alloc);
+    registry.register_type(&MetaType::new::<u8>(alloc)?, known)?;
+    Ok(registry)
+}
+
+/// The encodings of a registry's descriptions, in order.
+pub fn descriptions(alloc: Global, registry: &Registry) -> Result<String, Fail> {
+    let mut text = String::new(alloc);
+    for (_, ty) in registry.types() {
+        text.push_str(digits(alloc, ty)?.as_str())?;
+        text.push_str(" ")?;
+    }
+    Ok(text)
+}
+
+/// What shows a registry: its descriptions, and whether it equals one that is made anew.
+pub fn state(alloc: Global, registry: &Registry, known: &Catalogue) -> Result<String, Fail> {
+    let is_anew = *registry == registry_of_u8(alloc, known)?;
+    let mut text = descriptions(alloc, registry)?;
+    text.push_str(if is_anew { "as made anew" } else { "changed" })?;
+    Ok(text)
+}
+
+/// The values of a list, where there is one.
+pub fn listed<T, E>(returned: Result<Vec<T>, E>) -> Result<Items<T>, E> {
+    match returned {
+        Ok(all) => Ok(Items::from(all)),
+        Err(error) => Err(error),
+    }
+}

@@ -1,0 +1,67 @@
+//! Values that are decoded by a table.
+use scale_info::PortableRegistry;
+use scale_info::value::{Dyn, decode_value};
+use scale_info_value_callers::print::print_decoded;
+use std::alloc::Global;
+use std::test::Fail;
+use type_refusals_common::answers::{Answer, failed};
+use type_refusals_common::marks::{begin, end};
+use type_refusals_common::outcomes::Outcome;
+use type_vectors_common::rows::row_bytes;
+
+/// Values of the type at index 0. A row is a name, a colon, a table, a semicolon and an input.
+const VALUES: &str = "\
+u32: 04 000000050500; 01020304
+str: 04 000000050200; 086869ff
+Vec<u32>: 08 000000020400 040000050500; 080100000002000000ff
+Vec<u32> cut short: 08 000000020400 040000050500; 08010000000200
+[u8; 3]: 08 000000030300000004 00 040000050300; 010203
+Range<u8>: 08 00041452616e6765040c496478010400080114737461727404010c49647800010c656e6404010c496478 \
+    0000 040000050300; 0305
+(u64,): 08 00000004040400 040000050600; 0102030405060708
+Compact<u32>: 08 000000060400 040000050500; 1501
+map: 0c 00000008040800 040000050500 080000050000; 040700000001
+recursive enum: 04 00081064656d6f245265637572736976650001081456616c75650400000000000014456d707479 \
+    00010000; 00000001
+";
+
+/// The table and the input of the row of this name.
+fn row(alloc: Global, name: &str) -> Result<(PortableRegistry, Vec<u8>), Fail> {
+    for line in VALUES.lines() {
+        let (found, rest) = line.split_once(':').unwrap_or((line, ""));
+        if found == name {
+            let (table, input) = rest.split_once(';').unwrap_or((rest, ""));
+            let (table, _) = PortableRegistry::decode(alloc, &row_bytes(alloc, table)?)?;
+            return Ok((table, row_bytes(alloc, input)?));
+        }
+    }
+    Err(Fail::new("no value has this name"))
+}
+
+/// How a value that was decoded is printed, and whether another decoding gives it too.
+fn printed(
+    alloc: Global,
+    table: &PortableRegistry,
+    input: &[u8],
+    value: &Dyn,
+) -> Result<Answer, Fail> {
+    let mut text = Vec::new(alloc);
+    let rest = print_decoded(alloc, table, 0, input, &mut text)?;
+    let (again, _) = decode_value(alloc, table, 0, input)?;
+    let digits = hex::encode(alloc, text.as_slice())?;
+    let is_same = again == *value;
+    Ok(Answer::Done(format!(in alloc; "{digits} {rest:?} {is_same}")?))
+}
+
+/// Decodes the value of a row.
+pub fn decode(rt: &HostRuntime, name: &str) -> Result<Outcome, Fail> {
+    let (table, input) = row(rt.alloc(), name)?;
+    begin(rt);
+    let returned = decode_value(rt.alloc(), &table, 0, &input);
+    end(rt);
+    let answer = match returned {
+        Ok((value, _)) => printed(rt.alloc(), &table, &input, &value)?,
+        Err(error) => failed(rt.alloc(), &error)?,
+    };
+    Ok(Outcome::of(answer))
+}
