@@ -4,6 +4,7 @@
 #![tactic(auto)]
 
 use std::test::Fail;
+use type_refusals_build::calls as calls_of_builders;
 use type_refusals_common::outcomes::{Outcome, print};
 use type_refusals_parts::calls as calls_of_parts;
 use type_refusals_tables::calls as calls_of_tables;
@@ -14,6 +15,9 @@ fn outcome(rt: &HostRuntime, name: &str, input: &str) -> Result<Outcome, Fail> {
         return Ok(outcome);
     }
     if let Some(outcome) = calls_of_parts::call(rt, name, input)? {
+        return Ok(outcome);
+    }
+    if let Some(outcome) = calls_of_builders::call(rt, name, input)? {
         return Ok(outcome);
     }
     Err(Fail::new("no call has this name"))

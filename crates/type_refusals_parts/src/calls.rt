@@ -13,6 +13,7 @@ pub fn call(rt: &HostRuntime, name: &str, input: &str) -> Result<Option<Outcome>
         "TypeDefSequence::of" => identities::sequence_of(rt, input)?,
         "Catalogue::add" => catalogues::add(rt, input)?,
         "add_described" => catalogues::add_described(rt, input)?,
+        "add_first_described" => catalogues::add_first_described(rt, input)?,
         "add_described_again" => catalogues::add_described_again(rt, input)?,
         "look_at_catalogue" => catalogues::look(rt, input)?,
         _ => return call_of_copies(rt, name, input),

@@ -2,7 +2,7 @@
 use scale_info::impls::Compact;
 use scale_info::meta_type::{Catalogue, Identified};
 use scale_info::{TypeId, TypeInfo};
-use std::alloc::Global;
+use std::alloc::{AllocError, Global};
 use std::ops::Range;
 use std::test::Fail;
 use type_refusals_common::answers::{Answer, shown};
@@ -11,23 +11,36 @@ use type_refusals_common::outcomes::Outcome;
 use type_refusals_common::own::Missing;
 use type_refusals_common::types::{Pair, catalogue, description_named, type_named};
 
-/// A catalogue of `u8`.
-fn catalogue_of_u8(alloc: Global) -> Result<Catalogue, Fail> {
+/// The identity of this number.
+fn numbered(alloc: Global, number: usize) -> Result<TypeId, AllocError> {
+    Ok(TypeId::new("demo::Numbered", vec![in alloc; number]?, Vec::new(alloc)))
+}
+
+/// A catalogue of eleven descriptions, whose map needs room for one more.
+fn eleven(alloc: Global) -> Result<Catalogue, Fail> {
     let mut known = Catalogue::new(alloc);
-    known.add::<u8>()?;
+    for number in 0..11 {
+        known.add_described(numbered(alloc, number)?, description_named(alloc, "u32")?)?;
+    }
     Ok(known)
 }
 
-/// How many descriptions a catalogue has, and whether it has one of this identity and of `u8`.
+/// How many descriptions a catalogue has, whether it has one of this identity, and how many of the
+/// eleven it has.
 fn state(alloc: Global, known: &Catalogue, identity: &TypeId) -> Result<String, Fail> {
     let (len, new) = (known.len(), known.get(identity).is_some());
-    let old = known.get(&<u8>::type_id(alloc)?).is_some();
-    Ok(format!(in alloc; "{len} {new} {old}")?)
+    let mut kept = 0u32;
+    for number in 0..11 {
+        if known.get(&numbered(alloc, number)?).is_some() {
+            kept = kept.saturating_add(1);
+        }
+    }
+    Ok(format!(in alloc; "{len} {new} {kept}")?)
 }
 
 /// Adds a type.
 fn add_of<T: TypeInfo>(rt: &HostRuntime) -> Result<Outcome, Fail> {
-    let mut known = catalogue_of_u8(rt.alloc())?;
+    let mut known = eleven(rt.alloc())?;
     let identity = T::Identity::type_id(rt.alloc())?;
     let before = state(rt.alloc(), &known, &identity)?;
     begin(rt);
@@ -66,13 +79,18 @@ fn add_to(rt: &HostRuntime, mut known: Catalogue, name: &str) -> Result<Outcome,
 
 /// Adds the description of this name under a new identity.
 pub fn add_described(rt: &HostRuntime, name: &str) -> Result<Outcome, Fail> {
-    let known = catalogue_of_u8(rt.alloc())?;
+    let known = eleven(rt.alloc())?;
     add_to(rt, known, name)
+}
+
+/// Adds the description of this name to an empty catalogue.
+pub fn add_first_described(rt: &HostRuntime, name: &str) -> Result<Outcome, Fail> {
+    add_to(rt, Catalogue::new(rt.alloc()), name)
 }
 
 /// Adds the description of this name under an identity that has it.
 pub fn add_described_again(rt: &HostRuntime, name: &str) -> Result<Outcome, Fail> {
-    let mut known = catalogue_of_u8(rt.alloc())?;
+    let mut known = eleven(rt.alloc())?;
     let identity = Missing::type_id(rt.alloc())?;
     known.add_described(identity, description_named(rt.alloc(), name)?)?;
     add_to(rt, known, name)

@@ -1,34 +1,39 @@
 //! Tables that are built at run time.
 use scale_info::form::PortableForm;
-use scale_info::{PortableRegistry, PortableRegistryBuilder, TryClone, Type};
+use scale_info::{PortableRegistry, PortableRegistryBuilder, Type};
 use std::alloc::Global;
 use std::test::Fail;
 use type_refusals_common::answers::{digits, encoded, shown};
 use type_refusals_common::inputs::table_of;
 use type_refusals_common::marks::{begin, end};
 use type_refusals_common::outcomes::Outcome;
-
-/// The builder of a table's descriptions but the last, and that one.
-fn begun(
-    alloc: Global,
-    table: PortableRegistry,
-) -> Result<(PortableRegistryBuilder, Type<PortableForm>), Fail> {
-    let mut builder = PortableRegistryBuilder::new(alloc);
-    let mut types = table.types.into_vec();
-    let Some(last) = types.pop() else {
-        return Err(Fail::new("the table is empty"));
-    };
-    for entry in types {
-        builder.register_type(entry.ty)?;
-    }
-    Ok((builder, last.ty))
-}
+use type_vectors_common::parts::sequence;
 
 /// The builder of a table's descriptions.
 fn built(alloc: Global, table: PortableRegistry) -> Result<PortableRegistryBuilder, Fail> {
-    let (mut builder, last) = begun(alloc, table)?;
-    builder.register_type(last)?;
+    let mut builder = PortableRegistryBuilder::new(alloc);
+    for entry in table.types.into_vec() {
+        builder.register_type(entry.ty)?;
+    }
     Ok(builder)
+}
+
+/// The builder of eleven sequences, whose map of indices needs room for one more.
+fn eleven(alloc: Global) -> Result<PortableRegistryBuilder, Fail> {
+    let mut builder = PortableRegistryBuilder::new(alloc);
+    for id in 1000..1011 {
+        builder.register_type(Type::from_def(alloc, sequence(id)))?;
+    }
+    Ok(builder)
+}
+
+/// The last description of the table of this name.
+fn last_of(alloc: Global, row: &str) -> Result<Type<PortableForm>, Fail> {
+    let mut types = table_of(alloc, row)?.types.into_vec();
+    match types.pop() {
+        Some(entry) => Ok(entry.ty),
+        None => Err(Fail::new("the table is empty")),
+    }
 }
 
 /// The encodings of a builder's descriptions, in order.
@@ -43,30 +48,36 @@ fn state(alloc: Global, builder: &PortableRegistryBuilder) -> Result<String, Fai
     Ok(text)
 }
 
-/// Registers the last description of a table.
-pub fn register_type(rt: &HostRuntime, row: &str) -> Result<Outcome, Fail> {
-    let (mut builder, last) = begun(rt.alloc(), table_of(rt.alloc(), row)?)?;
+/// Registers a description, and says what is lent and returned.
+fn register(
+    rt: &HostRuntime,
+    mut builder: PortableRegistryBuilder,
+    ty: Type<PortableForm>,
+) -> Result<Outcome, Fail> {
     let before = state(rt.alloc(), &builder)?;
     begin(rt);
-    let returned = builder.register_type(last);
+    let returned = builder.register_type(ty);
     end(rt);
     let after = state(rt.alloc(), &builder)?;
     Ok(Outcome::lending(before, after, shown(rt.alloc(), returned)?))
 }
 
-/// Registers the first description of a table, which the builder has.
+/// Registers the last description of a table after eleven others.
+pub fn register_type(rt: &HostRuntime, row: &str) -> Result<Outcome, Fail> {
+    let builder = eleven(rt.alloc())?;
+    register(rt, builder, last_of(rt.alloc(), row)?)
+}
+
+/// Registers the last description of a table as the first one.
+pub fn register_first_type(rt: &HostRuntime, row: &str) -> Result<Outcome, Fail> {
+    let builder = PortableRegistryBuilder::new(rt.alloc());
+    register(rt, builder, last_of(rt.alloc(), row)?)
+}
+
+/// Registers the last description of a table, which the builder has.
 pub fn register_known_type(rt: &HostRuntime, row: &str) -> Result<Outcome, Fail> {
-    let mut builder = built(rt.alloc(), table_of(rt.alloc(), row)?)?;
-    let Some(first) = builder.get(0) else {
-        return Err(Fail::new("the table is empty"));
-    };
-    let first = first.try_clone(rt.alloc())?;
-    let before = state(rt.alloc(), &builder)?;
-    begin(rt);
-    let returned = builder.register_type(first);
-    end(rt);
-    let after = state(rt.alloc(), &builder)?;
-    Ok(Outcome::lending(before, after, shown(rt.alloc(), returned)?))
+    let builder = built(rt.alloc(), table_of(rt.alloc(), row)?)?;
+    register(rt, builder, last_of(rt.alloc(), row)?)
 }
 
 /// Makes the table of what was registered.

@@ -30,6 +30,7 @@ fn call_of_walks(rt: &HostRuntime, name: &str, input: &str) -> Result<Option<Out
         "number_recursive" => prunings::number_table_recursively(rt, input)?,
         "Refs::of" => prunings::refs_of(rt, input)?,
         "PortableRegistryBuilder::register_type" => builders::register_type(rt, input)?,
+        "PortableRegistryBuilder::register_first_type" => builders::register_first_type(rt, input)?,
         "PortableRegistryBuilder::finish" => builders::finish(rt, input)?,
         _ => return call_of_registries(rt, name, input),
     };

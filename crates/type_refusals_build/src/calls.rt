@@ -1,0 +1,63 @@
+//! The calls of this library, by their names.
+use crate::{descriptions, fields, lists, variants};
+use std::test::Fail;
+use type_refusals_common::outcomes::Outcome;
+
+/// Makes the call of this name; None if there is none.
+pub fn call(rt: &HostRuntime, name: &str, input: &str) -> Result<Option<Outcome>, Fail> {
+    let outcome = match name {
+        "field" => field(rt, input)?,
+        "variant" => variant(rt, input)?,
+        "TypeBuilder::docs" => descriptions::docs(rt)?,
+        "list" => list(rt, input)?,
+        "build_empty" => empty(rt, input)?,
+        _ => return Ok(None),
+    };
+    Ok(Some(outcome))
+}
+
+/// Adds a field of this kind, or gives it its type.
+fn field(rt: &HostRuntime, kind: &str) -> Result<Outcome, Fail> {
+    match kind {
+        "named" => fields::named(rt),
+        "unnamed" => fields::unnamed(rt),
+        "portable named" => fields::portable_named(rt),
+        "portable unnamed" => fields::portable_unnamed(rt),
+        "type" => fields::ty(rt),
+        _ => Err(Fail::new("no kind has this name")),
+    }
+}
+
+/// Adds a variant of this kind.
+fn variant(rt: &HostRuntime, kind: &str) -> Result<Outcome, Fail> {
+    match kind {
+        "with a field" => variants::variant(rt),
+        "unit" => variants::variant_unit(rt),
+        _ => Err(Fail::new("no kind has this name")),
+    }
+}
+
+/// Lists types or parameters.
+fn list(rt: &HostRuntime, kind: &str) -> Result<Outcome, Fail> {
+    match kind {
+        "tuple_meta_type!" => lists::types(rt),
+        "named_type_params!" => lists::named_parameters(rt),
+        "type_params!" => lists::parameters(rt),
+        "with_type" => lists::one_type(rt),
+        "with_type_param" => lists::one_parameter(rt),
+        _ => Err(Fail::new("no list has this name")),
+    }
+}
+
+/// Begins a builder, or moves what it is given.
+fn empty(rt: &HostRuntime, kind: &str) -> Result<Outcome, Fail> {
+    match kind {
+        "fields" => fields::empty(rt),
+        "variant" => variants::moved(rt),
+        "composite" => descriptions::composite(rt),
+        "variants" => descriptions::variants(rt),
+        "portable composite" => descriptions::portable(rt),
+        "tuple" => descriptions::unit(rt),
+        _ => Err(Fail::new("no kind has this name")),
+    }
+}
