@@ -65,7 +65,7 @@ pub fn portable_unnamed(rt: &HostRuntime) -> Result<Outcome, Fail> {
 pub fn ty(rt: &HostRuntime) -> Result<Outcome, Fail> {
     let alloc = rt.alloc();
     begin(rt);
-    let returned = Field::builder().name("data").ty::<Option<u32>>(alloc);
+    let returned = Field::builder().name("data").ty::<Vec<u32>>(alloc);
     end(rt);
     let field = match returned {
         Ok(built) => Ok(built.finalize(alloc)),

@@ -16,21 +16,21 @@ fn numbered(alloc: Global, number: usize) -> Result<TypeId, AllocError> {
     Ok(TypeId::new("demo::Numbered", vec![in alloc; number]?, Vec::new(alloc)))
 }
 
-/// A catalogue of eleven descriptions, whose map needs room for one more.
-fn eleven(alloc: Global) -> Result<Catalogue, Fail> {
+/// A catalogue of fifteen descriptions, whose map needs room for one more.
+fn fifteen(alloc: Global) -> Result<Catalogue, Fail> {
     let mut known = Catalogue::new(alloc);
-    for number in 0..11 {
+    for number in 0..15 {
         known.add_described(numbered(alloc, number)?, description_named(alloc, "u32")?)?;
     }
     Ok(known)
 }
 
 /// How many descriptions a catalogue has, whether it has one of this identity, and how many of the
-/// eleven it has.
+/// fifteen it has.
 fn state(alloc: Global, known: &Catalogue, identity: &TypeId) -> Result<String, Fail> {
     let (len, new) = (known.len(), known.get(identity).is_some());
     let mut kept = 0u32;
-    for number in 0..11 {
+    for number in 0..15 {
         if known.get(&numbered(alloc, number)?).is_some() {
             kept = kept.saturating_add(1);
         }
@@ -40,7 +40,7 @@ fn state(alloc: Global, known: &Catalogue, identity: &TypeId) -> Result<String, 
 
 /// Adds a type.
 fn add_of<T: TypeInfo>(rt: &HostRuntime) -> Result<Outcome, Fail> {
-    let mut known = eleven(rt.alloc())?;
+    let mut known = fifteen(rt.alloc())?;
     let identity = T::Identity::type_id(rt.alloc())?;
     let before = state(rt.alloc(), &known, &identity)?;
     begin(rt);
@@ -79,7 +79,7 @@ fn add_to(rt: &HostRuntime, mut known: Catalogue, name: &str) -> Result<Outcome,
 
 /// Adds the description of this name under a new identity.
 pub fn add_described(rt: &HostRuntime, name: &str) -> Result<Outcome, Fail> {
-    let known = eleven(rt.alloc())?;
+    let known = fifteen(rt.alloc())?;
     add_to(rt, known, name)
 }
 
@@ -90,7 +90,7 @@ pub fn add_first_described(rt: &HostRuntime, name: &str) -> Result<Outcome, Fail
 
 /// Adds the description of this name under an identity that has it.
 pub fn add_described_again(rt: &HostRuntime, name: &str) -> Result<Outcome, Fail> {
-    let mut known = eleven(rt.alloc())?;
+    let mut known = fifteen(rt.alloc())?;
     let identity = Missing::type_id(rt.alloc())?;
     known.add_described(identity, description_named(rt.alloc(), name)?)?;
     add_to(rt, known, name)

@@ -18,10 +18,10 @@ fn built(alloc: Global, table: PortableRegistry) -> Result<PortableRegistryBuild
     Ok(builder)
 }
 
-/// The builder of eleven sequences, whose map of indices needs room for one more.
-fn eleven(alloc: Global) -> Result<PortableRegistryBuilder, Fail> {
+/// The builder of fifteen sequences, whose map of indices needs room for one more.
+fn fifteen(alloc: Global) -> Result<PortableRegistryBuilder, Fail> {
     let mut builder = PortableRegistryBuilder::new(alloc);
-    for id in 1000..1011 {
+    for id in 1000..1015 {
         builder.register_type(Type::from_def(alloc, sequence(id)))?;
     }
     Ok(builder)
@@ -62,9 +62,9 @@ fn register(
     Ok(Outcome::lending(before, after, shown(rt.alloc(), returned)?))
 }
 
-/// Registers the last description of a table after eleven others.
+/// Registers the last description of a table after fifteen others.
 pub fn register_type(rt: &HostRuntime, row: &str) -> Result<Outcome, Fail> {
-    let builder = eleven(rt.alloc())?;
+    let builder = fifteen(rt.alloc())?;
     register(rt, builder, last_of(rt.alloc(), row)?)
 }
 
