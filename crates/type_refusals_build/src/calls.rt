@@ -1,5 +1,5 @@
 //! The calls of this library, by their names.
-use crate::{descriptions, fields, lists, variants};
+use crate::{constructors, descriptions, fields, lists, paths, variants};
 use std::test::Fail;
 use type_refusals_common::outcomes::Outcome;
 
@@ -11,6 +11,38 @@ pub fn call(rt: &HostRuntime, name: &str, input: &str) -> Result<Option<Outcome>
         "TypeBuilder::docs" => descriptions::docs(rt)?,
         "list" => list(rt, input)?,
         "build_empty" => empty(rt, input)?,
+        _ => return call_of_constructors(rt, name, input),
+    };
+    Ok(Some(outcome))
+}
+
+/// Makes the call of this name that makes a definition or a description; None if there is none.
+fn call_of_constructors(
+    rt: &HostRuntime,
+    name: &str,
+    input: &str,
+) -> Result<Option<Outcome>, Fail> {
+    let outcome = match name {
+        "Type::new" => constructors::description(rt, input)?,
+        "Type::new_portable" => constructors::portable_description(rt)?,
+        "TypeDefComposite::new" => constructors::composite(rt)?,
+        "TypeDefVariant::new" => constructors::variants(rt)?,
+        "TypeDefTuple::new" => constructors::tuple(rt)?,
+        "TypeDefTuple::new_portable" => constructors::portable_tuple(rt)?,
+        "TypeDefBitSequence::new" => constructors::bit_sequence(rt, input)?,
+        _ => return call_of_paths(rt, name, input),
+    };
+    Ok(Some(outcome))
+}
+
+/// Makes the call of this name that makes a path; None if there is none.
+fn call_of_paths(rt: &HostRuntime, name: &str, input: &str) -> Result<Option<Outcome>, Fail> {
+    let outcome = match name {
+        "Path::new" => paths::new(rt, input)?,
+        "Path::new_with_replace" => paths::new_with_replace(rt, input)?,
+        "Path::from_segments" => paths::from_segments(rt, input)?,
+        "Path::from_segments_unchecked" => paths::from_segments_unchecked(rt)?,
+        "Path::ident" => paths::ident(rt)?,
         _ => return Ok(None),
     };
     Ok(Some(outcome))

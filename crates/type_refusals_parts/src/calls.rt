@@ -1,5 +1,5 @@
 //! The calls of this library, by their names.
-use crate::{catalogues, constructors, copies, identities, interners, looks, moves, paths};
+use crate::{catalogues, copies, identities, interners, looks, moves};
 use std::test::Fail;
 use type_refusals_common::outcomes::Outcome;
 
@@ -34,42 +34,18 @@ fn call_of_copies(rt: &HostRuntime, name: &str, input: &str) -> Result<Option<Ou
         "try_clone_definition" => copies::definition(rt, input)?,
         "Items::try_clone" => copies::list(rt, input)?,
         "Form::copy" => copies::by_form(rt, input)?,
-        _ => return call_of_paths(rt, name, input),
+        _ => return call_of_looks(rt, name, input),
     };
     Ok(Some(outcome))
 }
 
-/// Makes the call of this name that makes a path or a definition; None if there is none.
-fn call_of_paths(rt: &HostRuntime, name: &str, input: &str) -> Result<Option<Outcome>, Fail> {
+/// Makes the call of this name on an interner, or that does not allocate; None if there is none.
+fn call_of_looks(rt: &HostRuntime, name: &str, input: &str) -> Result<Option<Outcome>, Fail> {
     let outcome = match name {
-        "Path::new" => paths::new(rt, input)?,
-        "Path::new_with_replace" => paths::new_with_replace(rt, input)?,
-        "Path::from_segments" => paths::from_segments(rt, input)?,
-        "Path::from_segments_unchecked" => paths::from_segments_unchecked(rt, input)?,
-        "Path::ident" => paths::ident(rt, input)?,
         "intern_or_get" => interners::intern_or_get(rt, input)?,
         "intern_or_get_known" => interners::intern_or_get(rt, input)?,
         "look_at_interner" => interners::look(rt, input)?,
         "truncate_interner" => interners::truncate(rt)?,
-        _ => return call_of_constructors(rt, name, input),
-    };
-    Ok(Some(outcome))
-}
-
-/// Makes the call of this name that makes a description; None if there is none.
-fn call_of_constructors(
-    rt: &HostRuntime,
-    name: &str,
-    input: &str,
-) -> Result<Option<Outcome>, Fail> {
-    let outcome = match name {
-        "Type::new" => constructors::description(rt, input)?,
-        "Type::new_portable" => constructors::portable_description(rt, input)?,
-        "TypeDefComposite::new" => constructors::composite(rt, input)?,
-        "TypeDefVariant::new" => constructors::variants(rt, input)?,
-        "TypeDefTuple::new" => constructors::tuple(rt, input)?,
-        "TypeDefTuple::new_portable" => constructors::portable_tuple(rt, input)?,
-        "TypeDefBitSequence::new" => constructors::bit_sequence(rt, input)?,
         "look_at_description" => looks::description(rt, input)?,
         "compare_descriptions" => looks::compare(rt, input)?,
         "compare_types" => looks::types(rt, input)?,

@@ -3,10 +3,8 @@
 
 pub mod calls;
 pub mod catalogues;
-pub mod constructors;
 pub mod copies;
 pub mod identities;
 pub mod interners;
 pub mod looks;
 pub mod moves;
-pub mod paths;

@@ -69,7 +69,7 @@ pub fn from_segments(rt: &HostRuntime, name: &str) -> Result<Outcome, Fail> {
 }
 
 /// Makes a path of segments that are not looked at.
-pub fn from_segments_unchecked(rt: &HostRuntime, _name: &str) -> Result<Outcome, Fail> {
+pub fn from_segments_unchecked(rt: &HostRuntime) -> Result<Outcome, Fail> {
     let segments = parts::texts(rt.alloc(), &["hello", "world", "Planet"])?;
     begin(rt);
     let returned = Path::from_segments_unchecked(rt.alloc(), segments);
@@ -78,7 +78,7 @@ pub fn from_segments_unchecked(rt: &HostRuntime, _name: &str) -> Result<Outcome,
 }
 
 /// Asks a portable path for its last segment.
-pub fn ident(rt: &HostRuntime, _name: &str) -> Result<Outcome, Fail> {
+pub fn ident(rt: &HostRuntime) -> Result<Outcome, Fail> {
     let path = parts::path(rt.alloc(), &["hello", "Planet"])?;
     begin(rt);
     let returned = path.ident(rt.alloc());

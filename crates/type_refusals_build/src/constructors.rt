@@ -27,7 +27,7 @@ pub fn description(rt: &HostRuntime, name: &str) -> Result<Outcome, Fail> {
 }
 
 /// Makes a portable description.
-pub fn portable_description(rt: &HostRuntime, _name: &str) -> Result<Outcome, Fail> {
+pub fn portable_description(rt: &HostRuntime) -> Result<Outcome, Fail> {
     let alloc = rt.alloc();
     let path = parts::path(alloc, &["p", "q"])?;
     let params = vec![in alloc; parts::parameter(alloc, "T", Some(7))?]?;
@@ -39,7 +39,7 @@ pub fn portable_description(rt: &HostRuntime, _name: &str) -> Result<Outcome, Fa
 }
 
 /// Makes the definition of a composite.
-pub fn composite(rt: &HostRuntime, _name: &str) -> Result<Outcome, Fail> {
+pub fn composite(rt: &HostRuntime) -> Result<Outcome, Fail> {
     let fields = vec![in rt.alloc(); documented_field(rt.alloc())?]?;
     begin(rt);
     let returned = TypeDefComposite::new(rt.alloc(), fields);
@@ -48,7 +48,7 @@ pub fn composite(rt: &HostRuntime, _name: &str) -> Result<Outcome, Fail> {
 }
 
 /// Makes the definition of an enum.
-pub fn variants(rt: &HostRuntime, _name: &str) -> Result<Outcome, Fail> {
+pub fn variants(rt: &HostRuntime) -> Result<Outcome, Fail> {
     let variants = vec![in rt.alloc(); documented_variant(rt.alloc())?]?;
     begin(rt);
     let returned = TypeDefVariant::new(rt.alloc(), variants);
@@ -57,7 +57,7 @@ pub fn variants(rt: &HostRuntime, _name: &str) -> Result<Outcome, Fail> {
 }
 
 /// Makes the definition of a tuple of types of the program.
-pub fn tuple(rt: &HostRuntime, _name: &str) -> Result<Outcome, Fail> {
+pub fn tuple(rt: &HostRuntime) -> Result<Outcome, Fail> {
     let alloc = rt.alloc();
     let members = vec![in alloc;
         MetaType::new::<Vec<u32>>(alloc)?,
@@ -70,7 +70,7 @@ pub fn tuple(rt: &HostRuntime, _name: &str) -> Result<Outcome, Fail> {
 }
 
 /// Makes the definition of a tuple of ids.
-pub fn portable_tuple(rt: &HostRuntime, _name: &str) -> Result<Outcome, Fail> {
+pub fn portable_tuple(rt: &HostRuntime) -> Result<Outcome, Fail> {
     let members = vec![in rt.alloc(); parts::id(3), parts::id(0)]?;
     begin(rt);
     let returned = TypeDefTuple::new_portable(rt.alloc(), members);
