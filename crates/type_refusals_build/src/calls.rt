@@ -85,6 +85,7 @@ fn list(rt: &HostRuntime, kind: &str) -> Result<Outcome, Fail> {
 fn empty(rt: &HostRuntime, kind: &str) -> Result<Outcome, Fail> {
     match kind {
         "fields" => fields::empty(rt),
+        "field" => fields::moved(rt),
         "variant" => variants::moved(rt),
         "composite" => descriptions::composite(rt),
         "variants" => descriptions::variants(rt),

@@ -1,5 +1,5 @@
 //! Fields by their builders.
-use scale_info::build::{Fields, FieldsBuilder};
+use scale_info::build::{FieldBuilder, Fields, FieldsBuilder, NameNotAssigned, TypeNotAssigned};
 use scale_info::form::{Form, MetaForm, PortableForm};
 use scale_info::{Field, TypeDefComposite};
 use std::alloc::AllocError;
@@ -72,6 +72,20 @@ pub fn ty(rt: &HostRuntime) -> Result<Outcome, Fail> {
         Err(error) => Err(error),
     };
     Ok(Outcome::of(registered(alloc, field)?))
+}
+
+/// Gives a field its parts by moves alone.
+pub fn moved(rt: &HostRuntime) -> Result<Outcome, Fail> {
+    let (name, type_name) = (text(rt.alloc(), "data")?, text(rt.alloc(), "T")?);
+    begin(rt);
+    let builder = FieldBuilder::<PortableForm, NameNotAssigned, TypeNotAssigned>::new();
+    let field = builder
+        .name(name)
+        .type_name(type_name)
+        .ty(3)
+        .finalize(rt.alloc());
+    end(rt);
+    Ok(Outcome::of(Answer::Done(digits(rt.alloc(), &field)?)))
 }
 
 /// Begins lists of fields, and ends one.

@@ -63,6 +63,7 @@ fn look_at(rt: &HostRuntime, kind: &str) -> Result<Outcome, Fail> {
         "field" => looks::field(rt),
         "variant" => looks::variant(rt),
         "path" => looks::path(rt),
+        "definitions" => looks::definitions(rt),
         _ => Err(Fail::new("no kind has this name")),
     }
 }

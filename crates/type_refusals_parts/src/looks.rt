@@ -1,5 +1,7 @@
 //! Getters, comparisons and hashes, which do not allocate.
+use scale_info::form::PortableForm;
 use scale_info::utils::is_rust_identifier;
+use scale_info::{TypeDefArray, TypeDefBitSequence, TypeDefMap};
 use std::hash::{FoldHasher, Hash, Hasher};
 use std::test::Fail;
 use type_refusals_common::answers::Answer;
@@ -31,6 +33,19 @@ pub fn variant(rt: &HostRuntime) -> Result<Outcome, Fail> {
     let (fields, lines) = (variant.fields().len(), variant.docs().len());
     end(rt);
     Ok(seen(format!(in rt.alloc(); "{len} {index} {fields} {lines}")?))
+}
+
+/// Asks definitions for their parts.
+pub fn definitions(rt: &HostRuntime) -> Result<Outcome, Fail> {
+    let array = TypeDefArray::<PortableForm>::new(32, parts::id(1));
+    let map = TypeDefMap::<PortableForm>::new(parts::id(1), parts::id(2));
+    let bits = TypeDefBitSequence::new_portable(parts::id(3), parts::id(4));
+    begin(rt);
+    let (len, item) = (array.len(), array.type_param().id());
+    let (key, value) = (map.key().id(), map.value().id());
+    let (store, order) = (bits.bit_store_type().id(), bits.bit_order_type().id());
+    end(rt);
+    Ok(seen(format!(in rt.alloc(); "{len} {item} {key} {value} {store} {order}")?))
 }
 
 /// Asks a path for its parts.

@@ -3,7 +3,7 @@ use scale_info::form::PortableForm;
 use scale_info::{PortableRegistry, PortableRegistryBuilder, Type};
 use std::alloc::Global;
 use std::test::Fail;
-use type_refusals_common::answers::{digits, encoded, shown};
+use type_refusals_common::answers::{Answer, digits, encoded, shown};
 use type_refusals_common::inputs::table_of;
 use type_refusals_common::marks::{begin, end};
 use type_refusals_common::outcomes::Outcome;
@@ -78,6 +78,15 @@ pub fn register_first_type(rt: &HostRuntime, row: &str) -> Result<Outcome, Fail>
 pub fn register_known_type(rt: &HostRuntime, row: &str) -> Result<Outcome, Fail> {
     let builder = built(rt.alloc(), table_of(rt.alloc(), row)?)?;
     register(rt, builder, last_of(rt.alloc(), row)?)
+}
+
+/// Asks a builder for its next id, and for its first description.
+pub fn look(rt: &HostRuntime, row: &str) -> Result<Outcome, Fail> {
+    let builder = built(rt.alloc(), table_of(rt.alloc(), row)?)?;
+    begin(rt);
+    let (next, first) = (builder.next_type_id(), builder.get(0).is_some());
+    end(rt);
+    Ok(Outcome::of(Answer::Done(format!(in rt.alloc(); "{next} {first}")?)))
 }
 
 /// Makes the table of what was registered.

@@ -29,6 +29,7 @@ fn call_of_walks(rt: &HostRuntime, name: &str, input: &str) -> Result<Option<Out
         "number" => prunings::number_table(rt, input)?,
         "number_recursive" => prunings::number_table_recursively(rt, input)?,
         "Refs::of" => prunings::refs_of(rt, input)?,
+        "Refs::prepend_of" => prunings::prepend(rt, input)?,
         "PortableRegistryBuilder::register_type" => builders::register_type(rt, input)?,
         "PortableRegistryBuilder::register_first_type" => builders::register_first_type(rt, input)?,
         "PortableRegistryBuilder::finish" => builders::finish(rt, input)?,
@@ -59,6 +60,7 @@ fn call_of_looks(rt: &HostRuntime, name: &str, input: &str) -> Result<Option<Out
     let outcome = match name {
         "register_known_type" => registrations::register_known_type(rt, input)?,
         "PortableRegistryBuilder::register_known_type" => builders::register_known_type(rt, input)?,
+        "look_at_builder" => builders::look(rt, input)?,
         "look_at_table" => looks::look(rt, input)?,
         "compare_tables" => looks::compare(rt, input)?,
         "order_descriptions" => looks::order(rt, input)?,

@@ -122,3 +122,20 @@ pub fn refs_of(rt: &HostRuntime, row: &str) -> Result<Outcome, Fail> {
     };
     Ok(Outcome::of(shown(rt.alloc(), ids)?))
 }
+
+/// Puts the references of the entry at index 0 before one that is left.
+pub fn prepend(rt: &HostRuntime, row: &str) -> Result<Outcome, Fail> {
+    let table = table_of(rt.alloc(), row)?;
+    let Some(ty) = table.resolve(0) else {
+        return Err(Fail::new("the table is empty"));
+    };
+    let mut refs = Refs::new(rt.alloc());
+    refs.prepend(&[9])?;
+    begin(rt);
+    let returned = refs.prepend_of(rt.alloc(), ty);
+    end(rt);
+    let before = format!(in rt.alloc(); "[9]")?;
+    let left = all_of(rt.alloc(), refs)?;
+    let after = format!(in rt.alloc(); "{left:?}")?;
+    Ok(Outcome::lending(before, after, shown(rt.alloc(), returned)?))
+}
