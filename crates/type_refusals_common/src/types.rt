@@ -1,5 +1,6 @@
 //! Types by their names, what they are described as, and a catalogue of them.
 use crate::own::{Bits, Mapping, Recursive};
+use scale_info::form::Form;
 use scale_info::impls::{Compact, meta_type};
 use scale_info::meta_type::{Catalogue, Identified};
 use scale_info::{
@@ -49,10 +50,17 @@ pub fn description_named(alloc: Global, name: &str) -> Result<Type, Fail> {
     Ok(description)
 }
 
+/// A map of these types.
+///
+/// It is generic, since the borrow checker does not cover a map of the meta form alone.
+fn map<F: Form>(key: F::Ty, value: F::Ty) -> TypeDef<F> {
+    TypeDef::from(TypeDefMap::new(key, value))
+}
+
 /// A map from `u32` to `bool`.
 fn mapping(alloc: Global) -> Result<Type, AllocError> {
-    let map = TypeDefMap::new(meta_type::<u32>(alloc)?, meta_type::<bool>(alloc)?);
-    Ok(Type::from_def(alloc, TypeDef::from(map)))
+    let (key, value) = (meta_type::<u32>(alloc)?, meta_type::<bool>(alloc)?);
+    Ok(Type::from_def(alloc, map(key, value)))
 }
 
 /// A field with a name, a name of its type, and docs.
