@@ -1,11 +1,12 @@
 /* An allocator in the place of the C library's, to be preloaded: it counts requests for memory, and refuses some.
 
-   REFUSE_WHILE: "marked" counts from the line "begin" to the line "end", each of which the program writes to descriptor 2
-   by one write; "running" counts from the program's start to its end.
-   REFUSE_FROM and REFUSE_TO: the first and the last request that is refused, counted from 1; 0 and 0 refuse none.
-   REFUSE_REPORT: the descriptor that gets one line, "requests N refused M", when the program ends. */
+   A part of a run goes from the line "begin" to the line "end", each of which the program writes to descriptor 2 by one write.
+   With REFUSE_AT the whole run is one part. In a part these requests are refused, by the value of REFUSE: "none", "all", from the
+   k-th on ("from") or the k-th alone ("alone"), where k is REFUSE_AT, or else the number of the part, from 1 on. After each part
+   the descriptor REFUSE_REPORT gets a line "requests N refused M". */
 #define _GNU_SOURCE
 #include <errno.h>
+#include <limits.h>
 #include <stddef.h>
 #include <stdio.h>
 #include <stdlib.h>
@@ -18,8 +19,8 @@ void *__libc_calloc(size_t, size_t);
 void *__libc_realloc(void *, size_t);
 void *__libc_memalign(size_t, size_t);
 
-static int counting;
-static long requests, refused, first, last;
+static int counting, is_whole;
+static long part, requests, refused, first, last;
 
 static long number_of(const char *name)
 {
@@ -27,20 +28,35 @@ static long number_of(const char *name)
     return text ? atol(text) : 0;
 }
 
-__attribute__((constructor)) static void begin_run(void)
+static void begin_part(long k)
 {
-    const char *when = getenv("REFUSE_WHILE");
-    first = number_of("REFUSE_FROM");
-    last = number_of("REFUSE_TO");
-    counting = when && !strcmp(when, "running");
+    const char *what = getenv("REFUSE");
+    int is_none = !what || !strcmp(what, "none");
+    first = is_none ? LONG_MAX : !strcmp(what, "all") ? 1 : k;
+    last = is_none ? 0 : !strcmp(what, "alone") ? k : LONG_MAX;
+    requests = refused = 0;
+    counting = 1;
 }
 
-__attribute__((destructor)) static void end_run(void)
+static void end_part(void)
 {
     char line[80];
     counting = 0;
     int length = snprintf(line, sizeof line, "requests %ld refused %ld\n", requests, refused);
     syscall(SYS_write, (int)number_of("REFUSE_REPORT"), line, length);
+}
+
+__attribute__((constructor)) static void begin_run(void)
+{
+    is_whole = number_of("REFUSE_AT") > 0;
+    if (is_whole)
+        begin_part(number_of("REFUSE_AT"));
+}
+
+__attribute__((destructor)) static void end_run(void)
+{
+    if (is_whole)
+        end_part();
 }
 
 static int is_refused(void)
@@ -100,10 +116,11 @@ int posix_memalign(void **block, size_t align, size_t size)
 
 ssize_t write(int file, const void *bytes, size_t size)
 {
-    if (file == 2 && size == 4 && !memcmp(bytes, "end\n", 4))
-        counting = 0;
+    int is_marked = !is_whole && file == 2;
+    if (is_marked && counting && size == 4 && !memcmp(bytes, "end\n", 4))
+        end_part();
     long written = syscall(SYS_write, file, bytes, size);
-    if (file == 2 && size == 6 && !memcmp(bytes, "begin\n", 6))
-        counting = 1;
+    if (is_marked && !counting && size == 6 && !memcmp(bytes, "begin\n", 6))
+        begin_part(++part);
     return written;
 }
