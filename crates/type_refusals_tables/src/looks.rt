@@ -19,8 +19,11 @@ pub fn look(rt: &HostRuntime, row: &str) -> Result<Outcome, Fail> {
     let table = table_of(rt.alloc(), row)?;
     begin(rt);
     let (len, is_empty, is_closed) = (table.len(), table.is_empty(), table.is_closed());
-    let (first, entries) = (table.resolve(0).is_some(), table.entries().count());
-    let types = table.types().len();
+    let (first, types) = (table.resolve(0).is_some(), table.types().len());
+    let mut entries = 0u32;
+    for _ in table.entries() {
+        entries = entries.saturating_add(1);
+    }
     end(rt);
     Ok(seen(format!(in rt.alloc(); "{len} {is_empty} {is_closed} {first} {entries} {types}")?))
 }
@@ -70,7 +73,11 @@ pub fn registry(rt: &HostRuntime, name: &str) -> Result<Outcome, Fail> {
     let registry = registry_of(rt.alloc(), &known, name)?;
     let other = registry_of_u8(rt.alloc(), &known)?;
     begin(rt);
-    let (count, same) = (registry.types().count(), registry == other);
+    let same = registry == other;
+    let mut count = 0u32;
+    for _ in registry.types() {
+        count = count.saturating_add(1);
+    }
     end(rt);
     Ok(seen(format!(in rt.alloc(); "{count} {same}")?))
 }
