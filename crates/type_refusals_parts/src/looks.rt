@@ -1,7 +1,8 @@
 //! Getters, comparisons and hashes, which do not allocate.
 use scale_info::form::PortableForm;
 use scale_info::utils::is_rust_identifier;
-use scale_info::{TypeDefArray, TypeDefBitSequence, TypeDefMap};
+use scale_info::{Type, TypeDefArray, TypeDefBitSequence, TypeDefMap};
+use std::alloc::Global;
 use std::hash::{FoldHasher, Hash, Hasher};
 use std::test::Fail;
 use type_refusals_common::answers::Answer;
@@ -68,15 +69,23 @@ pub fn description(rt: &HostRuntime, name: &str) -> Result<Outcome, Fail> {
     Ok(seen(format!(in rt.alloc(); "{is_empty} {params} {lines}")?))
 }
 
+/// Descriptions of the types of these names, in order.
+fn described(alloc: Global, names: &[&str]) -> Result<Vec<Type>, Fail> {
+    let mut all = Vec::new(alloc);
+    for name in names {
+        all.push(description_named(alloc, name)?)?;
+    }
+    Ok(all)
+}
+
 /// Compares descriptions.
 pub fn compare(rt: &HostRuntime, name: &str) -> Result<Outcome, Fail> {
-    let (left, right) = (
-        description_named(rt.alloc(), name)?,
-        description_named(rt.alloc(), name)?,
-    );
-    let other = description_named(rt.alloc(), "(u32, bool)")?;
+    let all = described(rt.alloc(), &[name, name, "(u32, bool)"])?;
+    let [left, right, other] = all.as_slice() else {
+        return Err(Fail::new("three names have three descriptions"));
+    };
     begin(rt);
-    let (same, order) = (left == right, left.cmp(&other));
+    let (same, order) = (left == right, left.cmp(other));
     end(rt);
     Ok(seen(format!(in rt.alloc(); "{same} {order:?}")?))
 }

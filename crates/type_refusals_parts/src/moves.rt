@@ -116,7 +116,7 @@ pub fn empty_collections(rt: &HostRuntime) -> Result<Outcome, Fail> {
     let interner = Interner::<u32>::new(rt.alloc());
     let builder = PortableRegistryBuilder::new(rt.alloc());
     end(rt);
-    let (types, described) = (registry.types().count(), catalogue.len());
+    let (types, described) = (registry.types().size_hint().0, catalogue.len());
     let (elements, next) = (interner.elements().len(), builder.next_type_id());
     Ok(seen(format!(in rt.alloc(); "{types} {described} {elements} {next}")?))
 }
