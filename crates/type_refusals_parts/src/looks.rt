@@ -105,7 +105,7 @@ pub fn types(rt: &HostRuntime, name: &str) -> Result<Outcome, Fail> {
     Ok(seen(format!(in rt.alloc(); "{same} {order:?} {hash}")?))
 }
 
-/// Tells an identifier.
+/// Asks whether a text is an identifier.
 pub fn identifier(rt: &HostRuntime, text: &str) -> Result<Outcome, Fail> {
     begin(rt);
     let is_identifier = is_rust_identifier(text);
