@@ -1,9 +1,7 @@
 use Rattle.std.proofs.Common.{rules, ◌≡◌, ◌∙◌, [], List, inl, inr, ◌⊎◌, ℕ, ap, sym, subst, map}
-use Rattle.std.proofs.lemmas.Iterator.{items_from_drains}
-use Rattle.std.proofs.lemmas.Iterator.Adapters.{YieldsList-from_vec}
-use Rattle.std.proofs.lemmas.List.{map-id}
 use Rattle.std.proofs.lemmas.Result.{err_from_is_err_and}
 use Rattle.scale_info_identities.specs.TypeIds.{Term}
+use Rattle.scale_info_types.proofs.Iterators.{drained}
 use Rattle.scale_info_types.specs.Portable.{Id}
 use Rattle.scale_info_numberings.specs.Tables.{ArePlaces}
 use Rattle.scale_info_registry.specs.CatalogueSystems.{catalogue_system}
@@ -22,10 +20,9 @@ returns-in_err-symbols-clause-cause c =
     elim c.in_err-symbols.ensures.cause [
       | inl memory ↦ inl memory
       | inr k ↦
-          let all = YieldsList-from_vec c.in_ok-copies.field-0.items (search rules) (search rules) in
-          let (given, (iterator, made, (last, drained)), cause) = k in
+          let (given, (iterator, made, drains), cause) = k in
           let same : given ≡ c.in_ok-copies.field-0.items =
-          sym (map-id given) ∙ items_from_drains given (drained.0, drained.1, λ _. (last, drained.2)) all in
+          drained iterator c.in_ok-copies.field-0.items given made.0 (search rules) drains in
           inr (subst (λ rs. IsCause S [] rs e) (ap roots_of same ∙ c.in_ok-copies.ensures.ok)
           (subst (λ r. IsCause S (nodes_of r.identities) (roots_of given) e) c.new-registry.ensures cause))
     ] in
@@ -36,10 +33,9 @@ returns-clause-ok c =
     let S = catalogue_system c.args.catalogue.now in
     let roots = roots_of c.args.types.now in
     let after = c.register_types.new.self in
-    let all = YieldsList-from_vec c.in_ok-copies.field-0.items (search rules) (search rules) in
-    let (given, (iterator, made, (last, drained)), registration, places) = c.in_ok-symbols.ensures.ok in
+    let (given, (iterator, made, drains), registration, places) = c.in_ok-symbols.ensures.ok in
     let same : given ≡ c.in_ok-copies.field-0.items =
-    sym (map-id given) ∙ items_from_drains given (drained.0, drained.1, λ _. (last, drained.2)) all in
+    drained iterator c.in_ok-copies.field-0.items given made.0 (search rules) drains in
     let rooted : roots_of given ≡ roots = ap roots_of same ∙ c.in_ok-copies.ensures.ok in
     let made : IsRegistration S (registered [] []) roots after =
     subst (λ rs. IsRegistration S (registered [] []) rs after) rooted

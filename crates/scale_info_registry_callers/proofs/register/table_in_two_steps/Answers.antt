@@ -1,8 +1,9 @@
-use Rattle.std.proofs.Common.{◌≡◌, [], rules, subst}
+use Rattle.std.proofs.Common.{◌≡◌, [], inl, inr, rules, subst}
+use Rattle.std.proofs.lemmas.Bool.{cases_Bool}
 use Rattle.scale_info_numberings.specs.Systems.{Grows}
+use Rattle.scale_info_types.proofs.Iterators.{drained}
 use Rattle.scale_info_registry.specs.CatalogueSystems.{catalogue_system}
 use Rattle.scale_info_registry.specs.Registrations.{IsRegistration, nodes_of, registered, roots_of}
-use Rattle.scale_info_registry_callers.proofs.Drained.{drained, either_way}
 use Rattle.scale_info_registry_callers.proofs.register.table_in_two_steps.Goals as goal
 
 pub returns : goal.returns
@@ -12,9 +13,10 @@ returns g c =
     let first : one.0 ≡ c.args.first.items = drained one.1.0 c.args.first.items one.0 one.1.1.0 (search rules) one.1.2 in
     let second : two.0 ≡ c.args.second.items = drained two.1.0 c.args.second.items two.0 two.1.1.0 (search rules) two.1.2 in
     let grows : Grows (catalogue_system c.args.catalogue.now) (catalogue_system c.add.new.self) =
-    either_way c.in_ok-add.field-0
-    (λ new. let more = c.in_ok-add.ensures.new new in c.catalogue_grows.ensures.one_more _ _ _ _ more.2)
-    (λ known. c.catalogue_grows.ensures.same _ _ (c.in_ok-add.ensures.known_same known)) in
+    elim cases_Bool c.in_ok-add.field-0 [
+      | inl new ↦ let more = c.in_ok-add.ensures.new new in c.catalogue_grows.ensures.one_more _ _ _ _ more.2
+      | inr known ↦ c.catalogue_grows.ensures.same _ _ (c.in_ok-add.ensures.known_same known)
+    ] in
     let before = c.register_types.new.self in
     let after = c.register_types-2.new.self in
     let was : IsRegistration (catalogue_system c.args.catalogue.now) (registered [] []) (roots_of c.args.first.items) before =
