@@ -13,7 +13,7 @@ returns g c =
     let first : one.0 ≡ c.args.first.items = drained one.1.0 c.args.first.items one.0 one.1.1.0 (search rules) one.1.2 in
     let second : two.0 ≡ c.args.second.items = drained two.1.0 c.args.second.items two.0 two.1.1.0 (search rules) two.1.2 in
     let grows : Grows (catalogue_system c.args.catalogue.now) (catalogue_system c.add.new.self) =
-    elim cases_Bool c.in_ok-add.field-0 [
+    elim (cases_Bool c.in_ok-add.field-0) [
       | inl new ↦ let more = c.in_ok-add.ensures.new new in c.catalogue_grows.ensures.one_more _ _ _ _ more.2
       | inr known ↦ c.catalogue_grows.ensures.same _ _ (c.in_ok-add.ensures.known_same known)
     ] in
