@@ -1,11 +1,10 @@
 -- A registered table, pruned, is the table of what is chosen, registered afresh.
-use Rattle.std.proofs.Common.{◌≡◌, ◌<◌, ◌≤◌, ◌↔◌, ℕ, zero, suc, List, [], ◌∷◌, ◌++◌, length, map, true}
-use Rattle.std.proofs.Common.{Bool, false, Some, None, slice_get, ap, sym, ◌∙◌, subst, arith, Contains}
+use Rattle.std.proofs.Common.{◌≡◌, ◌<◌, ◌↔◌, ℕ, zero, suc, List, [], ◌∷◌, length, map, true}
+use Rattle.std.proofs.Common.{Bool, false, Some, slice_get, ap, sym, ◌∙◌, subst, arith, Contains}
 use Rattle.std.proofs.Common.{inl, inr, ◌⊎◌}
 use Rattle.std.proofs.lemmas.List.Elements.{Contains-append_cases}
-use Rattle.std.proofs.lemmas.Option.{slice_get-map, slice_get_within, same_Some, none-some}
-use Rattle.std.specs.BTreeMap.{BTreeMap, get}
-use Rattle.std.specs.Ordering.{nat_cmp}
+use Rattle.std.proofs.lemmas.Option.{slice_get-map, none-some}
+use Rattle.std.specs.BTreeMap.{BTreeMap}
 use Rattle.scale_info_identities.specs.TypeIds.{Term}
 use Rattle.std.proofs.lemmas.List.{length-map}
 use Rattle.scale_info_numberings.specs.Numberings.{AreDistinct, IsNumbering}
@@ -14,7 +13,7 @@ use Rattle.scale_info_numberings.specs.Tables.{ArePlaces, IsTable, table_system}
 use Rattle.scale_info_numberings.proofs.Places.{contains_cases, place_of}
 use Rattle.scale_info_numberings.proofs.Pruned.{pruned_reading, pruned_numbering, pruned_table}
 use Rattle.scale_info_numberings.proofs.Tables.{closed}
-use Rattle.scale_info_numberings.proofs.Zip.{zip_at, zip_right, zip_turned}
+use Rattle.scale_info_numberings.proofs.Zip.{zip_right, zip_turned}
 use Rattle.scale_info_tables.specs.declared.portable.PortableRegistry.{PortableRegistry}
 use Rattle.scale_info_types.specs.Shapes.{Shape}
 use Rattle.scale_info_types.specs.declared.ty.PortableType.{PortableType}

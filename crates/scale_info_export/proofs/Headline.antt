@@ -1,5 +1,5 @@
 -- The clauses of the law of the whole.
-use Rattle.std.proofs.Common.{◌≡◌, ◌+◌, ◌↔◌, ℕ, zero, suc, List, [], ◌∷◌, ◌++◌, map, Some, slice_get, refl, ap}
+use Rattle.std.proofs.Common.{◌≡◌, ◌+◌, ◌↔◌, ℕ, zero, suc, List, [], ◌∷◌, map, Some, slice_get, ap}
 use Rattle.std.proofs.Common.{sym, ◌∙◌, subst, arith, length}
 use Rattle.std.proofs.lemmas.Option.{same_Some}
 use Rattle.std.specs.BTreeMap.{get}

@@ -1,6 +1,6 @@
 -- The tokens of lists, value by value.
-use Rattle.std.proofs.Common.{◌≡◌, ℕ, ◌+◌, List, [], ◌∷◌, ◌++◌, length, map, refl, sym, ap, ◌∙◌}
-use Rattle.std.proofs.Common.{arith, append_assoc, length-append}
+use Rattle.std.proofs.Common.{◌≡◌, ℕ, ◌+◌, List, [], ◌∷◌, ◌++◌, map, refl, sym, ap, ◌∙◌}
+use Rattle.std.proofs.Common.{append_assoc, length-append}
 use Rattle.std.proofs.lemmas.List.{append-nil}
 use Rattle.json.specs.Token.{Token, begin_array, end_array}
 use Rattle.json.specs.Tree.{items_tokens}
@@ -11,7 +11,6 @@ use Rattle.scale_info_bytes.proofs.Lists.{prefix_list}
 use Rattle.scale_info_bytes.proofs.Steps.{prefix_item}
 use Rattle.scale_info_bytes.specs.Encodings.{HasPrefix}
 use Rattle.scale_info_bytes.specs.Numbers.{EncodesCompact}
-use Rattle.scale_info_bytes.specs.Parts.{EncodesItems}
 use Rattle.scale_info_json.specs.Steps.{tokens_of}
 use Rattle.scale_info_json.specs.Written.{list_tree}
 use Rattle.scale_info_transcode.specs.Transcodings.{tokens_of_each, WritesItems, WritesList}

@@ -1,16 +1,15 @@
 -- What is decoded as a count is an encoding of it.
 use Rattle.std.proofs.Common.{◌≡◌, ℕ, zero, suc, ◌+◌, ◌*◌, ◌/◌, ◌%◌, ◌^◌, ◌<◌, ◌≤◌, List, [], ◌∷◌}
-use Rattle.std.proofs.Common.{◌++◌, length, Bool, true, false, cond, refl, ap, sym, ◌∙◌, subst}
-use Rattle.std.proofs.Common.{arith, rules}
+use Rattle.std.proofs.Common.{length, refl, ap, sym, ◌∙◌, subst}
+use Rattle.std.proofs.Common.{arith}
 use Rattle.std.proofs.lemmas.Grind.{common_steps}
 use Rattle.std.proofs.Math.Nat.{pow-le-pow_right}
-use Rattle.std.specs.Int.{w16, w32, to_le_bytes}
 use Rattle.std.specs.List.{AllByRecursion}
 use Rattle.scale_info_bytes.specs.Encodings.{IsByte, HasPrefix}
 use Rattle.scale_info_bytes.specs.Numbers.{EncodesCompact, in_one, in_two, in_four, in_five}
-use Rattle.scale_info_value.specs.Outcomes.{Outcome, decoded, failed, malformed, and_then, outcome_map}
-use Rattle.scale_info_value.specs.Numbers.{byte, bytes, number, little_endian, at_least, below}
-use Rattle.scale_info_value.specs.Numbers.{compact_after, compact, compact_below, count}
+use Rattle.scale_info_value.specs.Outcomes.{Outcome, decoded, failed, and_then}
+use Rattle.scale_info_value.specs.Numbers.{below}
+use Rattle.scale_info_value.specs.Numbers.{compact_after, count}
 
 -- what a count is made of
 from_below : (limit n m : ℕ) (r s : List ℕ) → below limit n r ≡ decoded m s → (n < limit) × (n ≡ m) × (r ≡ s)

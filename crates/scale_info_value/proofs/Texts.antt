@@ -1,5 +1,5 @@
 -- Texts at the start of bytes, which are the strings of the grammar of tables.
-use Rattle.std.proofs.Common.{◌≡◌, ℕ, ◌≤◌, ◌+◌, List, ◌++◌, length, take, drop, Bool, true, false, refl, ap, sym, ◌∙◌}
+use Rattle.std.proofs.Common.{◌≡◌, ℕ, ◌≤◌, List, ◌++◌, length, take, drop, Bool, true, false, refl, ap, sym, ◌∙◌}
 use Rattle.std.proofs.Common.{subst, append_assoc, arith, IsUtf8}
 use Rattle.std.proofs.Math.Seq.{take-append_seam, drop-append_seam}
 use Rattle.std.proofs.lemmas.Grind.{common_steps}

@@ -1,5 +1,5 @@
 -- Small tables, on which the definition of readings is tried.
-use Rattle.std.specs.Prelude.{ℕ, List, [], ◌∷◌, None, Some, codes, map}
+use Rattle.std.specs.Prelude.{ℕ, List, [], ◌∷◌, codes, map}
 use Rattle.scale_info_laws.specs.Examples.{id, plain, field, unnamed, variant}
 use Rattle.scale_info_types.specs.Portable.{TypeDef}
 use Rattle.scale_info_types.specs.declared.ty.TypeDef.TheVariants as def
