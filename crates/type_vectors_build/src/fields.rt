@@ -149,16 +149,41 @@ fn the_last_member_of_a_tuple_stays(rt: HostRuntime) -> Result<(), Fail> {
     Ok(())
 }
 
+/// The tuple of these members.
+fn tuple_of(alloc: Global, given: Vec<MetaType>) -> Result<TypeDef, AllocError> {
+    TypeDefTuple::new(alloc, given)
+}
+
+/// The list of `Phantom<u8>` alone.
+fn a_phantom(alloc: Global) -> Result<Vec<MetaType>, AllocError> {
+    tuple_meta_type!(alloc; Phantom<u8>)
+}
+
+/// The tuple of `Phantom<u8>` alone.
+fn tuple_of_a_phantom(alloc: Global) -> Result<TypeDef, AllocError> {
+    tuple_of(alloc, a_phantom(alloc)?)
+}
+
+/// The tuple of `u8` alone.
+fn tuple_of_a_number(alloc: Global) -> Result<TypeDef, AllocError> {
+    tuple_of(alloc, tuple_meta_type!(alloc; u8)?)
+}
+
+/// The tuple of nothing.
+fn nothing(alloc: Global) -> TypeDef {
+    TypeDefTuple::unit(alloc)
+}
+
 #[test]
-fn tuples_of_nothing(rt: HostRuntime) -> Result<(), Fail> {
-    let alloc = rt.alloc();
-    let phantoms = TypeDefTuple::new(alloc, tuple_meta_type!(alloc; Phantom<u8>)?)?;
-    holds(
-        &rt,
-        "a phantom alone",
-        phantoms == TypeDefTuple::unit(alloc),
-    );
-    let other = TypeDefTuple::new(alloc, tuple_meta_type!(alloc; u8)?)?;
-    holds(&rt, "a member", other != TypeDefTuple::unit(alloc));
+fn a_tuple_of_a_phantom_is_that_of_nothing(rt: HostRuntime) -> Result<(), Fail> {
+    let phantoms = tuple_of_a_phantom(rt.alloc())?;
+    holds(&rt, "a phantom alone", phantoms == nothing(rt.alloc()));
+    Ok(())
+}
+
+#[test]
+fn a_tuple_of_a_number_is_another(rt: HostRuntime) -> Result<(), Fail> {
+    let other = tuple_of_a_number(rt.alloc())?;
+    holds(&rt, "a member", other != nothing(rt.alloc()));
     Ok(())
 }

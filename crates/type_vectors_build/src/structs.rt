@@ -8,7 +8,8 @@ use scale_info::form::MetaForm;
 use scale_info::impls::meta_type;
 use scale_info::meta_type::{HasIdentity, Identified};
 use scale_info::{
-    Field, MetaType, Path, Type, TypeDefComposite, TypeId, TypeParameter, named_type_params,
+    Field, MetaType, Path, PathError, Type, TypeDefComposite, TypeId, TypeParameter,
+    named_type_params,
 };
 use std::alloc::{AllocError, Global};
 use std::marker::PhantomData;
@@ -33,8 +34,17 @@ impl<T: Identified> HasIdentity for MyStruct<T> {
 /// The path of a type with this name in this module.
 ///
 /// The texts are arguments, since a proof computes on texts that it can read.
+fn declared(
+    alloc: Global,
+    name: &'static str,
+    module_path: &'static str,
+) -> Result<Path, PathError> {
+    Path::new(alloc, name, module_path)
+}
+
+/// The same path; a refusal of it fails the test.
 pub fn path_of(alloc: Global, name: &'static str, module_path: &'static str) -> Result<Path, Fail> {
-    Ok(Path::new(alloc, name, module_path)?)
+    Ok(declared(alloc, name, module_path)?)
 }
 
 /// The path of the struct.
@@ -81,6 +91,26 @@ fn wanted_of<P: HasIdentity, D: HasIdentity>(alloc: Global) -> Result<Type, Fail
     wanted(alloc, meta_type::<P>(alloc)?, meta_type::<D>(alloc)?)
 }
 
+/// The description of the struct of itself, by builders.
+fn built_of_itself(alloc: Global) -> Result<Type, Fail> {
+    built::<Box<MyStruct<bool>>>(alloc)
+}
+
+/// The struct of `bool` as a type.
+fn inner(alloc: Global) -> Result<MetaType, AllocError> {
+    meta_type::<MyStruct<bool>>(alloc)
+}
+
+/// A box of the struct of `bool` as a type.
+fn boxed(alloc: Global) -> Result<MetaType, AllocError> {
+    meta_type::<Box<MyStruct<bool>>>(alloc)
+}
+
+/// The description of the struct of itself, by constructors.
+fn wanted_of_itself(alloc: Global) -> Result<Type, Fail> {
+    wanted(alloc, inner(alloc)?, boxed(alloc)?)
+}
+
 #[test]
 fn a_struct_of_bool(rt: HostRuntime) -> Result<(), Fail> {
     let alloc = rt.alloc();
@@ -92,8 +122,7 @@ fn a_struct_of_bool(rt: HostRuntime) -> Result<(), Fail> {
 #[test]
 fn a_struct_of_itself(rt: HostRuntime) -> Result<(), Fail> {
     let alloc = rt.alloc();
-    let wanted = wanted_of::<MyStruct<bool>, Box<MyStruct<bool>>>(alloc)?;
-    let built = built::<Box<MyStruct<bool>>>(alloc)?;
-    holds(&rt, "of itself", built == wanted);
+    let wanted = wanted_of_itself(alloc)?;
+    holds(&rt, "of itself", built_of_itself(alloc)? == wanted);
     Ok(())
 }

@@ -35,11 +35,16 @@ fn built(alloc: Global) -> Result<Built, AllocError> {
     Ok(fields)
 }
 
-/// The path of one segment.
-fn path_of_one(alloc: Global, name: &str) -> Result<Path<PortableForm>, AllocError> {
+/// The list of this segment alone.
+fn one_segment(alloc: Global, name: &str) -> Result<Vec<Text>, AllocError> {
     let mut segments = Vec::new(alloc);
     segments.push(Text::from_str(alloc, name)?)?;
-    Ok(Path::from(Items::from(segments)))
+    Ok(segments)
+}
+
+/// The path of one segment.
+fn path_of_one(alloc: Global, name: &str) -> Result<Path<PortableForm>, AllocError> {
+    Ok(Path::from(Items::from(one_segment(alloc, name)?)))
 }
 
 /// The path of the struct.
@@ -75,12 +80,17 @@ fn described(alloc: Global, id: u32) -> Result<Type<PortableForm>, AllocError> {
 /// Types in the order of their registration, each with the id that it gets.
 const REGISTERED: [(u32, u32); 4] = [(0, 0), (1, 1), (2, 2), (0, 0)];
 
+/// Registers the description that is at this id of the table; the id that it gets.
+fn register(alloc: Global, builder: &mut PortableRegistryBuilder, id: u32) -> Result<u32, Fail> {
+    Ok(builder.register_type(described(alloc, id)?)?)
+}
+
 #[test]
 fn a_struct_that_refers_to_itself(rt: HostRuntime) -> Result<(), Fail> {
     let alloc = rt.alloc();
     let mut builder = PortableRegistryBuilder::new(alloc);
     for (id, wanted) in &REGISTERED {
-        let found = builder.register_type(described(alloc, *id)?)?;
+        let found = register(alloc, &mut builder, *id)?;
         is(&rt, "id", found, *wanted);
     }
     is(&rt, "length", builder.finish(alloc)?.len(), 3);
@@ -91,7 +101,7 @@ fn a_struct_that_refers_to_itself(rt: HostRuntime) -> Result<(), Fail> {
 fn table(alloc: Global) -> Result<PortableRegistry, Fail> {
     let mut builder = PortableRegistryBuilder::new(alloc);
     for (id, _) in &REGISTERED {
-        builder.register_type(described(alloc, *id)?)?;
+        register(alloc, &mut builder, *id)?;
     }
     Ok(builder.finish(alloc)?)
 }
@@ -107,15 +117,33 @@ fn its_table_has_the_types_by_id(rt: HostRuntime) -> Result<(), Fail> {
     Ok(())
 }
 
+/// Whether a description has this path.
+fn has_path(ty: &Type<PortableForm>, path: &Path<PortableForm>) -> bool {
+    ty.path == *path
+}
+
+#[test]
+fn its_path_is_its_name(rt: HostRuntime) -> Result<(), Fail> {
+    let alloc = rt.alloc();
+    let ty = described(alloc, 2)?;
+    holds(&rt, "path", has_path(&ty, &path(alloc)?));
+    Ok(())
+}
+
+/// The definition of the struct, by constructors.
+fn definition(alloc: Global) -> Result<TypeDef<PortableForm>, AllocError> {
+    Ok(TypeDef::Composite(fields(alloc)?))
+}
+
+/// Whether a description has this definition.
+fn is_defined_by(ty: &Type<PortableForm>, definition: &TypeDef<PortableForm>) -> bool {
+    ty.type_def == *definition
+}
+
 #[test]
 fn its_fields_in_order(rt: HostRuntime) -> Result<(), Fail> {
     let alloc = rt.alloc();
     let ty = described(alloc, 2)?;
-    holds(&rt, "path", ty.path == path(alloc)?);
-    holds(
-        &rt,
-        "fields",
-        ty.type_def == TypeDef::Composite(fields(alloc)?),
-    );
+    holds(&rt, "fields", is_defined_by(&ty, &definition(alloc)?));
     Ok(())
 }

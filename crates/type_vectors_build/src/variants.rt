@@ -67,13 +67,29 @@ fn variant(alloc: Global, name: &'static str, index: u8) -> Result<Variant, Allo
     Ok(Variant::new(name, fields(alloc, name)?, index, Vec::new(alloc)))
 }
 
-/// The same variants by their constructors.
-fn wanted(alloc: Global) -> Result<TypeDefVariant, AllocError> {
+/// Puts the variant of this name and index at the end of a list.
+fn add_variant(
+    alloc: Global,
+    variants: &mut Vec<Variant>,
+    name: &'static str,
+    index: u8,
+) -> Result<(), AllocError> {
+    variants.push(variant(alloc, name, index)?)?;
+    Ok(())
+}
+
+/// The same variants by their constructors, in order.
+fn listed(alloc: Global) -> Result<Vec<Variant>, AllocError> {
     let mut variants = Vec::new(alloc);
     for (name, index) in &VARIANTS {
-        variants.push(variant(alloc, name, *index)?)?;
+        add_variant(alloc, &mut variants, name, *index)?;
     }
-    Ok(TypeDefVariant::from(variants))
+    Ok(variants)
+}
+
+/// The same variants, as a definition.
+fn wanted(alloc: Global) -> Result<TypeDefVariant, AllocError> {
+    Ok(TypeDefVariant::from(listed(alloc)?))
 }
 
 /// The enum, by builders.
