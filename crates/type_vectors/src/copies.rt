@@ -2,7 +2,8 @@
 use crate::asserts::holds;
 use crate::descriptions::meta_description;
 use crate::identities::bytes_identity;
-use scale_info::{Items, PortableType, TryClone};
+use scale_info::form::MetaForm;
+use scale_info::{Items, PortableType, TryClone, Type};
 use std::alloc::Global;
 use std::process::Abort;
 use std::test::Fail;
@@ -52,9 +53,14 @@ fn entries_and_descriptions_are_copied(rt: HostRuntime) -> Result<(), Fail> {
     Ok(())
 }
 
+/// Asserts that a copy of a description in the meta form equals it.
+fn is_meta_copied(rt: &impl Abort, alloc: Global, made: &Type<MetaForm>) -> Result<(), Fail> {
+    is_copied(rt, alloc, made)
+}
+
 #[test]
 fn descriptions_in_the_meta_form_are_copied(rt: HostRuntime) -> Result<(), Fail> {
-    is_copied(&rt, rt.alloc(), &meta_description(rt.alloc())?)
+    is_meta_copied(&rt, rt.alloc(), &meta_description(rt.alloc())?)
 }
 
 #[test]

@@ -3,9 +3,9 @@ use crate::asserts::is;
 use scale_info::form::PortableForm;
 use scale_info::{
     Scale, TypeDef, TypeDefArray, TypeDefBitSequence, TypeDefCompact, TypeDefComposite,
-    TypeDefPrimitive, TypeDefSequence, TypeDefTuple, TypeDefVariant,
+    TypeDefPrimitive, TypeDefSequence, TypeDefTuple, TypeDefVariant, Variant,
 };
-use std::alloc::Global;
+use std::alloc::{AllocError, Global};
 use std::test::Fail;
 use type_vectors_common::parts::{id, sequence, unnamed_fields, variant};
 use type_vectors_common::rows::rows;
@@ -24,30 +24,50 @@ compact: 06 04
 bit sequence: 07 04 08
 ";
 
-/// The definition with this name.
-fn definition(alloc: Global, name: &str) -> Result<TypeDef<PortableForm>, Fail> {
+/// The composite by its constructor.
+fn composite(alloc: Global) -> Result<TypeDef<PortableForm>, Fail> {
+    let fields = unnamed_fields(alloc, &[1])?;
+    Ok(TypeDef::from(TypeDefComposite::new(alloc, fields)?))
+}
+
+/// The composite by conversion of its fields.
+fn composite_of_list(alloc: Global) -> Result<TypeDef<PortableForm>, Fail> {
+    Ok(TypeDef::from(TypeDefComposite::from(unnamed_fields(alloc, &[1, 2])?)))
+}
+
+/// The one variant with these parts.
+fn variants(
+    alloc: Global,
+    name: &str,
+    fields: &[u32],
+    index: u8,
+) -> Result<Vec<Variant<PortableForm>>, AllocError> {
+    let made = variant(alloc, name, fields, index, &[])?;
+    Ok(vec![in alloc; made]?)
+}
+
+/// The enum by its constructor.
+fn enumeration(alloc: Global) -> Result<TypeDef<PortableForm>, Fail> {
+    let variants = variants(alloc, "V", &[], 0)?;
+    Ok(TypeDef::from(TypeDefVariant::new(alloc, variants)?))
+}
+
+/// The enum by conversion of its variants.
+fn enumeration_of_list(alloc: Global) -> Result<TypeDef<PortableForm>, Fail> {
+    Ok(TypeDef::from(TypeDefVariant::from(variants(alloc, "W", &[1], 2)?)))
+}
+
+/// The tuple by its constructor.
+fn tuple(alloc: Global) -> Result<TypeDef<PortableForm>, Fail> {
+    let members = vec![in alloc; id(1), id(1), id(0)]?;
+    Ok(TypeDef::from(TypeDefTuple::new_portable(alloc, members)?))
+}
+
+/// The definition with this name that holds no list.
+fn without_lists(name: &str) -> Result<TypeDef<PortableForm>, Fail> {
     match name {
-        "composite" => {
-            let fields = unnamed_fields(alloc, &[1])?;
-            Ok(TypeDef::from(TypeDefComposite::new(alloc, fields)?))
-        }
-        "composite of a list" => {
-            Ok(TypeDef::from(TypeDefComposite::from(unnamed_fields(alloc, &[1, 2])?)))
-        }
-        "variant" => {
-            let variants = vec![in alloc; variant(alloc, "V", &[], 0, &[])?]?;
-            Ok(TypeDef::from(TypeDefVariant::new(alloc, variants)?))
-        }
-        "variant of a list" => {
-            let variants = vec![in alloc; variant(alloc, "W", &[1], 2, &[])?]?;
-            Ok(TypeDef::from(TypeDefVariant::from(variants)))
-        }
         "sequence" => Ok(sequence(1)),
         "array" => Ok(TypeDef::from(TypeDefArray::new(32, id(1)))),
-        "tuple" => {
-            let members = vec![in alloc; id(1), id(1), id(0)]?;
-            Ok(TypeDef::from(TypeDefTuple::new_portable(alloc, members)?))
-        }
         "primitive" => Ok(TypeDef::from(TypeDefPrimitive::U8)),
         "compact" => Ok(TypeDef::from(TypeDefCompact::new(id(1)))),
         "bit sequence" => Ok(TypeDef::from(TypeDefBitSequence::new_portable(id(1), id(2)))),
@@ -55,12 +75,35 @@ fn definition(alloc: Global, name: &str) -> Result<TypeDef<PortableForm>, Fail> 
     }
 }
 
+/// The definition with this name.
+fn definition(alloc: Global, name: &str) -> Result<TypeDef<PortableForm>, Fail> {
+    match name {
+        "composite" => composite(alloc),
+        "composite of a list" => composite_of_list(alloc),
+        "variant" => enumeration(alloc),
+        "variant of a list" => enumeration_of_list(alloc),
+        "tuple" => tuple(alloc),
+        _ => without_lists(name),
+    }
+}
+
+/// The encoding of a definition.
+fn encoded(alloc: Global, made: &TypeDef<PortableForm>) -> Result<Vec<u8>, Fail> {
+    let mut output = Vec::new(alloc);
+    made.encode_to(&mut output)?;
+    Ok(output)
+}
+
+/// The encoding of the definition with this name.
+fn encoding(alloc: Global, name: &str) -> Result<Vec<u8>, Fail> {
+    encoded(alloc, &definition(alloc, name)?)
+}
+
 #[test]
 fn each_constructor_makes_its_kind_with_its_parts(rt: HostRuntime) -> Result<(), Fail> {
-    for row in rows(rt.alloc(), ENCODINGS)? {
-        let mut output = Vec::new(rt.alloc());
-        definition(rt.alloc(), row.name)?.encode_to(&mut output)?;
-        is(&rt, row.name, output.as_slice(), row.bytes.as_slice());
+    let encodings = rows(rt.alloc(), ENCODINGS)?;
+    for row in &encodings {
+        is(&rt, row.name, &encoding(rt.alloc(), row.name)?, &row.bytes);
     }
     Ok(())
 }
@@ -74,8 +117,7 @@ fn composites_return_their_fields(rt: HostRuntime) -> Result<(), Fail> {
 
 #[test]
 fn enums_return_their_variants(rt: HostRuntime) -> Result<(), Fail> {
-    let variants = vec![in rt.alloc(); variant(rt.alloc(), "V", &[], 0, &[])?]?;
-    let made = TypeDefVariant::from(variants);
+    let made = TypeDefVariant::from(variants(rt.alloc(), "V", &[], 0)?);
     is(&rt, "variants", made.variants().len(), 1);
     Ok(())
 }

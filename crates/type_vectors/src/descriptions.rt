@@ -3,6 +3,7 @@ use crate::asserts::{holds, is};
 use scale_info::form::{MetaForm, PortableForm};
 use scale_info::{Field, Path, PortableType, Type, TypeDef, TypeDefComposite, TypeParameter};
 use std::alloc::{AllocError, Global};
+use std::process::Abort;
 use std::test::Fail;
 use type_vectors_common::parts::{
     description, field, id, parameter, path, sequence, text, texts, variant,
@@ -103,14 +104,25 @@ fn converted(alloc: Global) -> Result<Type<PortableForm>, AllocError> {
     Ok(Type::from((path, Vec::new(alloc), sequence(2), docs)))
 }
 
+/// The description of the same four parts.
+fn constructed(alloc: Global) -> Result<Type<PortableForm>, AllocError> {
+    description(alloc, &["p"], &[], sequence(2), &["d"])
+}
+
+/// Whether two values are equal.
+fn are_equal<T: PartialEq>(left: &T, right: &T) -> bool {
+    left == right
+}
+
+/// Whether a description is the constructed one.
+fn is_constructed(alloc: Global, made: &Type<PortableForm>) -> Result<bool, AllocError> {
+    Ok(are_equal(made, &constructed(alloc)?))
+}
+
 #[test]
 fn four_parts_convert_to_a_description(rt: HostRuntime) -> Result<(), Fail> {
     let made = converted(rt.alloc())?;
-    holds(
-        &rt,
-        "description",
-        made == description(rt.alloc(), &["p"], &[], sequence(2), &["d"])?,
-    );
+    holds(&rt, "description", is_constructed(rt.alloc(), &made)?);
     Ok(())
 }
 
@@ -177,17 +189,27 @@ pub fn meta_description(alloc: Global) -> Result<Type<MetaForm>, AllocError> {
     Type::new(alloc, path, params, meta_definition(alloc), docs)
 }
 
+/// Asserts that parameters are those of the description in the meta form.
+fn are_meta_parameters(rt: &impl Abort, parameters: &[TypeParameter]) {
+    for parameter in parameters {
+        is(rt, "parameter", *parameter.name(), "T");
+    }
+}
+
+/// Asserts that a description returns the texts of the one in the meta form.
+fn returns_its_texts(rt: &impl Abort, made: &Type<MetaForm>) {
+    is(
+        rt,
+        "path",
+        made.path().segments(),
+        ["hello", "Planet"].as_slice(),
+    );
+    is(rt, "docs", made.docs(), ["docs"].as_slice());
+    are_meta_parameters(rt, made.type_params());
+}
+
 #[test]
 fn a_description_in_the_meta_form_returns_its_texts(rt: HostRuntime) -> Result<(), Fail> {
-    let made = meta_description(rt.alloc())?;
-    holds(
-        &rt,
-        "path",
-        made.path().segments() == ["hello", "Planet"].as_slice(),
-    );
-    holds(&rt, "docs", made.docs() == ["docs"].as_slice());
-    for param in made.type_params() {
-        is(&rt, "parameter", *param.name(), "T");
-    }
+    returns_its_texts(&rt, &meta_description(rt.alloc())?);
     Ok(())
 }

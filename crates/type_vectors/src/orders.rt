@@ -5,10 +5,10 @@
 use scale_info::form::PortableForm;
 use scale_info::impls::Compact;
 use scale_info::{
-    TypeDef, TypeDefArray, TypeDefBitSequence, TypeDefCompact, TypeDefComposite, TypeDefPrimitive,
-    TypeDefTuple, TypeDefVariant, TypeId, Variant,
+    Field, Type, TypeDef, TypeDefArray, TypeDefBitSequence, TypeDefCompact, TypeDefComposite,
+    TypeDefPrimitive, TypeDefTuple, TypeDefVariant, TypeId, Variant,
 };
-use std::alloc::Global;
+use std::alloc::{AllocError, Global};
 use std::process::Abort;
 use std::test::Fail;
 use type_vectors_common::parts::*;
@@ -25,9 +25,38 @@ fn ascends<T: Ord>(rt: &impl Abort, values: &[T]) {
     }
 }
 
+/// Appends what was made.
+fn push_made<T: Drop>(all: &mut Vec<T>, made: Result<T, AllocError>) -> Result<(), AllocError> {
+    all.push(made?)?;
+    Ok(())
+}
+
+/// A name, a type, a type name and docs.
+type FieldRow = (
+    Option<&'static str>,
+    u32,
+    Option<&'static str>,
+    &'static [&'static str],
+);
+
+/// The field of a row.
+fn field_of(alloc: Global, row: FieldRow) -> Result<Field<PortableForm>, AllocError> {
+    let (name, ty, type_name, docs) = row;
+    field(alloc, name, ty, type_name, docs)
+}
+
+/// The fields of these rows.
+fn fields_of(alloc: Global, rows: &[FieldRow]) -> Result<Vec<Field<PortableForm>>, AllocError> {
+    let mut all = Vec::new(alloc);
+    for row in rows {
+        push_made(&mut all, field_of(alloc, *row))?;
+    }
+    Ok(all)
+}
+
 #[test]
 fn fields_are_ordered_by_name_type_type_name_and_docs(rt: HostRuntime) -> Result<(), Fail> {
-    let rows: [(Option<&str>, u32, Option<&str>, &[&str]); 10] = [
+    let rows: [FieldRow; 10] = [
         (None, 9, Some("z"), &["z"]),
         (Some(""), 9, Some("z"), &["z"]),
         (Some("Z"), 9, Some("z"), &["z"]),
@@ -39,17 +68,28 @@ fn fields_are_ordered_by_name_type_type_name_and_docs(rt: HostRuntime) -> Result
         (Some("a"), 1, Some("a"), &["a"]),
         (Some("ab"), 0, None, &[]),
     ];
-    let mut all = Vec::new(rt.alloc());
-    for (name, ty, type_name, docs) in rows {
-        all.push(field(rt.alloc(), name, ty, type_name, docs)?)?;
-    }
-    ascends(&rt, &all);
+    ascends(&rt, &fields_of(rt.alloc(), &rows)?);
     Ok(())
+}
+
+/// A name, the types of fields, an index and docs.
+type VariantRow = (&'static str, &'static [u32], u8, &'static [&'static str]);
+
+/// The variants of these rows.
+fn variants_of(
+    alloc: Global,
+    rows: &[VariantRow],
+) -> Result<Vec<Variant<PortableForm>>, AllocError> {
+    let mut all = Vec::new(alloc);
+    for (name, fields, index, docs) in rows {
+        push_made(&mut all, variant(alloc, name, fields, *index, docs))?;
+    }
+    Ok(all)
 }
 
 #[test]
 fn variants_are_ordered_by_name_fields_index_and_docs(rt: HostRuntime) -> Result<(), Fail> {
-    let rows: [(&str, &[u32], u8, &[&str]); 7] = [
+    let rows: [VariantRow; 7] = [
         ("a", &[9], 9, &["z"]),
         ("b", &[], 9, &["z"]),
         ("b", &[0], 9, &["z"]),
@@ -58,11 +98,7 @@ fn variants_are_ordered_by_name_fields_index_and_docs(rt: HostRuntime) -> Result
         ("b", &[0, 0], 2, &["a"]),
         ("b", &[1], 0, &[]),
     ];
-    let mut all = Vec::new(rt.alloc());
-    for (name, fields, index, docs) in rows {
-        all.push(variant(rt.alloc(), name, fields, index, docs)?)?;
-    }
-    ascends(&rt, &all);
+    ascends(&rt, &variants_of(rt.alloc(), &rows)?);
     Ok(())
 }
 
@@ -76,11 +112,37 @@ fn parameters_are_ordered_by_name_and_type(rt: HostRuntime) -> Result<(), Fail> 
     Ok(())
 }
 
+/// A path, parameters, the type of a sequence, and docs.
+type DescriptionRow = (
+    &'static [&'static str],
+    &'static [&'static str],
+    u32,
+    &'static [&'static str],
+);
+
+/// The description of a row.
+fn description_of(alloc: Global, row: DescriptionRow) -> Result<Type<PortableForm>, AllocError> {
+    let (path, params, ty, docs) = row;
+    description(alloc, path, params, sequence(ty), docs)
+}
+
+/// The descriptions of these rows.
+fn descriptions_of(
+    alloc: Global,
+    rows: &[DescriptionRow],
+) -> Result<Vec<Type<PortableForm>>, AllocError> {
+    let mut all = Vec::new(alloc);
+    for row in rows {
+        push_made(&mut all, description_of(alloc, *row))?;
+    }
+    Ok(all)
+}
+
 #[test]
 fn descriptions_are_ordered_by_path_parameters_definition_and_docs(
     rt: HostRuntime,
 ) -> Result<(), Fail> {
-    let rows: [(&[&str], &[&str], u32, &[&str]); 7] = [
+    let rows: [DescriptionRow; 7] = [
         (&[], &["z"], 9, &["z"]),
         (&["p"], &[], 9, &["z"]),
         (&["p"], &["S"], 1, &["z"]),
@@ -89,11 +151,7 @@ fn descriptions_are_ordered_by_path_parameters_definition_and_docs(
         (&["p"], &["S", "T"], 0, &[]),
         (&["p", "q"], &[], 0, &[]),
     ];
-    let mut all = Vec::new(rt.alloc());
-    for (path, params, ty, docs) in rows {
-        all.push(description(rt.alloc(), path, params, sequence(ty), docs)?)?;
-    }
-    ascends(&rt, &all);
+    ascends(&rt, &descriptions_of(rt.alloc(), &rows)?);
     Ok(())
 }
 
@@ -151,21 +209,35 @@ const DEFINITIONS: u32 = 34;
 /// The definition with this number in ascending order.
 fn definition(alloc: Global, number: u32) -> Result<TypeDef<PortableForm>, Fail> {
     match number {
+        0..=5 => before_sequences(alloc, number),
+        11 => tuple(alloc, &[]),
+        12 => tuple(alloc, &[0, 0]),
+        13 => tuple(alloc, &[1]),
+        6..=10 => sequence_or_array(number),
+        _ => after_tuples(number),
+    }
+}
+
+/// The composites and the enums, which come first.
+fn before_sequences(alloc: Global, number: u32) -> Result<TypeDef<PortableForm>, Fail> {
+    match number {
         0 => Ok(TypeDef::from(TypeDefComposite::from(unnamed_fields(alloc, &[])?))),
         1 => Ok(TypeDef::from(TypeDefComposite::from(unnamed_fields(alloc, &[0])?))),
         2 => Ok(TypeDef::from(TypeDefComposite::from(unnamed_fields(alloc, &[0, 1])?))),
         3 => Ok(TypeDef::from(TypeDefVariant::from(variants(alloc, &[])?))),
         4 => Ok(TypeDef::from(TypeDefVariant::from(variants(alloc, &[0])?))),
-        5 => Ok(TypeDef::from(TypeDefVariant::from(variants(alloc, &[0, 1])?))),
+        _ => Ok(TypeDef::from(TypeDefVariant::from(variants(alloc, &[0, 1])?))),
+    }
+}
+
+/// The sequences and the arrays, which come after enums.
+fn sequence_or_array(number: u32) -> Result<TypeDef<PortableForm>, Fail> {
+    match number {
         6 => Ok(sequence(0)),
         7 => Ok(sequence(1)),
         8 => Ok(TypeDef::from(TypeDefArray::new(0, id(1)))),
         9 => Ok(TypeDef::from(TypeDefArray::new(1, id(0)))),
-        10 => Ok(TypeDef::from(TypeDefArray::new(1, id(1)))),
-        11 => tuple(alloc, &[]),
-        12 => tuple(alloc, &[0, 0]),
-        13 => tuple(alloc, &[1]),
-        _ => after_tuples(number),
+        _ => Ok(TypeDef::from(TypeDefArray::new(1, id(1)))),
     }
 }
 

@@ -1,4 +1,6 @@
 //! The public items, each by its path at `scale_info`.
+use crate::asserts::holds;
+use crate::asserts::is;
 use scale_info::DecodeError;
 use scale_info::EncodeError;
 use scale_info::Field;
@@ -121,7 +123,9 @@ use scale_info::walk::RetainError;
 use scale_info::walk::number;
 use scale_info::walk::number_recursive;
 use std::alloc::Global;
+use std::process::Abort;
 use std::test::Fail;
+use type_vectors_common::rows::row_bytes;
 
 /// The items of the root, each in the place of a type.
 type Root = (
@@ -236,48 +240,100 @@ fn is_built<F: IdentityForm, G: IdForm, D: Describes>(
     _value: &D,
 ) {}
 
-/// The functions and macros that list types, each called once with the type parameter.
-fn lists_are_offered<T: HasIdentity>(alloc: Global) -> Result<(), Fail> {
-    let types = with_type::<T>(alloc, tuple_meta_type!(alloc; T))?;
-    let given = with_type_param::<T>(alloc, named_type_params!(alloc; (U, T)), "T")?;
-    let own = type_params!(alloc; T)?;
+/// The function and the macro that list types, each called once with the type parameter.
+fn types_are_listed<T: HasIdentity>(alloc: Global) -> Result<(), Fail> {
+    let _ = with_type::<T>(alloc, tuple_meta_type!(alloc; T))?;
+    Ok(())
+}
+
+/// The function and a macro that list type parameters by name, in the same way.
+fn parameters_are_named<T: HasIdentity>(alloc: Global) -> Result<(), Fail> {
+    let _ = with_type_param::<T>(alloc, named_type_params!(alloc; (U, T)), "T")?;
+    Ok(())
+}
+
+/// The macro that lists type parameters, in the same way.
+fn parameters_are_listed<T: HasIdentity>(alloc: Global) -> Result<(), Fail> {
+    let _ = type_params!(alloc; T)?;
+    Ok(())
+}
+
+/// The functions and macros that list types, and the traits of what is built.
+fn lists_are_offered(alloc: Global) -> Result<(), Fail> {
     is_built::<MetaForm, PortableForm, Catalogue>(None, None, &Catalogue::new(alloc));
-    let _ = (types, given, own);
+    types_are_listed::<u8>(alloc)?;
+    parameters_are_named::<u8>(alloc)?;
+    parameters_are_listed::<u8>(alloc)
+}
+
+/// The functions that number the entries of a table, each called once.
+fn numbers_are_offered(alloc: Global, table: &PortableRegistry) -> Result<(), Fail> {
+    let _ = number(alloc, table.types(), &[0])?;
+    let _ = number_recursive(alloc, table.types(), &[0])?;
+    Ok(())
+}
+
+/// The function that decodes a value, called once.
+fn values_are_offered(alloc: Global, table: &PortableRegistry) -> Result<(), Fail> {
+    let _ = decode_value(alloc, table, 0, &[7])?;
+    Ok(())
+}
+
+/// The functions that register, each called once.
+fn registries_are_offered(alloc: Global) -> Result<(), Fail> {
+    is_registered(&meta_type_of::<u8>(alloc)?);
+    let _ = PortableRegistry::from_registry(alloc, &Registry::new(alloc))?;
+    Ok(())
+}
+
+/// The bytes of a table.
+fn encoded(alloc: Global, table: &PortableRegistry) -> Result<Vec<u8>, Fail> {
+    let mut bytes = Vec::new(alloc);
+    table.encode(&mut bytes)?;
+    Ok(bytes)
+}
+
+/// The function of the module that prunes, called once.
+fn pruning_is_offered(alloc: Global, bytes: &[u8]) -> Result<(), Fail> {
+    let mut pruned = Vec::new(alloc);
+    let _ = prune_of_module(alloc, bytes, &[0], &mut pruned)?;
     Ok(())
 }
 
 /// The functions of the modules, each called once.
 fn functions_are_offered(alloc: Global, table: &PortableRegistry) -> Result<(), Fail> {
-    let _ = number(alloc, table.types(), &[0])?;
-    let _ = number_recursive(alloc, table.types(), &[0])?;
-    let _ = decode_value(alloc, table, 0, &[7])?;
-    let mut bytes = Vec::new(alloc);
-    table.encode(&mut bytes)?;
-    let mut pruned = Vec::new(alloc);
-    let _ = prune_of_module(alloc, &bytes, &[0], &mut pruned)?;
-    is_registered(&meta_type_of::<u8>(alloc)?);
-    let _ = PortableRegistry::from_registry(alloc, &Registry::new(alloc))?;
-    lists_are_offered::<u8>(alloc)
+    numbers_are_offered(alloc, table)?;
+    values_are_offered(alloc, table)?;
+    pruning_is_offered(alloc, &encoded(alloc, table)?)?;
+    registries_are_offered(alloc)?;
+    lists_are_offered(alloc)
 }
 
-/// What the functions of the root that write bytes append in turn, each called once, and whether
-/// both that write JSON write the same text.
-fn appended(alloc: Global, table: &PortableRegistry) -> Result<(Vec<u8>, bool), Fail> {
-    let same = from_json(alloc, &to_json(alloc, table)?)?;
-    let text = append_json(&same, Vec::new(alloc))?;
-    let mut bytes = Vec::new(alloc);
-    same.encode(&mut bytes)?;
-    let (same_text, _) = append_json_of(alloc, &bytes, Vec::new(alloc))?;
+/// The table that is read from the tree of a table.
+fn read_back(alloc: Global, table: &PortableRegistry) -> Result<PortableRegistry, Fail> {
+    Ok(from_json(alloc, &to_json(alloc, table)?)?)
+}
+
+/// Whether the function that writes the JSON of a table and the one that writes that of its bytes
+/// write the same text.
+fn is_written_alike(alloc: Global, table: &PortableRegistry, bytes: &[u8]) -> Result<bool, Fail> {
+    let text = append_json(table, Vec::new(alloc))?;
+    let (same_text, _) = append_json_of(alloc, bytes, Vec::new(alloc))?;
+    Ok(text.as_slice() == same_text.as_slice())
+}
+
+/// Exports no types of a catalogue, after what the output has.
+fn export_nothing(catalogue: &Catalogue, output: &mut Vec<u8>) -> Result<Exported, ExportError> {
+    export(catalogue, &[], |_| true, output)
+}
+
+/// What the functions of the root that write bytes append in turn, each called once.
+fn appended(alloc: Global, bytes: &[u8]) -> Result<Vec<u8>, Fail> {
     let mut pruned = Vec::new(alloc);
-    let _ = prune(alloc, &bytes, &[0], &mut pruned)?;
-    append_pruned(alloc, &bytes, &[0], &mut pruned)?;
-    let _ = export(
-        &Catalogue::new(alloc),
-        &Vec::new(alloc),
-        |_| true,
-        &mut pruned,
-    )?;
-    Ok((pruned, text.as_slice() == same_text.as_slice()))
+    let _ = prune(alloc, bytes, &[0], &mut pruned)?;
+    append_pruned(alloc, bytes, &[0], &mut pruned)?;
+    let _ = export_nothing(&Catalogue::new(alloc), &mut pruned)?;
+    Ok(pruned)
 }
 
 /// Names the items, which is enough for the check to find each by its path; nothing calls it.
@@ -287,21 +343,51 @@ fn are_offered(
     _builders: Option<&Builders>,
 ) {}
 
-#[test]
-fn public_items_are_offered_at_scale_info(rt: HostRuntime) -> Result<(), Fail> {
-    is_offered::<u32, PortableForm>(&7, None);
-    is_described(&7);
-    let mut builder = PortableRegistryBuilder::new(rt.alloc());
-    let id = builder.register_type(Type::from_def(rt.alloc(), TypeDefPrimitive::U8.into()))?;
-    let table = builder.finish(rt.alloc())?;
+/// Registers `u8`, and returns its id.
+fn register_u8(alloc: Global, builder: &mut PortableRegistryBuilder) -> Result<u32, Fail> {
+    Ok(builder.register_type(Type::from_def(alloc, TypeDefPrimitive::U8.into()))?)
+}
+
+/// The id of `u8`, and the table of it alone.
+fn table_of_u8(alloc: Global) -> Result<(u32, PortableRegistry), Fail> {
+    let mut builder = PortableRegistryBuilder::new(alloc);
+    let id = register_u8(alloc, &mut builder)?;
+    Ok((id, builder.finish(alloc)?))
+}
+
+/// Asserts that the type with this id is the only one of the table, and has no path.
+fn has_one_entry(rt: &impl Abort, id: u32, table: &PortableRegistry) {
     assert!(rt; table.is_closed() && table.len() == 1 && !table.is_empty());
     for (index, ty) in table.entries() {
         assert_eq!(rt; index, id);
         assert!(rt; ty.path.is_empty() && is_rust_identifier("u8"));
     }
-    let twice = [4, 0, 0, 0, 5, 3, 0, 4, 0, 0, 0, 5, 3, 0, 0];
-    let (bytes, same) = appended(rt.alloc(), &table)?;
-    assert_eq!(rt; bytes.as_slice(), twice.as_slice());
-    assert!(rt; same);
+}
+
+/// The bytes of the table of `u8`, twice, and of a table without entries.
+const TWICE: &str = "04 000000050300 04 000000050300 00";
+
+/// Asserts that the functions that append write these bytes.
+fn is_written_twice(rt: &impl Abort, alloc: Global, bytes: &[u8]) -> Result<(), Fail> {
+    let wanted = row_bytes(alloc, TWICE)?;
+    is(rt, "twice", &appended(alloc, bytes)?, &wanted);
+    Ok(())
+}
+
+/// Asserts that the table of `u8` is written twice, and its text in two ways.
+fn is_appended(rt: &impl Abort, alloc: Global, table: &PortableRegistry) -> Result<(), Fail> {
+    let same = read_back(alloc, table)?;
+    let bytes = encoded(alloc, &same)?;
+    holds(rt, "one text", is_written_alike(alloc, &same, &bytes)?);
+    is_written_twice(rt, alloc, &bytes)
+}
+
+#[test]
+fn public_items_are_offered_at_scale_info(rt: HostRuntime) -> Result<(), Fail> {
+    is_offered::<u32, PortableForm>(&7, None);
+    is_described(&7);
+    let (id, table) = table_of_u8(rt.alloc())?;
+    has_one_entry(&rt, id, &table);
+    is_appended(&rt, rt.alloc(), &table)?;
     functions_are_offered(rt.alloc(), &table)
 }
