@@ -1,5 +1,5 @@
 -- Descriptions with ids in place of types.
-use Rattle.std.specs.Prelude.{ℕ, List, map}
+use Rattle.std.specs.Prelude.{ℕ, List, map, slice_index_or}
 use Rattle.scale_info_types.specs.Portable as portable
 use Rattle.scale_info_types.specs.declared.ty.Description.{Description}
 use Rattle.scale_info_types.specs.References.{references}
@@ -18,3 +18,7 @@ with_ids id_of text d = map_description (λ t. symbol (id_of t)) text d
 -- the ids that a description refers to, in order
 abbrev pub ids_in : portable.Description → List ℕ
 ids_in ty = map (λ (r : portable.Id). r.id) (references ty)
+
+-- the new number of a reference, by a list of the numbers: 0 where the list has none
+abbrev pub number_of : List ℕ → portable.Id → ℕ
+number_of numbers symbol = slice_index_or numbers symbol.id 0

@@ -4,3 +4,4 @@
 pub mod conversion;
 pub mod laws;
 pub mod references;
+pub mod renumbering;
