@@ -19,9 +19,9 @@ use Rattle.scale_info_types.specs.Portable.{Id, Text}
 use Rattle.scale_info_types.specs.References.{references}
 use Rattle.scale_info_types.specs.declared.ty.PortableType.{PortableType}
 use Rattle.scale_info_walk.proofs.Visiting.{same_or_not}
-use Rattle.scale_info_walk.specs.Kept.{AreKept, kept_entry, number_of}
+use Rattle.scale_info_walk.specs.Kept.{AreKept, kept_entry}
 use Rattle.scale_info_walk.specs.Pruned.{IsPruned}
-use Rattle.scale_info_references.specs.Conversions.{ids_in}
+use Rattle.scale_info_references.specs.Conversions.{ids_in, number_of}
 use Rattle.scale_info_walk.specs.TypeSystems.{entry_of, types_system}
 use Rattle.scale_info_walk.specs.Walks.{AreNumbers}
 

@@ -1,12 +1,8 @@
 -- Entries that are kept, one by one.
-use Rattle.std.specs.Prelude.{◌≡◌, ℕ, List, Some, length, slice_get, slice_index_or}
+use Rattle.std.specs.Prelude.{◌≡◌, ℕ, List, Some, length, slice_get}
 use Rattle.scale_info_references.specs.Conversions.{with_ids}
 use Rattle.scale_info_types.specs.Portable.{Id, Text}
 use Rattle.scale_info_types.specs.declared.ty.PortableType.{PortableType}
-
--- the new number of a reference
-abbrev pub number_of : List ℕ → Id → ℕ
-number_of numbers symbol = slice_index_or numbers symbol.id 0
 
 -- the entry with this id, each reference r by the number f r
 abbrev pub kept_entry : (Id → ℕ) → ℕ → PortableType → PortableType

@@ -1,5 +1,5 @@
 -- A list of descriptions as a reference system, whose nodes are its indices.
-use Rattle.std.specs.Prelude.{ℕ, List, option_map, slice_get, map}
+use Rattle.std.specs.Prelude.{ℕ, List, option_map, slice_get}
 use Rattle.scale_info_references.specs.Conversions.{ids_in}
 use Rattle.scale_info_types.specs.Shapes.{Shape, shape}
 use Rattle.scale_info_types.specs.declared.ty.PortableType.{PortableType}

@@ -3,7 +3,8 @@ ghost use Rattle.std.specs.Prelude.{◌≡◌, ◌≢◌, ◌<◌, ◌≤◌, �
 ghost use Rattle.std.specs.Prelude.{length, slice_get};
 ghost use Rattle.std.specs.BTreeMap.{get};
 ghost use Rattle.std.specs.Ordering.{nat_cmp};
-ghost use Rattle.scale_info_walk.specs.Kept.{AreKept, number_of};
+ghost use Rattle.scale_info_references.specs.Conversions.{number_of};
+ghost use Rattle.scale_info_walk.specs.Kept.{AreKept};
 ghost use Rattle.scale_info_walk.specs.Pruned.{IsChosen, IsPruned, IsRetainError};
 
 use crate::references::TypeReferences;

@@ -2,10 +2,10 @@ use Rattle.std.proofs.Common.{rules, arith, ◌≡◌, ◌++◌, ◌∷◌, [], 
 use Rattle.std.proofs.Common.{get_or, Some, slice_get, List}
 use Rattle.std.proofs.lemmas.List.{take_more}
 use Rattle.std.proofs.lemmas.Option.{slice_get_read}
-use Rattle.scale_info_references.specs.Conversions.{with_ids}
+use Rattle.scale_info_references.specs.Conversions.{number_of, with_ids}
 use Rattle.scale_info_types.specs.Portable.{Text}
 use Rattle.scale_info_types.specs.declared.ty.PortableType.{PortableType}
-use Rattle.scale_info_walk.specs.Kept.{AreKept, number_of}
+use Rattle.scale_info_walk.specs.Kept.{AreKept}
 use Rattle.scale_info_walk.proofs.KeptEntries.{kept_more}
 use Rattle.scale_info_walk.proofs.pruned.kept_entries.Goals as goal
 

@@ -3,7 +3,8 @@ use Rattle.std.proofs.lemmas.List.Elements.{Contains-get_or}
 use Rattle.std.proofs.lemmas.Result.{err_from_is_err_and}
 use Rattle.scale_info_walk.proofs.Visiting.{numbers_long, numbers_within}
 use Rattle.scale_info_walk.proofs.KeptEntries.{is_pruned, numbers_agree}
-use Rattle.scale_info_walk.specs.Kept.{AreKept, number_of}
+use Rattle.scale_info_references.specs.Conversions.{number_of}
+use Rattle.scale_info_walk.specs.Kept.{AreKept}
 use Rattle.scale_info_walk.specs.Pruned.{IsChosen, IsRetainError}
 use Rattle.scale_info_walk.specs.TypeSystems.{types_system}
 use Rattle.scale_info_walk.specs.Walks.{IsCause}
