@@ -2,10 +2,38 @@
 use crate::asserts::is;
 use scale_info::impls::Compact;
 use scale_info::{DecodeError, PortableRegistry, Scale};
-use std::alloc::Global;
+use std::alloc::{AllocError, Global};
 use std::process::Abort;
 use std::test::Fail;
-use type_vectors_common::rows::{COMPACT_NUMBERS, MALFORMED, TABLES, rows};
+use type_vectors_common::rows::{COMPACT_NUMBERS, MALFORMED, Row, TABLES, rows};
+
+/// The bytes of both, in order.
+fn chained(alloc: Global, first: &[u8], second: &[u8]) -> Result<Vec<u8>, AllocError> {
+    let mut bytes = Vec::new(alloc);
+    bytes.extend_from_slice(first)?;
+    bytes.extend_from_slice(second)?;
+    Ok(bytes)
+}
+
+/// The encoding of a table, appended to the byte `aa`.
+fn appended(alloc: Global, table: &PortableRegistry) -> Result<Vec<u8>, Fail> {
+    let mut output = vec![in alloc; 0xaa]?;
+    table.encode(&mut output)?;
+    Ok(output)
+}
+
+/// Asserts that encoding a table appends the bytes to the byte `aa`, which stays.
+fn is_appended(
+    rt: &impl Abort,
+    alloc: Global,
+    name: &str,
+    table: &PortableRegistry,
+    bytes: &[u8],
+) -> Result<(), Fail> {
+    let wanted = chained(alloc, &[0xaa], bytes)?;
+    is(rt, name, &appended(alloc, table)?, &wanted);
+    Ok(())
+}
 
 /// Asserts that the bytes before `after` decode to a table, that `after` is left, and that
 /// encoding the table appends the bytes.
@@ -16,16 +44,16 @@ fn round_trips(
     bytes: &[u8],
     after: &[u8],
 ) -> Result<(), Fail> {
-    let mut input = Vec::new(alloc);
-    input.extend_from_slice(bytes)?;
-    input.extend_from_slice(after)?;
+    let input = chained(alloc, bytes, after)?;
     let (table, rest) = PortableRegistry::decode(alloc, &input)?;
     is(rt, name, rest, after);
-    let mut output = vec![in alloc; 0xaa]?;
-    table.encode(&mut output)?;
-    is(rt, name, output[0], 0xaa);
-    is(rt, name, &output[1..], bytes);
-    Ok(())
+    is_appended(rt, alloc, name, &table, bytes)
+}
+
+/// Asserts that a row round-trips alone and before another byte.
+fn row_round_trips(rt: &impl Abort, alloc: Global, row: &Row) -> Result<(), Fail> {
+    round_trips(rt, alloc, row.name, &row.bytes, &[])?;
+    round_trips(rt, alloc, row.name, &row.bytes, &[0xff])
 }
 
 /// Asserts that no prefix of the input is the encoding of a table.
@@ -34,15 +62,19 @@ fn is_malformed(rt: &impl Abort, alloc: Global, name: &str, input: &[u8]) {
     is(rt, name, error, Some(DecodeError::Malformed));
 }
 
+/// Asserts that each of these rows round-trips, in both ways.
+fn rows_round_trip(rt: &impl Abort, alloc: Global, tables: &[Row]) -> Result<(), Fail> {
+    for row in tables {
+        row_round_trips(rt, alloc, row)?;
+    }
+    Ok(())
+}
+
 #[test]
 fn tables_round_trip_alone_and_before_another_byte(rt: HostRuntime) -> Result<(), Fail> {
     let tables = rows(rt.alloc(), TABLES)?;
     is(&rt, "tables", tables.len(), 23);
-    for row in &tables {
-        round_trips(&rt, rt.alloc(), row.name, &row.bytes, &[])?;
-        round_trips(&rt, rt.alloc(), row.name, &row.bytes, &[0xff])?;
-    }
-    Ok(())
+    rows_round_trip(&rt, rt.alloc(), &tables)
 }
 
 #[test]
@@ -80,11 +112,15 @@ fn compact_numbers_round_trip(rt: HostRuntime) -> Result<(), Fail> {
     Ok(())
 }
 
+/// The bytes of a table of `bool` alone, whose id has this encoding.
+fn bytes_of_id(alloc: Global, id: &[u8]) -> Result<Vec<u8>, AllocError> {
+    let entry = chained(alloc, id, &[0, 0, 5, 0, 0])?;
+    chained(alloc, &[4], &entry)
+}
+
 /// The entry of `bool` whose id has this encoding, alone in its table.
 fn table_of_id(alloc: Global, id: &[u8]) -> Result<PortableRegistry, Fail> {
-    let mut input = vec![in alloc; 4]?;
-    input.extend_from_slice(id)?;
-    input.extend_from_slice(&[0, 0, 5, 0, 0])?;
+    let input = bytes_of_id(alloc, id)?;
     let (table, _) = PortableRegistry::decode(alloc, &input)?;
     Ok(table)
 }

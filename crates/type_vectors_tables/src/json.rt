@@ -175,15 +175,55 @@ const NO_MEMBERS: &str = r#""path":null
 "params":[{"name":"T","type":"1"}]
 "#;
 
+/// The tree of a table.
+fn tree_of(alloc: Global, table: &PortableRegistry) -> Result<Value, Fail> {
+    Ok(to_json(alloc, table)?)
+}
+
+/// The text of a tree.
+fn tree_text(alloc: Global, tree: &Value) -> Result<String, Fail> {
+    Ok(tree.to_string(alloc)?)
+}
+
+/// Asserts that the tree of a table has this text.
+fn has_tree(
+    rt: &impl Abort,
+    alloc: Global,
+    table: &PortableRegistry,
+    text: &str,
+) -> Result<(), Fail> {
+    let tree = tree_of(alloc, table)?;
+    is(rt, "tree", tree_text(alloc, &tree)?.as_str(), text);
+    Ok(())
+}
+
+/// The text of a table, appended to an output that has two bytes.
+fn appended(alloc: Global, table: &PortableRegistry) -> Result<Vec<u8>, Fail> {
+    Ok(append_json(table, b"> ".to_vec(alloc)?)?)
+}
+
+/// Asserts that this text of a table is appended, and that the output keeps what it had.
+fn is_appended(
+    rt: &impl Abort,
+    alloc: Global,
+    table: &PortableRegistry,
+    text: &str,
+) -> Result<(), Fail> {
+    let wanted = format!(in alloc; "> {text}")?;
+    is(
+        rt,
+        "output and text",
+        appended(alloc, table)?.as_slice(),
+        wanted.as_bytes(),
+    );
+    Ok(())
+}
+
 /// Asserts that the table with these bytes has this text, by its tree and without it.
 fn is_written(rt: &impl Abort, alloc: Global, bytes: &[u8], text: &str) -> Result<(), Fail> {
     let (table, _) = PortableRegistry::decode(alloc, bytes)?;
-    let tree = to_json(alloc, &table)?;
-    is(rt, "tree", tree.to_string(alloc)?.as_str(), text);
-    let line = append_json(&table, b"> ".to_vec(alloc)?)?;
-    is(rt, "output", &line[..2], b"> ".as_slice());
-    is(rt, "text", &line[2..], text.as_bytes());
-    Ok(())
+    has_tree(rt, alloc, &table, text)?;
+    is_appended(rt, alloc, &table, text)
 }
 
 /// Asserts that the tree of this text is read as the table with these bytes.
@@ -225,15 +265,19 @@ fn strings_are_escaped_as_serde_json_escapes_them(rt: HostRuntime) -> Result<(),
     is_text_of(&rt, rt.alloc(), ESCAPES, ESCAPED)
 }
 
+/// Asserts that the table that a block names is written as its text and read from it.
+fn is_block(rt: &impl Abort, alloc: Global, block: &str) -> Result<(), Fail> {
+    let Some((name, lines)) = block.split_once('\n') else {
+        return Err(Fail::new("a block has one line"));
+    };
+    let text = joined(alloc, lines)?;
+    is_text_of(rt, alloc, name, text.as_str())
+}
+
 #[test]
 fn tables_are_written_as_these_texts_and_read_from_them(rt: HostRuntime) -> Result<(), Fail> {
-    let alloc = rt.alloc();
     for block in TEXTS.split("\n\n") {
-        let Some((name, lines)) = block.split_once('\n') else {
-            return Err(Fail::new("a block has one line"));
-        };
-        let text = joined(alloc, lines)?;
-        is_text_of(&rt, alloc, name, text.as_str())?;
+        is_block(&rt, rt.alloc(), block)?;
     }
     Ok(())
 }

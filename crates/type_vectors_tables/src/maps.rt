@@ -1,50 +1,85 @@
 //! Maps as values: their parts, copies, order, and their ids in a builder.
+use crate::asserts::is;
 use scale_info::form::PortableForm;
-use scale_info::{PortableRegistryBuilder, TryClone, TypeDef, TypeDefBitSequence, TypeDefMap};
+use scale_info::{
+    PortableRegistryBuilder, TryClone, Type, TypeDef, TypeDefBitSequence, TypeDefMap,
+};
+use std::alloc::{AllocError, Global};
 use std::process::Abort;
 use std::test::Fail;
 use type_vectors_common::parts::{description, id};
 
+/// The numbers of a map's types.
+fn parts(map: &TypeDefMap<PortableForm>) -> (u32, u32) {
+    (map.key().id(), map.value().id())
+}
+
 #[test]
 fn a_map_returns_its_key_and_its_value(rt: HostRuntime) -> Result<(), Fail> {
     let map = TypeDefMap::<PortableForm>::new(id(1), id(2));
-    assert_eq!(rt; (map.key().id(), map.value().id()), (1, 2));
-    let copy = map.try_clone(rt.alloc())?;
-    assert_eq!(rt; (copy.key().id(), copy.value().id()), (1, 2));
+    is(&rt, "map", parts(&map), (1, 2));
+    is(&rt, "copy", parts(&map.try_clone(rt.alloc())?), (1, 2));
     Ok(())
 }
 
-/// Maps are greater than bit sequences, and ordered by their keys, then by their values.
-#[test]
-fn maps_are_ordered_after_the_other_definitions(rt: HostRuntime) {
-    let ascending: [TypeDef<PortableForm>; 4] = [
-        TypeDef::from(TypeDefBitSequence::new_portable(id(9), id(9))),
-        TypeDef::from(TypeDefMap::new(id(1), id(9))),
-        TypeDef::from(TypeDefMap::new(id(2), id(1))),
-        TypeDef::from(TypeDefMap::new(id(2), id(3))),
-    ];
-    for i in 0..ascending.len() {
-        for j in 0..ascending.len() {
-            assert!(rt;
-                ascending[i].cmp(&ascending[j]) == i.cmp(&j),
-                "{i} against {j}"
-            );
-            assert!(rt;
-                (ascending[i] == ascending[j]) == (i == j),
-                "{i} equals {j}"
-            );
+/// The definition with this number in ascending order.
+fn definition(number: usize) -> TypeDef<PortableForm> {
+    match number {
+        0 => TypeDef::from(TypeDefBitSequence::new_portable(id(9), id(9))),
+        1 => map(1, 9),
+        2 => map(2, 1),
+        _ => map(2, 3),
+    }
+}
+
+/// Asserts that each value is greater than all before it, and equal to itself alone.
+fn ascends<T: Ord>(rt: &impl Abort, values: &[T]) {
+    for i in 0..values.len() {
+        for j in 0..values.len() {
+            let (left, right) = (&values[i], &values[j]);
+            assert!(rt; left.cmp(right) == i.cmp(&j), "{i} against {j}");
+            assert!(rt; (left == right) == (i == j), "{i} equals {j}");
         }
     }
 }
 
+/// Maps are greater than bit sequences, and ordered by their keys, then by their values.
+#[test]
+fn maps_are_ordered_after_the_other_definitions(rt: HostRuntime) -> Result<(), Fail> {
+    let mut ascending = Vec::new(rt.alloc());
+    for number in 0..4 {
+        ascending.push(definition(number))?;
+    }
+    ascends(&rt, &ascending);
+    Ok(())
+}
+
+/// The map of these types.
+fn map(key: u32, value: u32) -> TypeDef<PortableForm> {
+    TypeDef::from(TypeDefMap::new(id(key), id(value)))
+}
+
+/// The description of the map of these types.
+fn described(alloc: Global, key: u32, value: u32) -> Result<Type<PortableForm>, AllocError> {
+    description(alloc, &[], &[], map(key, value), &[])
+}
+
+/// The id of the map of these types, which is registered if it is new.
+fn registered(
+    alloc: Global,
+    builder: &mut PortableRegistryBuilder,
+    key: u32,
+    value: u32,
+) -> Result<u32, Fail> {
+    Ok(builder.register_type(described(alloc, key, value)?)?)
+}
+
 #[test]
 fn a_map_is_registered_once(rt: HostRuntime) -> Result<(), Fail> {
-    let alloc = rt.alloc();
-    let mut builder = PortableRegistryBuilder::new(alloc);
+    let mut builder = PortableRegistryBuilder::new(rt.alloc());
     for (key, value, wanted) in [(1, 2, 0), (2, 1, 1), (1, 2, 0)] {
-        let map = TypeDef::from(TypeDefMap::new(id(key), id(value)));
-        let given = builder.register_type(description(alloc, &[], &[], map, &[])?)?;
-        assert_eq!(rt; given, wanted, "map({key}, {value})");
+        let given = registered(rt.alloc(), &mut builder, key, value)?;
+        is(&rt, "map", (key, value, given), (key, value, wanted));
     }
     Ok(())
 }

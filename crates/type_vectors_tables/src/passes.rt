@@ -93,11 +93,17 @@ fn visits_of(
     }
 }
 
+/// Three groups of digits with commas between them.
+fn three_groups(groups: &str) -> Option<(&str, &str, &str)> {
+    let (first, groups) = groups.split_once(',')?;
+    let (second, third) = groups.split_once(',')?;
+    Some((first, second, third))
+}
+
 /// A row of values: its name, the encoding, the references, and the renumbered encoding.
 fn value_row(line: &str) -> Option<(&str, &str, &str, &str)> {
     let (name, groups) = line.split_once(':')?;
-    let (encoding, groups) = groups.split_once(',')?;
-    let (ids, renumbered) = groups.split_once(',')?;
+    let (encoding, ids, renumbered) = three_groups(groups)?;
     Some((name, encoding, ids, renumbered))
 }
 
