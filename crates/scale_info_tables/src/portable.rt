@@ -162,9 +162,7 @@ impl PortableRegistry {
         ensures err { OnErr result (self.new ≡ self.old) }
         ensures cause { IfErr result (IsRetainError F.step filter self.old.types) }
     {
-        let (kept, new_ids) = retain_types(alloc, self.types(), filter)?;
-        self.types = Items::from(kept);
-        Ok(new_ids)
+        retain_types(alloc, &mut self.types, filter)
     }
 
     /// Appends the table's SCALE encoding to the output. A table has at most one encoding.

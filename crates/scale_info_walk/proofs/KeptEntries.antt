@@ -1,9 +1,10 @@
 -- A pruned table, entry by entry.
 use Rattle.std.proofs.Common.{◌≡◌, ◌≢◌, ◌↔◌, ℕ, ◌+◌, ◌<◌, ◌≤◌, List, [], ◌∷◌, ◌++◌, length, map, Some, option_map}
 use Rattle.std.proofs.Common.{slice_get, false, refl, ap, sym, ◌∙◌, subst, arith, inl, inr, Contains, zero, suc}
+use Rattle.std.proofs.Common.{get_or, set, take, drop}
 use Rattle.std.proofs.lemmas.Bool.{cases_lt}
-use Rattle.std.proofs.lemmas.List.{length_push}
-use Rattle.std.proofs.lemmas.Option.{same_Some, none-some, slice_get_within, get_or_from_slice_get}
+use Rattle.std.proofs.lemmas.List.{length_push, length-take-le, take-append-drop}
+use Rattle.std.proofs.lemmas.Option.{same_Some, none-some, slice_get_within, get_or_from_slice_get, slice_get-get_or}
 use Rattle.std.specs.BTreeMap.{BTreeMap, Updates, get}
 use Rattle.std.specs.Cmp.{nat_cmp_is}
 use Rattle.std.specs.Ordering.{is_eq, nat_cmp}
@@ -11,14 +12,14 @@ use Rattle.std.specs.declared.cmp.Ordering.TheVariants.{Less, Greater}
 use Rattle.scale_info_numberings.proofs.Places.{at_left, at_seam, from_left, element_at, place_of, contains_at}
 use Rattle.scale_info_numberings.proofs.Places.{contains_head, contains_tail}
 use Rattle.scale_info_numberings.proofs.Reached.{reached_exactly}
-use Rattle.scale_info_numberings.specs.Numberings.{IsNumbering}
+use Rattle.scale_info_numberings.specs.Numberings.{AreDistinct, IsNumbering}
 use Rattle.scale_info_numberings.specs.Systems.{next}
 use Rattle.scale_info_numberings.specs.Tables.{ArePlaces, IsTable}
 use Rattle.scale_info_references.proofs.Replaced.{shape_stays, ids_replaced}
 use Rattle.scale_info_types.specs.Portable.{Id, Text}
 use Rattle.scale_info_types.specs.References.{references}
 use Rattle.scale_info_types.specs.declared.ty.PortableType.{PortableType}
-use Rattle.scale_info_walk.proofs.Visiting.{same_or_not}
+use Rattle.scale_info_walk.proofs.Visiting.{same_or_not, set_other}
 use Rattle.scale_info_walk.specs.Kept.{AreKept, kept_entry}
 use Rattle.scale_info_walk.specs.Pruned.{IsPruned}
 use Rattle.scale_info_references.specs.Conversions.{ids_in, number_of}
@@ -57,6 +58,32 @@ kept_more types order f kept k old new s e x =
                 )
           ],
     )
+
+-- in a list without repetition no element stands before its place
+pub not_before :
+    (order : List ℕ) (i d : ℕ) → AreDistinct order → i < length order
+    → ¬ (Contains (take i order) (get_or order i d))
+not_before order i d distinct h c =
+    let key = get_or order i d in
+    let p = place_of (take i order) key c in
+    let low : p.0 < length (take i order) = slice_get_within (take i order) p.0 key p.1 in
+    let short : length (take i order) ≡ i = length-take-le i order (omega arith) in
+    let there : slice_get order p.0 ≡ Some key =
+    subst (λ (os : List ℕ). slice_get os p.0 ≡ Some key) (take-append-drop i order)
+    (at_left (take i order) (drop i order) p.0 key p.1) in
+    let same : p.0 ≡ i = distinct p.0 i key there (slice_get-get_or order i d h) in
+    omega arith
+
+-- where all but the elements at these indices are the old ones, so are all but those and the one at
+-- index k, once that one is replaced
+pub others_stay :
+    {A : Type 0} (old all : List A) (order : List ℕ) (k : ℕ) (v : A)
+    → ((j : ℕ) → ¬ (Contains order j) → slice_get all j ≡ slice_get old j)
+    → (j : ℕ) → ¬ (Contains (order ++ k ∷ []) j) → slice_get (set all k v) j ≡ slice_get old j
+others_stay old all order k v x j out =
+    set_other all k j v (λ e. out (contains_at (order ++ k ∷ []) j (length order) (at_seam order [] k ∙ ap Some (sym e))))
+    ∙ x j
+    (λ c. let p = place_of order j c in out (contains_at (order ++ k ∷ []) j p.0 (at_left order (k ∷ []) p.0 j p.1)))
 
 at_map :
     {A B : Type 0} (f : A → B) (xs : List A) (i : ℕ) (x : A)

@@ -1,50 +1,53 @@
 //! Tables that keep what some of their entries reach.
-ghost use Rattle.std.specs.Prelude.{◌≡◌, ◌≢◌, ◌<◌, ◌≤◌, ◌↔◌, ℕ, List, Some, All, IfOk, IfErr};
-ghost use Rattle.std.specs.Prelude.{length, slice_get};
+ghost use Rattle.std.specs.Prelude.{◌≡◌, ◌≢◌, ◌<◌, ◌≤◌, ◌↔◌, ℕ, List, [], Some, All, IfOk, IfErr};
+ghost use Rattle.std.specs.Prelude.{OnErr, length, slice_get, vec_capacity};
 ghost use Rattle.std.specs.BTreeMap.{get};
 ghost use Rattle.std.specs.Ordering.{nat_cmp};
+ghost use Rattle.scale_info_numberings.specs.Numberings.{AreDistinct};
 ghost use Rattle.scale_info_references.specs.Conversions.{number_of};
 ghost use Rattle.scale_info_walk.specs.Kept.{AreKept};
 ghost use Rattle.scale_info_walk.specs.Pruned.{IsChosen, IsPruned, IsRetainError};
 
 use crate::references::TypeReferences;
 use crate::walk::{NONE, RetainError, number_references};
-use scale_info_collections::text::Text;
-use scale_info_collections::try_clone::TryClone;
-use scale_info_identities::interner::UntrackedSymbol;
-use scale_info_identities::type_id::TypeId;
-use scale_info_references::conversion::{Numbers, convert};
-use scale_info_types::form::PortableForm;
-use scale_info_types::ty::PortableType;
+use scale_info_collections::items::Items;
+use scale_info_references::renumbering::renumbered;
+use scale_info_types::ty::{PortableType, Type, TypeDef, TypeDefPrimitive};
 use std::alloc::{AllocError, Global};
 use std::collections::BTreeMap;
+use std::mem;
 
-/// The table of what the chosen entries reach, in depth-first order of discovery, and the new id of
-/// each old one. The filter is asked once for each id from 0 up, before anything else is done; with
-/// more than 4294967295 entries it is not asked.
+/// Keeps what the chosen entries reach, in depth-first order of discovery, and returns the new id
+/// of each old one that is kept. The filter is asked once for each id from 0 up, before anything
+/// else is done; with more than 4294967295 entries it is not asked. Kept entries are moved, and
+/// none is copied: all memory is there before the first one moves.
 ///
 /// Errors: `Dangling`, where an id is reached from the chosen ones that is no index;
 /// `TooManyTypes`, where there are more than 4294967295 entries; `Memory`, where an allocation
-/// failed.
+/// failed. On an Err the list is as before.
 pub fn retain_types<F: FnMut(u32) -> bool>(
     alloc: Global,
-    types: &[PortableType],
+    types: &mut Items<PortableType>,
     filter: F,
-) -> Result<(Vec<PortableType>, BTreeMap<u32, u32>), RetainError>
+) -> Result<BTreeMap<u32, u32>, RetainError>
     requires { F.IsAlwaysCallable filter }
-    ensures ok { IfOk result (λ kept. (chosen : List ℕ) × (last : F)
-        × IsChosen F.step filter (length types.now) chosen last
-        × IsPruned types.now chosen kept.0.items kept.1) }
-    ensures cause { IfErr result (IsRetainError F.step filter types.now) }
+    ensures ok { IfOk result (λ new_ids. (chosen : List ℕ) × (last : F)
+        × IsChosen F.step filter (length types.old) chosen last
+        × IsPruned types.old chosen types.new new_ids) }
+    ensures err { OnErr result (types.new ≡ types.old) }
+    ensures cause { IfErr result (IsRetainError F.step filter types.old) }
 {
     if types.len() > 4294967295 {
         return Err(RetainError::TooManyTypes);
     }
     let chosen = chosen_ids(alloc, types.len() as u32, filter)?;
-    let found = number_references(alloc, &TypeReferences { types }, &chosen)?;
-    let kept = kept_entries(alloc, types, &found.order, &found.numbers)?;
+    let source = TypeReferences { types: types.as_slice() };
+    let found = number_references(alloc, &source, &chosen)?;
     let new_ids = map_of_numbers(alloc, &found.numbers)?;
-    Ok((kept, new_ids))
+    let room = Vec::with_capacity(alloc, found.order.len())?;
+    let old = mem::replace(types, Items::new(alloc)).into_vec();
+    *types = Items::from(kept_entries(alloc, old, &found.order, &found.numbers, room));
+    Ok(new_ids)
 }
 
 /// The ids below `count` for which the filter returns true. It is asked once for each, from 0 up,
@@ -86,48 +89,34 @@ pub fn map_of_numbers(alloc: Global, numbers: &[u32]) -> Result<BTreeMap<u32, u3
     Ok(new_ids)
 }
 
-/// New numbers in place of the ids of the old table.
-#[derive(Drop)]
-struct NewNumbers<'a> {
-    numbers: &'a [u32],
-}
-
-impl<'a> Numbers<PortableForm> for NewNumbers<'a> {
-    ghost id_of = { λ new symbol. number_of new.numbers.now symbol };
-
-    fn id(&self, ty: &UntrackedSymbol<TypeId>) -> UntrackedSymbol<TypeId> {
-        match self.numbers.get(ty.id as usize) {
-            Some(number) => UntrackedSymbol::from(*number),
-            None => UntrackedSymbol::from(0),
-        }
-    }
-
-    fn text(alloc: Global, source: &Text) -> Result<Text, AllocError>
-        ensures { IfOk result (λ copy. copy ≡ source.now) }
-    {
-        source.try_clone(alloc)
-    }
-}
-
 /// The entries at these indices in turn, with ids from 0 up and new numbers for their references.
+///
+/// They are moved out of `types`, and nothing is allocated: `kept` is empty and has the room.
 fn kept_entries(
     alloc: Global,
-    types: &[PortableType],
+    mut types: Vec<PortableType>,
     order: &[u32],
     numbers: &[u32],
-) -> Result<Vec<PortableType>, AllocError>
-    requires within { All (λ index. index < length types.now) order.now }
+    mut kept: Vec<PortableType>,
+) -> Vec<PortableType>
+    requires within { All (λ index. index < length types.items) order.now }
+    requires distinct { AreDistinct order.now }
     requires few { length order.now ≤ 4294967295 }
-    ensures { IfOk result (λ kept.
-        AreKept types.now order.now (number_of numbers.now) kept.items) }
+    requires empty { kept.items ≡ [] }
+    requires room { length order.now ≤ vec_capacity kept }
+    ensures { AreKept types.items order.now (number_of numbers.now) result.items }
 {
-    let mut kept = Vec::with_capacity(alloc, order.len())?;
-    for old in order {
-        let ty = convert(alloc, &NewNumbers { numbers }, &types[*old as usize].ty)?;
+    for index in order {
+        let old = mem::replace(&mut types[*index as usize], placeholder(alloc));
         let id = kept.len() as u32;
-        if kept.push(PortableType { id, ty }).is_err() {
-            return Err(AllocError);
-        }
+        let ty = renumbered(numbers, old.ty);
+        kept.push_reserved(PortableType { id, ty });
     }
-    Ok(kept)
+    kept
+}
+
+/// An entry that needs no memory, to stand where one was moved out.
+fn placeholder(alloc: Global) -> PortableType {
+    let ty = Type::from_def(alloc, TypeDef::Primitive(TypeDefPrimitive::Bool));
+    PortableType { id: 0, ty }
 }
