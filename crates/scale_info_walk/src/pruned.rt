@@ -41,7 +41,9 @@ pub fn retain_types<F: FnMut(u32) -> bool>(
         return Err(RetainError::TooManyTypes);
     }
     let chosen = chosen_ids(alloc, types.len() as u32, filter)?;
-    let source = TypeReferences { types: types.as_slice() };
+    let source = TypeReferences {
+        types: types.as_slice(),
+    };
     let found = number_references(alloc, &source, &chosen)?;
     let new_ids = map_of_numbers(alloc, &found.numbers)?;
     let room = Vec::with_capacity(alloc, found.order.len())?;

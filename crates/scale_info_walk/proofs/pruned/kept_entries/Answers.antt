@@ -1,9 +1,8 @@
 use Rattle.std.proofs.Common.{arith, ◌≡◌, ◌++◌, ◌∷◌, [], ◌∙◌, sym, ap, refl, subst, length, take}
-use Rattle.std.proofs.Common.{get_or, Some, slice_get, List, ℕ, ◌+◌, Contains, set, ◌≤◌, vec_capacity}
+use Rattle.std.proofs.Common.{get_or, Some, slice_get, List, ℕ, ◌+◌, Contains, set}
 use Rattle.std.proofs.lemmas.List.{take_more, length-set}
 use Rattle.std.proofs.lemmas.Option.{slice_get_read}
 use Rattle.scale_info_references.specs.Conversions.{number_of}
-use Rattle.scale_info_types.specs.Portable.{Text}
 use Rattle.scale_info_types.specs.declared.ty.PortableType.{PortableType}
 use Rattle.scale_info_walk.specs.Kept.{AreKept}
 use Rattle.scale_info_walk.proofs.KeptEntries.{kept_more, not_before, others_stay}
