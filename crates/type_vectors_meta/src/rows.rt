@@ -91,6 +91,25 @@ pub fn is_described(rt: &impl Abort, name: &str, ty: &Type, row: &Row) {
     );
 }
 
+/// Asserts that a type's own identity and the one that it is known by are those of the row.
+fn is_identified<T: TypeInfo>(
+    rt: &impl Abort,
+    alloc: Global,
+    name: &str,
+    row: &Row,
+) -> Result<(), AllocError> {
+    is(rt, name, &T::type_id(alloc)?, &row.own);
+    is(rt, name, meta_type::<T>(alloc)?.type_id(), &row.identity);
+    Ok(())
+}
+
+/// Asserts that a type's identities and its description are those of the row.
+fn agrees<T: TypeInfo>(rt: &impl Abort, alloc: Global, name: &str, row: &Row) -> Result<(), Fail> {
+    is_identified::<T>(rt, alloc, name, row)?;
+    is_described(rt, name, &T::type_info(alloc)?, row);
+    Ok(())
+}
+
 /// Asserts that a type is what the row says.
 pub fn is_row<T: TypeInfo>(
     rt: &impl Abort,
@@ -98,8 +117,5 @@ pub fn is_row<T: TypeInfo>(
     name: &str,
     row: Row,
 ) -> Result<(), Fail> {
-    is(rt, name, &T::type_id(alloc)?, &row.own);
-    is(rt, name, meta_type::<T>(alloc)?.type_id(), &row.identity);
-    is_described(rt, name, &T::type_info(alloc)?, &row);
-    Ok(())
+    agrees::<T>(rt, alloc, name, &row)
 }

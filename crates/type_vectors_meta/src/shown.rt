@@ -13,20 +13,36 @@ use std::test::Fail;
 /// How deep an identity is shown.
 const DEPTH: u32 = 8;
 
+/// Whether an identity is its head alone.
+fn is_plain(id: &TypeId) -> bool {
+    id.nums().is_empty() && id.args().is_empty()
+}
+
+/// Appends the numbers of an identity, each after a space.
+fn push_nums(text: &mut String, nums: &[usize]) -> Result<(), AllocError> {
+    let alloc = *text.allocator();
+    for num in nums {
+        text.push_str(format!(in alloc; " {num}")?.as_str())?;
+    }
+    Ok(())
+}
+
+/// Appends a parenthesis, and the head and the numbers of an identity after it.
+fn push_opening(text: &mut String, id: &TypeId) -> Result<(), AllocError> {
+    text.push_str("(")?;
+    text.push_str(id.head())?;
+    push_nums(text, id.nums())
+}
+
 /// Appends an identity, this many arguments deep.
 fn push_id(text: &mut String, id: &TypeId, depth: u32) -> Result<(), AllocError> {
     if depth == 0 {
         return text.push_str("..");
     }
-    if id.nums().is_empty() && id.args().is_empty() {
+    if is_plain(id) {
         return text.push_str(id.head());
     }
-    let alloc = *text.allocator();
-    text.push_str("(")?;
-    text.push_str(id.head())?;
-    for num in id.nums() {
-        text.push_str(format!(in alloc; " {num}")?.as_str())?;
-    }
+    push_opening(text, id)?;
     for arg in id.args() {
         text.push_str(" ")?;
         push_id(text, arg, depth - 1)?;

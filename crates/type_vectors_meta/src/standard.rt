@@ -4,7 +4,7 @@ use crate::rows::{Row, bit_types, is_row, of, of_u8, plain};
 use scale_info::impls::{Compact, SliceOf, StrType, meta_type};
 use scale_info::meta_type::{Identified, InfoError};
 use scale_info::{StaticTypeInfo, Type, TypeDefBitSequence, TypeId, TypeInfo};
-use std::alloc::Global;
+use std::alloc::{AllocError, Global};
 use std::collections::VecDeque;
 use std::process::Abort;
 use std::rc::Rc;
@@ -107,14 +107,18 @@ fn texts(rt: HostRuntime) -> Result<(), Fail> {
     is_text::<&str>(&rt, alloc, "&str", reference)
 }
 
+/// The identity of a reference to a list of `u8`.
+fn reference(alloc: Global) -> Result<TypeId, AllocError> {
+    of(alloc, "&", of_u8(alloc, "slice")?)
+}
+
 #[test]
 fn sequences(rt: HostRuntime) -> Result<(), Fail> {
     let alloc = rt.alloc();
-    let reference = of(alloc, "&", of_u8(alloc, "slice")?)?;
     is_sequence::<SliceOf<u8>>(&rt, alloc, "SliceOf", of_u8(alloc, "slice")?)?;
     is_sequence::<Vec<u8>>(&rt, alloc, "Vec", of_u8(alloc, "Vec")?)?;
     is_sequence::<VecDeque<u8>>(&rt, alloc, "VecDeque", of_u8(alloc, "VecDeque")?)?;
-    is_sequence::<&[u8]>(&rt, alloc, "&[u8]", reference)
+    is_sequence::<&[u8]>(&rt, alloc, "&[u8]", reference(alloc)?)
 }
 
 #[test]
@@ -138,17 +142,25 @@ fn compact_numbers(rt: HostRuntime) -> Result<(), Fail> {
     is_row::<Compact<u8>>(&rt, alloc, "Compact<u8>", row)
 }
 
-#[test]
-fn bit_sequences(rt: HostRuntime) -> Result<(), Fail> {
-    let alloc = rt.alloc();
+/// The description of the bit sequence with these types.
+fn bits(alloc: Global) -> Result<Type, Fail> {
     let bits = TypeDefBitSequence::new::<Box<u8>, bool>(alloc)?;
-    let ty = Type::from_def(alloc, bits);
-    let Some((store, order)) = bit_types(&ty) else {
+    Ok(Type::from_def(alloc, bits))
+}
+
+/// Asserts that a description is of a bit sequence with the types `u8` and `bool`.
+fn are_bits(rt: &impl Abort, alloc: Global, ty: &Type) -> Result<(), Fail> {
+    let Some((store, order)) = bit_types(ty) else {
         return Err(Fail::new("it is no bit sequence"));
     };
-    is(&rt, "store", store.type_id(), &plain(alloc, "u8"));
-    is(&rt, "order", order.type_id(), &plain(alloc, "bool"));
+    is(rt, "store", store.type_id(), &plain(alloc, "u8"));
+    is(rt, "order", order.type_id(), &plain(alloc, "bool"));
     Ok(())
+}
+
+#[test]
+fn bit_sequences(rt: HostRuntime) -> Result<(), Fail> {
+    are_bits(&rt, rt.alloc(), &bits(rt.alloc())?)
 }
 
 #[test]

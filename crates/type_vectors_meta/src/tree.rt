@@ -9,6 +9,7 @@ use scale_info::impls::meta_type;
 use scale_info::meta_type::{Catalogue, HasIdentity, Identified, InfoError};
 use scale_info::{Type, TypeDefSequence, TypeId, TypeInfo};
 use std::alloc::{AllocError, Global};
+use std::process::Abort;
 use std::test::Fail;
 
 /// A tree is the list of its branches.
@@ -34,19 +35,24 @@ impl TypeInfo for Tree {
     }
 }
 
+/// Asserts that a branch is known as the tree, and finds its description.
+fn leads_back(rt: &impl Abort, alloc: Global, catalogue: &Catalogue) -> Result<(), Fail> {
+    let branch = meta_type::<Box<Tree>>(alloc)?;
+    is(
+        rt,
+        "identity",
+        branch.type_id(),
+        &plain(alloc, "demo::Tree"),
+    );
+    is(rt, "found", branch.type_info(catalogue).is_some(), true);
+    Ok(())
+}
+
 #[test]
 fn a_tree_is_described_by_itself(rt: HostRuntime) -> Result<(), Fail> {
     let alloc = rt.alloc();
     let mut catalogue = Catalogue::new(alloc);
     is(&rt, "add", catalogue.add::<Tree>(), Ok(true));
     is(&rt, "Box", catalogue.add::<Box<Tree>>(), Ok(false));
-    let branch = meta_type::<Box<Tree>>(alloc)?;
-    is(
-        &rt,
-        "identity",
-        branch.type_id(),
-        &plain(alloc, "demo::Tree"),
-    );
-    is(&rt, "found", branch.type_info(&catalogue).is_some(), true);
-    Ok(())
+    leads_back(&rt, alloc, &catalogue)
 }

@@ -66,6 +66,13 @@ fn of_len(alloc: Global, len: usize) -> Result<String, Fail> {
         8 => shown::<(A, B, C, D, E, F, G, H)>(alloc),
         9 => shown::<(A, B, C, D, E, F, G, H, I)>(alloc),
         10 => shown::<(A, B, C, D, E, F, G, H, I, J)>(alloc),
+        _ => of_greater_len(alloc, len),
+    }
+}
+
+/// What the tuple of the first members is, of more than ten.
+fn of_greater_len(alloc: Global, len: usize) -> Result<String, Fail> {
+    match len {
         11 => shown::<(A, B, C, D, E, F, G, H, I, J, K)>(alloc),
         12 => shown::<(A, B, C, D, E, F, G, H, I, J, K, L)>(alloc),
         13 => shown::<(A, B, C, D, E, F, G, H, I, J, K, L, M)>(alloc),
