@@ -22,7 +22,7 @@ use std::alloc::{AllocError, Global};
 
 /// What has an id for each type of descriptions in the form `F`, and copies their strings.
 ///
-/// A registry numbers identities so, and the pruning of a table numbers the ids of the old table.
+/// A registry numbers identities so.
 ///
 /// Any type may implement it. An implementor states the ids, and owes the contracts of both
 /// functions.
