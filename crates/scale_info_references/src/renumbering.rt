@@ -24,8 +24,8 @@ trait Renumber: Drop {
     /// The part with the new number of each of its references.
     ghost renumbered: { List ℕ → Self → Self };
 
-    /// Gives each reference its new number. An empty list, which needs no memory, may stand in for
-    /// one that is worked on; the allocator is for that list.
+    /// Gives each reference its new number. An empty list, which does not allocate, may stand in
+    /// for one that is worked on; the allocator is for that list.
     fn renumber(&mut self, alloc: Global, numbers: &[u32])
         ensures { self.new ≡ renumbered numbers.now self.old };
 }

@@ -117,7 +117,7 @@ fn kept_entries(
     kept
 }
 
-/// An entry that needs no memory, to stand where one was moved out.
+/// An entry that does not allocate, to stand where one was moved out.
 fn placeholder(alloc: Global) -> PortableType {
     let ty = Type::from_def(alloc, TypeDef::Primitive(TypeDefPrimitive::Bool));
     PortableType { id: 0, ty }
