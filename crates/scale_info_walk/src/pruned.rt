@@ -1,6 +1,7 @@
 //! Tables that keep what some of their entries reach.
-ghost use Rattle.std.specs.Prelude.{◌≡◌, ◌≢◌, ◌<◌, ◌≤◌, ◌↔◌, ℕ, List, [], Some, All, IfOk, IfErr};
-ghost use Rattle.std.specs.Prelude.{OnErr, length, slice_get, vec_capacity};
+ghost use Rattle.std.specs.Prelude.{◌≡◌, ◌≢◌, ◌<◌, ◌≤◌, ◌+◌, ◌++◌, ◌∷◌, ◌↔◌, ℕ, Bool, List, []};
+ghost use Rattle.std.specs.Prelude.{Some, All, IfOk, IfErr, OnErr, cond, length, slice_get, vec_capacity};
+ghost use Rattle.std.specs.Prelude.{vec_len};
 ghost use Rattle.std.specs.BTreeMap.{get};
 ghost use Rattle.std.specs.Ordering.{nat_cmp};
 ghost use Rattle.scale_info_numberings.specs.Numberings.{AreDistinct};
@@ -64,11 +65,24 @@ fn chosen_ids<F: FnMut(u32) -> bool>(
 {
     let mut chosen = Vec::with_capacity(alloc, count as usize)?;
     for id in 0..count {
-        if filter(id) {
-            chosen.push_reserved(id);
-        }
+        choose(&mut filter, id, &mut chosen);
     }
     Ok(chosen)
+}
+
+/// Asks the filter for an id, and adds the id to the chosen ones where it returns true.
+fn choose<F: FnMut(u32) -> bool>(filter: &mut F, id: u32, chosen: &mut Vec<u32>)
+    requires callable { F.IsAlwaysCallable filter.old }
+    requires room { vec_len chosen.old < vec_capacity chosen.old }
+    ensures callable { F.IsAlwaysCallable filter.new }
+    ensures asked { (answer : Bool) × F.step filter.old id answer filter.new
+        × (chosen.new.items ≡ cond answer (chosen.old.items ++ id ∷ []) chosen.old.items) }
+    ensures room { vec_capacity chosen.new ≡ vec_capacity chosen.old }
+    ensures few { vec_len chosen.new ≤ vec_len chosen.old + 1 }
+{
+    if filter(id) {
+        chosen.push_reserved(id);
+    }
 }
 
 /// The new number of each old index that has one, as a map.
