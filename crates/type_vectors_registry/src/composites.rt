@@ -2,7 +2,7 @@
 use crate::asserts::is;
 use crate::described::catalogue;
 use crate::own::{A, C, Documented, References, Skipping};
-use crate::registered::{bytes, count, is_row, one, table};
+use crate::registered::{bytes, count, is_row, one, table, two};
 use scale_info::impls::meta_type;
 use scale_info::{PortableRegistry, Registry};
 use std::alloc::Global;
@@ -50,9 +50,14 @@ fn docs_and_names_are_kept(rt: HostRuntime) -> Result<(), Fail> {
     let alloc = rt.alloc();
     let known = catalogue(alloc)?;
     let alone = table(alloc, &known, one::<Documented>(alloc)?)?;
-    is_row(&rt, alloc, &alone, "the same enum before its bool")?;
-    let roots = vec![in alloc; meta_type::<bool>(alloc)?, meta_type::<Documented>(alloc)?]?;
-    let after = table(alloc, &known, roots)?;
+    is_row(&rt, alloc, &alone, "the same enum before its bool")
+}
+
+#[test]
+fn docs_and_names_are_kept_after_another_type(rt: HostRuntime) -> Result<(), Fail> {
+    let alloc = rt.alloc();
+    let known = catalogue(alloc)?;
+    let after = table(alloc, &known, two::<bool, Documented>(alloc)?)?;
     is_row(&rt, alloc, &after, "docs of a type, a variant and a field")
 }
 
@@ -69,20 +74,24 @@ fn names(alloc: Global, table: &PortableRegistry) -> Result<String, Fail> {
 fn composites_come_in_depth_first_order(rt: HostRuntime) -> Result<(), Fail> {
     let alloc = rt.alloc();
     let known = catalogue(alloc)?;
-    let roots = vec![in alloc; meta_type::<C>(alloc)?, meta_type::<A>(alloc)?]?;
-    let mut both = table(alloc, &known, roots)?;
+    let both = table(alloc, &known, two::<C, A>(alloc)?)?;
     is(&rt, "C, A", names(alloc, &both)?.as_str(), "C A B D ");
+    let alone = table(alloc, &known, one::<A>(alloc)?)?;
+    is(&rt, "A", names(alloc, &alone)?.as_str(), "A B D C ");
+    Ok(())
+}
+
+#[test]
+fn what_is_kept_is_as_registered_afresh(rt: HostRuntime) -> Result<(), Fail> {
+    let alloc = rt.alloc();
+    let known = catalogue(alloc)?;
+    let mut both = table(alloc, &known, two::<C, A>(alloc)?)?;
     let new_ids = both.retain(alloc, |id| id == 1)?;
     is(&rt, "the id of C", new_ids.get(&0).copied(), Some(3));
     is(&rt, "the id of D", new_ids.get(&3).copied(), Some(2));
     let afresh = table(alloc, &known, one::<A>(alloc)?)?;
-    is(&rt, "A", names(alloc, &afresh)?.as_str(), "A B D C ");
-    is(
-        &rt,
-        "the table",
-        bytes(alloc, &both)?,
-        bytes(alloc, &afresh)?,
-    );
+    let (kept, wanted) = (bytes(alloc, &both)?, bytes(alloc, &afresh)?);
+    is(&rt, "the table", kept, wanted);
     Ok(())
 }
 

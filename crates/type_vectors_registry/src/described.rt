@@ -32,10 +32,9 @@ fn recursive(alloc: Global) -> Result<Type, AllocError> {
 
 /// `struct P<S, T> { a: u8, b: T }` with `S` skipped and `T` given `bool`.
 fn skipping(alloc: Global) -> Result<Type, AllocError> {
-    let skipped = TypeParameter::new("S", None);
-    let params = vec![in alloc; skipped, given::<bool>(alloc, "T")?]?;
+    let params = skipped_and_given(alloc)?;
     let fields = vec![in alloc; named::<u8>(alloc, "a")?, named::<bool>(alloc, "b")?]?;
-    composite(alloc, vec![in alloc; "P"]?, params, fields)
+    composite(alloc, list_of(alloc, "P")?, params, fields)
 }
 
 /// `struct RecursiveRefs<'a> { boxed: .., reference: .., mutable_reference: .. }`.
@@ -52,23 +51,46 @@ fn references(alloc: Global) -> Result<Type, AllocError> {
     )
 }
 
+/// A list of one item.
+fn list_of<T: Drop>(alloc: Global, item: T) -> Result<Vec<T>, AllocError> {
+    Ok(vec![in alloc; item]?)
+}
+
+/// Two lines of documentation.
+fn lines(
+    alloc: Global,
+    first: &'static str,
+    second: &'static str,
+) -> Result<Vec<&'static str>, AllocError> {
+    Ok(vec![in alloc; first, second]?)
+}
+
+/// A skipped parameter `S`, and `T` given `bool`.
+fn skipped_and_given(alloc: Global) -> Result<Vec<TypeParameter>, AllocError> {
+    let skipped = TypeParameter::new("S", None);
+    Ok(vec![in alloc; skipped, given::<bool>(alloc, "T")?]?)
+}
+
+/// A field with docs.
+fn documented_field(alloc: Global) -> Result<Field, AllocError> {
+    let docs = lines(alloc, "f", "g")?;
+    let ty = meta_type::<bool>(alloc)?;
+    Ok(Field::new(Some("n"), ty, Some("N"), docs))
+}
+
+/// A variant of one field, both with docs.
+fn documented_variant(alloc: Global) -> Result<Variant, AllocError> {
+    let fields = list_of(alloc, documented_field(alloc)?)?;
+    Ok(Variant::new("V", fields, 7, list_of(alloc, "v")?))
+}
+
 /// An enum of one variant, with docs of the type, the variant and its field.
 fn documented(alloc: Global) -> Result<Type, AllocError> {
-    let docs = vec![in alloc; "f", "g"]?;
-    let field = Field::new(Some("n"), meta_type::<bool>(alloc)?, Some("N"), docs);
-    let fields = vec![in alloc; field]?;
-    let variant = Variant::new("V", fields, 7, vec![in alloc; "v"]?);
-    let def = TypeDefVariant::from(vec![in alloc; variant]?);
-    let skipped = TypeParameter::new("S", None);
-    let params = vec![in alloc; skipped, given::<bool>(alloc, "T")?]?;
-    let path = Path::from_segments_unchecked(alloc, vec![in alloc; "p"]?)?;
-    Type::new(
-        alloc,
-        path,
-        params,
-        TypeDef::from(def),
-        vec![in alloc; "d", ""]?,
-    )
+    let variants = list_of(alloc, documented_variant(alloc)?)?;
+    let params = skipped_and_given(alloc)?;
+    let path = Path::from_segments_unchecked(alloc, list_of(alloc, "p")?)?;
+    let def = TypeDef::from(TypeDefVariant::from(variants));
+    Type::new(alloc, path, params, def, lines(alloc, "d", "")?)
 }
 
 /// A composite with these fields.

@@ -25,6 +25,19 @@ fn add_lists<T: TypeInfo>(alloc: Global, catalogue: &mut Catalogue) -> Result<()
     Ok(())
 }
 
+/// The catalogue of `u8` and the 24 lists around it.
+fn catalogue(alloc: Global) -> Result<Catalogue, Fail> {
+    let mut known = Catalogue::new(alloc);
+    known.add::<u8>()?;
+    add_lists::<u8>(alloc, &mut known)?;
+    add_lists::<Lists<u8>>(alloc, &mut known)?;
+    add_lists::<Eight>(alloc, &mut known)?;
+    add_lists::<Lists<Eight>>(alloc, &mut known)?;
+    add_lists::<Sixteen>(alloc, &mut known)?;
+    add_lists::<Lists<Sixteen>>(alloc, &mut known)?;
+    Ok(known)
+}
+
 /// The id of a list's items.
 fn items(ty: &Type<PortableForm>) -> Option<u32> {
     match &ty.type_def {
@@ -36,14 +49,7 @@ fn items(ty: &Type<PortableForm>) -> Option<u32> {
 #[test]
 fn each_list_refers_to_the_next_type(rt: HostRuntime) -> Result<(), Fail> {
     let alloc = rt.alloc();
-    let mut known = Catalogue::new(alloc);
-    known.add::<u8>()?;
-    add_lists::<u8>(alloc, &mut known)?;
-    add_lists::<Lists<u8>>(alloc, &mut known)?;
-    add_lists::<Eight>(alloc, &mut known)?;
-    add_lists::<Lists<Eight>>(alloc, &mut known)?;
-    add_lists::<Sixteen>(alloc, &mut known)?;
-    add_lists::<Lists<Sixteen>>(alloc, &mut known)?;
+    let known = catalogue(alloc)?;
     let table = table(alloc, &known, one::<Lists<Lists<Sixteen>>>(alloc)?)?;
     is(&rt, "the types", table.len(), 25);
     for (id, ty) in table.entries() {

@@ -3,14 +3,15 @@ use crate::asserts::{holds, is};
 use crate::described::catalogue;
 use crate::parts::{given, named, tuple, typed, unnamed, variant};
 use crate::registered::{count, is_row};
+use scale_info::form::PortableForm;
 use scale_info::impls::meta_type;
-use scale_info::meta_type::Catalogue;
+use scale_info::meta_type::{Catalogue, HasIdentity};
 use scale_info::{
     IntoPortable, Path, PortableRegistry, Registry, Type, TypeDef, TypeDefComposite,
     TypeDefSequence, TypeDefVariant, TypeInfo,
 };
 use scale_info_registry_callers::call::{Call, PortableCall};
-use std::alloc::Global;
+use std::alloc::{AllocError, Global};
 use std::process::Abort;
 use std::test::Fail;
 use type_vectors_common::parts;
@@ -35,22 +36,27 @@ where
     Ok(())
 }
 
+/// The variants of an option of the type with id 0.
+fn none_and_some(alloc: Global) -> Result<TypeDef<PortableForm>, Fail> {
+    let none = parts::variant(alloc, "None", &[], 0, &[])?;
+    let some = parts::variant(alloc, "Some", &[0], 1, &[])?;
+    Ok(TypeDef::from(TypeDefVariant::from(vec![in alloc; none, some]?)))
+}
+
+/// The description of an option of the type with id 0.
+fn portable_option(alloc: Global) -> Result<Type<PortableForm>, Fail> {
+    let path = parts::path(alloc, &["Option"])?;
+    let params = vec![in alloc; parts::parameter(alloc, "T", Some(0))?]?;
+    let def = none_and_some(alloc)?;
+    Ok(Type::new(alloc, path, params, def, Vec::new(alloc))?)
+}
+
 #[test]
 fn an_option_registers_its_type(rt: HostRuntime) -> Result<(), Fail> {
     let alloc = rt.alloc();
-    let none = parts::variant(alloc, "None", &[], 0, &[])?;
-    let some = parts::variant(alloc, "Some", &[0], 1, &[])?;
-    let def = TypeDef::from(TypeDefVariant::from(vec![in alloc; none, some]?));
-    let path = parts::path(alloc, &["Option"])?;
-    let params = vec![in alloc; parts::parameter(alloc, "T", Some(0))?]?;
-    let wanted = Type::new(alloc, path, params, def, Vec::new(alloc))?;
-    leaves_as(
-        &rt,
-        alloc,
-        "Option<u8>",
-        <Option<u8>>::type_info(alloc)?,
-        wanted,
-    )
+    let wanted = portable_option(alloc)?;
+    let described = <Option<u8>>::type_info(alloc)?;
+    leaves_as(&rt, alloc, "Option<u8>", described, wanted)
 }
 
 #[test]
@@ -74,10 +80,15 @@ fn texts_and_types_leave(rt: HostRuntime) -> Result<(), Fail> {
 }
 
 #[test]
-fn fields_and_variants_leave(rt: HostRuntime) -> Result<(), Fail> {
+fn a_field_leaves(rt: HostRuntime) -> Result<(), Fail> {
     let alloc = rt.alloc();
-    let field = parts::field(alloc, Some("a"), 0, Some("A"), &[])?;
-    leaves_as(&rt, alloc, "a field", typed::<u8>(alloc, "a", "A")?, field)?;
+    let wanted = parts::field(alloc, Some("a"), 0, Some("A"), &[])?;
+    leaves_as(&rt, alloc, "a field", typed::<u8>(alloc, "a", "A")?, wanted)
+}
+
+#[test]
+fn a_variant_leaves(rt: HostRuntime) -> Result<(), Fail> {
+    let alloc = rt.alloc();
     let fields = vec![in alloc; unnamed::<u8>(alloc, None)?]?;
     let wanted = parts::variant(alloc, "V", &[0], 3, &[])?;
     leaves_as(
@@ -86,16 +97,19 @@ fn fields_and_variants_leave(rt: HostRuntime) -> Result<(), Fail> {
         "a variant",
         variant(alloc, "V", fields, 3),
         wanted,
-    )?;
+    )
+}
+
+#[test]
+fn a_composite_leaves(rt: HostRuntime) -> Result<(), Fail> {
+    let alloc = rt.alloc();
     let fields = vec![in alloc; named::<u8>(alloc, "a")?]?;
     let wanted = vec![in alloc; parts::field(alloc, Some("a"), 0, None, &[])?]?;
-    leaves_as(
-        &rt,
-        alloc,
-        "a composite",
+    let (value, wanted) = (
         TypeDefComposite::from(fields),
         TypeDefComposite::from(wanted),
-    )
+    );
+    leaves_as(&rt, alloc, "a composite", value, wanted)
 }
 
 #[test]
@@ -119,20 +133,17 @@ fn is_call(rt: &impl Abort, name: &str, call: Option<&PortableCall>, id: u32) {
     }
 }
 
+/// A call with an argument of this type.
+fn call<T: HasIdentity>(alloc: Global, name: &'static str) -> Result<Call, AllocError> {
+    let arg = meta_type::<T>(alloc)?;
+    Ok(Call { name, arg })
+}
+
 #[test]
 fn calls_leave_with_their_types(rt: HostRuntime) -> Result<(), Fail> {
     let alloc = rt.alloc();
     let known = catalogue(alloc)?;
-    let calls = vec![in alloc;
-        Call {
-            name: "a",
-            arg: meta_type::<Vec<u32>>(alloc)?
-        },
-        Call {
-            name: "b",
-            arg: meta_type::<u32>(alloc)?
-        },
-    ]?;
+    let calls = vec![in alloc; call::<Vec<u32>>(alloc, "a")?, call::<u32>(alloc, "b")?]?;
     let mut registry = Registry::new(alloc);
     let portable = registry.map_into_portable(calls, &known)?;
     is(&rt, "the calls", portable.len(), 2);

@@ -6,6 +6,7 @@ use scale_info::meta_type::{Catalogue, Identified};
 use scale_info::registry::RegisterError;
 use scale_info::{PortableRegistry, Registry};
 use std::alloc::Global;
+use std::process::Abort;
 use std::test::Fail;
 
 /// The error that names `u32`.
@@ -49,7 +50,14 @@ fn a_list_is_registered_whole_or_not(rt: HostRuntime) -> Result<(), Fail> {
     let refused = registry.register_types(three::<u8, Vec<u32>, u8>(alloc)?, &known);
     is(&rt, "of nothing", refused.err(), Some(without_u32(alloc)?));
     holds(&rt, "nothing is there", registry == Registry::new(alloc));
-    registry.register_type(&meta_type::<u8>(alloc)?, &known)?;
+    Ok(())
+}
+
+#[test]
+fn a_refused_list_leaves_what_was_there(rt: HostRuntime) -> Result<(), Fail> {
+    let alloc = rt.alloc();
+    let known = catalogue(alloc)?;
+    let mut registry = registry_of_u8(alloc)?;
     let refused = registry.register_types(three::<u8, Vec<u32>, u8>(alloc)?, &known);
     is(&rt, "of u8", refused.err(), Some(without_u32(alloc)?));
     holds(&rt, "u8 is there alone", registry == registry_of_u8(alloc)?);
@@ -72,23 +80,25 @@ fn a_known_type_needs_no_description(rt: HostRuntime) -> Result<(), Fail> {
 /// `u8` and a box of a box of it, of which each has an identity.
 const BOXED: [u8; 13] = [8, 0, 0, 0, 5, 3, 0, 4, 0, 0, 5, 3, 0];
 
+/// A catalogue of `u8` and its boxes, where a box alone has the description of what is in it.
+fn catalogue_of_boxes(rt: &impl Abort, alloc: Global) -> Result<Catalogue, Fail> {
+    let mut known = Catalogue::new(alloc);
+    is(rt, "u8", known.add::<u8>(), Ok(true));
+    is(rt, "Box<u8>", known.add::<Box<u8>>(), Ok(false));
+    is(rt, "Box<Box<u8>>", known.add::<Box<Box<u8>>>(), Ok(true));
+    Ok(known)
+}
+
 #[test]
 fn two_identities_are_two_types(rt: HostRuntime) -> Result<(), Fail> {
     let alloc = rt.alloc();
-    let mut known = Catalogue::new(alloc);
-    is(&rt, "u8", known.add::<u8>(), Ok(true));
-    is(&rt, "Box<u8>", known.add::<Box<u8>>(), Ok(false));
-    is(&rt, "Box<Box<u8>>", known.add::<Box<Box<u8>>>(), Ok(true));
+    let known = catalogue_of_boxes(&rt, alloc)?;
     let mut registry = Registry::new(alloc);
     let roots = three::<u8, Box<u8>, Box<Box<u8>>>(alloc)?;
     let found = ids(alloc, &mut registry, &known, roots)?;
     is(&rt, "ids", found.as_slice(), [0, 0, 1].as_slice());
     let table = PortableRegistry::from_registry(alloc, &registry)?;
-    is(
-        &rt,
-        "bytes",
-        bytes(alloc, &table)?.as_slice(),
-        BOXED.as_slice(),
-    );
+    let found = bytes(alloc, &table)?;
+    is(&rt, "bytes", found.as_slice(), BOXED.as_slice());
     Ok(())
 }

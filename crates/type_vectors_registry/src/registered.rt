@@ -13,6 +13,12 @@ pub fn one<T: HasIdentity>(alloc: Global) -> Result<Vec<MetaType>, AllocError> {
     Ok(vec![in alloc; meta_type::<T>(alloc)?]?)
 }
 
+/// Two types.
+pub fn two<T: HasIdentity, U: HasIdentity>(alloc: Global) -> Result<Vec<MetaType>, AllocError> {
+    let (first, second) = (meta_type::<T>(alloc)?, meta_type::<U>(alloc)?);
+    Ok(vec![in alloc; first, second]?)
+}
+
 /// Three types.
 pub fn three<T: HasIdentity, U: HasIdentity, V: HasIdentity>(
     alloc: Global,

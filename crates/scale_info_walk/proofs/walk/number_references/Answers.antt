@@ -1,3 +1,4 @@
+use Rattle.std.proofs.Common.{rules}
 use Rattle.std.proofs.Common.{arith, ◌∙◌, ap, sym, get_or}
 use Rattle.std.proofs.lemmas.List.Elements.{Contains-get_or}
 use Rattle.std.proofs.lemmas.Result.{err_from_is_err_and}
@@ -45,3 +46,6 @@ pub returns-clause-numbering : goal.returns-clause-numbering
 returns-clause-numbering g c =
     roots_all (g.R.References.system c.args.source.now) c.args.roots.now c.loop-root.found.order.items
     c.loop-root.root-index c.loop-root-test.false c.loop-root.invariant.0
+
+pub returns-clause-steps : goal.returns-clause-steps
+returns-clause-steps g c = search rules

@@ -12,3 +12,9 @@ returns-in_default-clause-new c = λ _.
     let absent = c.in_default.ensures.none (search rules) in
     one_more c.args.self.now (record { entries = c.insert_new.new.entries; alloc = c.args.self.now.alloc }) c.args.identity
     c.args.description absent (search rules) (search rules)
+
+pub returns-else-same-clause-err : goal.returns-else-same-clause-err
+returns-else-same-clause-err c = search rules
+
+pub returns-then-same-clause-known_same : goal.returns-then-same-clause-known_same
+returns-then-same-clause-known_same c = search rules

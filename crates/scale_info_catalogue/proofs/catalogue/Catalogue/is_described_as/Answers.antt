@@ -17,3 +17,6 @@ returns-in-Some-clause-other c = λ differs.
       there = ap (option_map meta_content) there;
       apart = λ same. let yes = equal.1 same in grind (common_steps, rules, differs, yes, compared);
     }
+
+pub returns-in-Some-clause-same : goal.returns-in-Some-clause-same
+returns-in-Some-clause-same c = search rules

@@ -23,3 +23,6 @@ loop-self-preserved-in-Some g c =
       search (rules, common_steps),
       grind (arith, common_steps, rules, split, before.2),
     )
+
+pub returns : goal.returns
+returns g c = grind (arith, common_steps, rules)

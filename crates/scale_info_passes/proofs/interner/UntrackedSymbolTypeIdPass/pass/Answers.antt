@@ -1,3 +1,4 @@
+use Rattle.std.proofs.Common.{rules}
 use Rattle.scale_info_bytes.proofs.Steps.{no_prefix_through}
 use Rattle.scale_info_passes.proofs.Passes.{none_is}
 use Rattle.scale_info_passes.proofs.interner.UntrackedSymbolTypeIdPass.pass.Goals as goal
@@ -5,3 +6,6 @@ use Rattle.scale_info_passes.proofs.interner.UntrackedSymbolTypeIdPass.pass.Goal
 pub returns-in_err-id-clause-none : goal.returns-in_err-id-clause-none
 returns-in_err-id-clause-none g c =
     none_is c.from_residual.result (no_prefix_through (λ v. v.id) c.in_err-id.ensures.none)
+
+pub returns-clause-some : goal.returns-clause-some
+returns-clause-some g c = search rules

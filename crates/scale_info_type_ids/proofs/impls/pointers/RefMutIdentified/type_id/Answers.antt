@@ -1,0 +1,5 @@
+use Rattle.std.proofs.Common.{rules}
+use Rattle.scale_info_type_ids.proofs.impls.pointers.RefMutIdentified.type_id.Goals as goal
+
+pub returns : goal.returns
+returns g c = search rules
