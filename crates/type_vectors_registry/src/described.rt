@@ -53,7 +53,9 @@ fn references(alloc: Global) -> Result<Type, AllocError> {
 
 /// A list of one item.
 fn list_of<T: Drop>(alloc: Global, item: T) -> Result<Vec<T>, AllocError> {
-    Ok(vec![in alloc; item]?)
+    let mut list = Vec::new(alloc);
+    list.push(item)?;
+    Ok(list)
 }
 
 /// Two lines of documentation.
