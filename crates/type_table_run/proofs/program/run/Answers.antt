@@ -1,3 +1,4 @@
+use Rattle.std.proofs.Common.{rules}
 use Rattle.std.proofs.Common.{subst}
 use Rattle.type_table_run.specs.declared.error.RunError.TheVariants.{Malformed, TrailingBytes, NoSuchType, Dangling, Memory, Input, Output}
 use Rattle.type_table_run.specs.Refusals.{Explains}
@@ -72,3 +73,12 @@ returns-in-Err-clause-output_failed g c reported = record {
   names = c.in-Some.ensures.some;
   holds = subst (Explains _ _ _ _) (reported_error _ _ c.in-Err.error Output c.report_error.ensures.small tt reported c.report_error.ensures.line) c.in-Err.ensures.err;
 }
+
+pub returns-in-Err-clause-done : goal.returns-in-Err-clause-done
+returns-in-Err-clause-done g c = search rules
+
+pub returns-in-Err-clause-read : goal.returns-in-Err-clause-read
+returns-in-Err-clause-read g c = search rules
+
+pub returns-in-Err-clause-unreported : goal.returns-in-Err-clause-unreported
+returns-in-Err-clause-unreported g c = search rules

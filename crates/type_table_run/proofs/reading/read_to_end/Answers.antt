@@ -1,3 +1,4 @@
+use Rattle.std.proofs.Common.{rules}
 use Rattle.std.proofs.Common.{arith, ◌∙◌}
 use Rattle.type_table_run.proofs.Filled.{reads_more, reads_none}
 use Rattle.type_table_run.proofs.reading.read_to_end.Goals.{in-Ok, in-Err+else-ne}
@@ -16,3 +17,9 @@ loop-preserved g c =
         lost = reads_none _ _ _ c.loop.input.items _ c.loop.filled _ w.filled-is prefix c.loop.invariant.lost w.in-Err.ensures.err.1;
       }
     ]
+
+pub returns-then-ne-clause-end : goal.returns-then-ne-clause-end
+returns-then-ne-clause-end g c = search rules
+
+pub returns-then-ne-clause-whole : goal.returns-then-ne-clause-whole
+returns-then-ne-clause-whole g c = search rules

@@ -12,3 +12,6 @@ overflow_cast-id c =
 
 pub loop-ty-preserved : goal.loop-ty-preserved
 loop-ty-preserved c = grind (arith, common_steps, rules, numbered_push, length_numbered)
+
+pub returns : goal.returns
+returns c = grind (arith, common_steps, rules)
