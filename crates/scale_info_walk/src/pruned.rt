@@ -1,7 +1,7 @@
 //! Tables that keep what some of their entries reach.
 ghost use Rattle.std.specs.Prelude.{◌≡◌, ◌≢◌, ◌<◌, ◌≤◌, ◌+◌, ◌++◌, ◌∷◌, ◌↔◌, ℕ, Bool, List, []};
-ghost use Rattle.std.specs.Prelude.{Some, All, IfOk, IfErr, OnErr, cond, length, slice_get, vec_capacity};
-ghost use Rattle.std.specs.Prelude.{vec_len};
+ghost use Rattle.std.specs.Prelude.{Some, All, IfOk, IfErr, OnErr, cond, length, slice_get};
+ghost use Rattle.std.specs.Prelude.{vec_capacity, vec_len};
 ghost use Rattle.std.specs.BTreeMap.{get};
 ghost use Rattle.std.specs.Ordering.{nat_cmp};
 ghost use Rattle.scale_info_numberings.specs.Numberings.{AreDistinct};

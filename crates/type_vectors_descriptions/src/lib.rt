@@ -1,4 +1,5 @@
-//! Tests of descriptions in both forms, and of copies, orders and identities, by values made in the test.
+//! Tests of descriptions in both forms, of copies, orders and identities, by values made in the
+//! test.
 #![tactic(auto)]
 
 #[cfg(test)]
