@@ -64,17 +64,23 @@ pub fn add(rt: &HostRuntime, name: &str) -> Result<Outcome, Fail> {
     }
 }
 
+/// Adds the description of this name under an identity, and says what is returned.
+fn added(rt: &HostRuntime, known: &mut Catalogue, name: &str) -> Result<Answer, Fail> {
+    let description = description_named(rt.alloc(), name)?;
+    let identity = Missing::type_id(rt.alloc())?;
+    begin(rt);
+    let returned = known.add_described(identity, description);
+    end(rt);
+    shown(rt.alloc(), returned)
+}
+
 /// Adds the description of this name under an identity, and says what is lent and returned.
 fn add_to(rt: &HostRuntime, mut known: Catalogue, name: &str) -> Result<Outcome, Fail> {
     let identity = Missing::type_id(rt.alloc())?;
-    let description = description_named(rt.alloc(), name)?;
     let before = state(rt.alloc(), &known, &identity)?;
-    let given = Missing::type_id(rt.alloc())?;
-    begin(rt);
-    let returned = known.add_described(given, description);
-    end(rt);
+    let answer = added(rt, &mut known, name)?;
     let after = state(rt.alloc(), &known, &identity)?;
-    Ok(Outcome::lending(before, after, shown(rt.alloc(), returned)?))
+    Ok(Outcome::lending(before, after, answer))
 }
 
 /// Adds the description of this name under a new identity.

@@ -7,6 +7,7 @@ use scale_info::{
     Field, Items, Path, PortableRegistryBuilder, PortableType, Registry, Text, Type, TypeDef,
     TypeDefArray, TypeDefCompact, TypeDefMap, TypeDefPrimitive, TypeId, TypeParameter, Variant,
 };
+use std::alloc::Global;
 use std::test::Fail;
 use type_refusals_common::answers::{Answer, digits};
 use type_refusals_common::marks::{begin, end};
@@ -60,17 +61,34 @@ pub fn entry(rt: &HostRuntime) -> Result<Outcome, Fail> {
     Ok(seen(digits(rt.alloc(), &made)?))
 }
 
+/// Definitions of four kinds that hold no list.
+fn four_definitions() -> [TypeDef<PortableForm>; 4] {
+    [
+        TypeDef::from(TypeDefArray::new(32, parts::id(1))),
+        TypeDef::from(TypeDefCompact::new(parts::id(1))),
+        TypeDef::from(TypeDefMap::new(parts::id(1), parts::id(2))),
+        TypeDef::from(TypeDefPrimitive::U8),
+    ]
+}
+
+/// The encodings of definitions, in order, with a space between two.
+fn all_digits(alloc: Global, definitions: &[TypeDef<PortableForm>]) -> Result<String, Fail> {
+    let mut text = String::new(alloc);
+    for definition in definitions {
+        if !text.is_empty() {
+            text.push_str(" ")?;
+        }
+        text.push_str(digits(alloc, definition)?.as_str())?;
+    }
+    Ok(text)
+}
+
 /// Makes definitions.
 pub fn definitions(rt: &HostRuntime) -> Result<Outcome, Fail> {
     begin(rt);
-    let array: TypeDef<PortableForm> = TypeDef::from(TypeDefArray::new(32, parts::id(1)));
-    let compact: TypeDef<PortableForm> = TypeDef::from(TypeDefCompact::new(parts::id(1)));
-    let map: TypeDef<PortableForm> = TypeDef::from(TypeDefMap::new(parts::id(1), parts::id(2)));
-    let primitive: TypeDef<PortableForm> = TypeDef::from(TypeDefPrimitive::U8);
+    let made = four_definitions();
     end(rt);
-    let (array, compact) = (digits(rt.alloc(), &array)?, digits(rt.alloc(), &compact)?);
-    let (map, primitive) = (digits(rt.alloc(), &map)?, digits(rt.alloc(), &primitive)?);
-    Ok(seen(format!(in rt.alloc(); "{array} {compact} {map} {primitive}")?))
+    Ok(seen(all_digits(rt.alloc(), &made)?))
 }
 
 /// Turns a list and a text into those of this library, and back.
