@@ -67,23 +67,29 @@ fn no_types_are_the_empty_table(rt: HostRuntime) -> Result<(), Fail> {
     Ok(())
 }
 
+/// What is written for `Vec<u32>`, the second of three types, and one more byte.
+fn written_and_more(alloc: Global, known: &Catalogue) -> Result<Vec<u8>, Fail> {
+    let mut out = Vec::new(alloc);
+    export(known, &three(alloc)?, |id| id == 1, &mut out)?;
+    out.push(0xff)?;
+    Ok(out)
+}
+
+/// The table of `Vec<u32>`, registered afresh.
+fn afresh(alloc: Global, known: &Catalogue) -> Result<PortableRegistry, Fail> {
+    let mut registry = Registry::new(alloc);
+    registry.register_type(&meta_type::<Vec<u32>>(alloc)?, known)?;
+    Ok(PortableRegistry::from_registry(alloc, &registry)?)
+}
+
 #[test]
 fn what_is_written_is_decoded_before_other_bytes(rt: HostRuntime) -> Result<(), Fail> {
     let alloc = rt.alloc();
     let known = catalogue(alloc)?;
-    let mut out = Vec::new(alloc);
-    export(&known, &three(alloc)?, |id| id == 1, &mut out)?;
-    out.push(0xff)?;
-    let (table, rest) = PortableRegistry::decode(alloc, &out)?;
-    is(&rt, "rest", rest.len(), 1);
-    is(&rt, "rest", rest.first().copied(), Some(0xff));
-    let mut afresh = Registry::new(alloc);
-    afresh.register_type(&meta_type::<Vec<u32>>(alloc)?, &known)?;
-    holds(
-        &rt,
-        "table",
-        table == PortableRegistry::from_registry(alloc, &afresh)?,
-    );
+    let bytes = written_and_more(alloc, &known)?;
+    let (table, rest) = PortableRegistry::decode(alloc, &bytes)?;
+    is(&rt, "rest", rest, [0xffu8].as_slice());
+    holds(&rt, "table", table == afresh(alloc, &known)?);
     Ok(())
 }
 

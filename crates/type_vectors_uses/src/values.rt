@@ -2,6 +2,7 @@
 use crate::rows::bytes;
 use scale_info::value::{Dyn, ValueError, decode_value};
 use scale_info::{Items, PortableRegistry, Text};
+use std::alloc::Global;
 use std::test::Fail;
 
 /// `u32`, `bool`, `Option<(u32, bool)>` and `(u32, bool)`.
@@ -9,21 +10,29 @@ const OPTION: &str = "\
     10 000000050500 040000050000 0804184f7074696f6e040454010c0108104e6f6e6500000010536f6d65 \
     04000c0000010000 0c00000408000400";
 
+/// The table of these types.
+fn options(alloc: Global) -> Result<PortableRegistry, Fail> {
+    let (table, _) = PortableRegistry::decode(alloc, &bytes(alloc, OPTION)?)?;
+    Ok(table)
+}
+
+/// `Some((5, true))`.
+fn some_pair(alloc: Global) -> Result<Dyn, Fail> {
+    let pair = Items::from(vec![in alloc; Dyn::Unsigned(5), Dyn::Bool(true)]?);
+    let fields = Items::from(vec![in alloc; (None, Dyn::List(pair))]?);
+    Ok(Dyn::Variant {
+        name: Text::from_str(alloc, "Some")?,
+        index: 1,
+        fields,
+    })
+}
+
 #[test]
 fn a_variant_has_its_name_its_index_and_its_fields(rt: HostRuntime) -> Result<(), Fail> {
     let alloc = rt.alloc();
-    let table_bytes = bytes(alloc, OPTION)?;
-    let (table, _) = PortableRegistry::decode(alloc, &table_bytes)?;
-    let pair = Items::from(vec![in alloc; Dyn::Unsigned(5), Dyn::Bool(true)]?);
-    let fields = Items::from(vec![in alloc; (None, Dyn::List(pair))]?);
-    let name = Text::from_str(alloc, "Some")?;
-    let wanted = Dyn::Variant {
-        name,
-        index: 1,
-        fields,
-    };
+    let table = options(alloc)?;
     let (value, rest) = decode_value(alloc, &table, 2, &[1, 5, 0, 0, 0, 1, 9])?;
-    assert!(rt; value == wanted);
+    assert!(rt; value == some_pair(alloc)?);
     assert_eq!(rt; rest, [9u8].as_slice());
     Ok(())
 }
@@ -31,8 +40,7 @@ fn a_variant_has_its_name_its_index_and_its_fields(rt: HostRuntime) -> Result<()
 #[test]
 fn an_error_is_returned(rt: HostRuntime) -> Result<(), Fail> {
     let alloc = rt.alloc();
-    let table_bytes = bytes(alloc, OPTION)?;
-    let (table, _) = PortableRegistry::decode(alloc, &table_bytes)?;
+    let table = options(alloc)?;
     assert_eq!(rt;
         decode_value(alloc, &table, 2, &[2]).err(),
         Some(ValueError::Malformed)
