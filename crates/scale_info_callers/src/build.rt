@@ -23,21 +23,33 @@ fn point_table(alloc: Global) -> Result<PortableRegistry, InternError> {
     let number = builder.register_type(Type::from_def(alloc, TypeDefPrimitive::U32.into()))?;
     let numbers = TypeDefSequence::new(number.into());
     let numbers = builder.register_type(Type::from_def(alloc, numbers.into()))?;
+    builder.register_type(point(alloc, number, numbers)?)?;
+    Ok(builder.finish(alloc)?)
+}
+
+/// The description of `Point`, where `u32` and `Vec<u32>` have these ids.
+fn point(alloc: Global, number: u32, numbers: u32) -> Result<Type<PortableForm>, AllocError> {
+    let path = point_path(alloc)?;
+    let fields = point_fields(alloc, number, numbers)?;
+    Type::new(alloc, path, Vec::new(alloc), fields.into(), Vec::new(alloc))
+}
+
+/// The path `shapes::Point`.
+fn point_path(alloc: Global) -> Result<Path<PortableForm>, AllocError> {
+    let module = Text::from_str(alloc, "shapes")?;
+    let name = Text::from_str(alloc, "Point")?;
+    Path::from_segments_unchecked(alloc, vec![in alloc; module, name]?)
+}
+
+/// The fields `x` and `tags`.
+fn point_fields(
+    alloc: Global,
+    number: u32,
+    numbers: u32,
+) -> Result<TypeDefComposite<PortableForm>, AllocError> {
     let x = named_field(alloc, "x", number, "u32")?;
     let tags = named_field(alloc, "tags", numbers, "Vec<u32>")?;
-    let segments = vec![in alloc;
-        Text::from_str(alloc, "shapes")?,
-        Text::from_str(alloc, "Point")?,
-    ]?;
-    let point = Type::new(
-        alloc,
-        Path::from_segments_unchecked(alloc, segments)?,
-        Vec::new(alloc),
-        TypeDefComposite::from(vec![in alloc; x, tags]?).into(),
-        Vec::new(alloc),
-    )?;
-    builder.register_type(point)?;
-    Ok(builder.finish(alloc)?)
+    Ok(TypeDefComposite::from(vec![in alloc; x, tags]?))
 }
 
 /// A field without docs.
