@@ -11,3 +11,9 @@ pub fn is<T: PartialEq + Debug + Drop>(rt: &impl Abort, name: &str, value: T, wa
 pub fn holds(rt: &impl Abort, name: &str, statement: bool) {
     assert!(rt; statement, "{name}");
 }
+
+/// Asserts that the value is the one that is wanted. Both are large, so the message has the name
+/// alone.
+pub fn same<T: PartialEq>(rt: &impl Abort, name: &str, value: &T, wanted: &T) {
+    assert!(rt; value == wanted, "{name}");
+}

@@ -8,8 +8,8 @@ use type_vectors_common::rows::{MIXED, row_bytes};
 
 /// Changes the byte at this index, if there is one.
 fn set(input: &mut [u8], index: usize, byte: u8) {
-    if let Some(old) = input.get_mut(index) {
-        *old = byte;
+    if index < input.len() {
+        input[index] = byte;
     }
 }
 

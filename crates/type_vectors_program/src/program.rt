@@ -1,11 +1,14 @@
-//! The program over readers and writers in memory: statuses, lines and output.
-use crate::asserts::{holds, is};
+//! The program over readers and writers in memory: arguments, lines, and how it reads and writes.
+use crate::asserts::{holds, is, same};
+use crate::runs::{refused, run_from, run_words, wrote};
+use scale_info::Text;
 use std::alloc::Global;
-use std::io::{Read, Write};
+use std::io::Read;
 use std::process::Abort;
 use std::test::Fail;
+use type_vectors_common::chains::{chain_to_bool, encoding};
 use type_vectors_common::parts::texts;
-use type_vectors_common::rows::{MALFORMED, TABLES, rows};
+use type_vectors_common::rows::{TABLES, rows};
 use type_vectors_common::streams::{HaltingReader, HaltingWriter, InterruptedReader};
 
 const USAGE: &str = "usage: type_table check | prune ID .. | json\n";
@@ -17,264 +20,170 @@ const VEC_U32: [u8; 13] = [8, 0, 0, 0, 2, 4, 0, 4, 0, 0, 5, 5, 0];
 const VEC_U32_JSON: &str = "{\"types\":[{\"id\":0,\"type\":{\"def\":{\"sequence\":{\"type\":1}}}},\
     {\"id\":1,\"type\":{\"def\":{\"primitive\":\"u32\"}}}]}\n";
 
-/// Runs a command of one argument, and returns the status and the lines of errors.
-fn run_command<R: Read, W: Write>(
-    alloc: Global,
-    argument: &str,
-    reader: &mut R,
-    output: &mut W,
-) -> Result<(u8, String), Fail> {
-    let arguments = texts(alloc, &[argument])?;
-    let mut errors = Vec::new(alloc);
-    let status = type_table_run::run(alloc, &arguments, reader, output, &mut errors);
-    Ok((status, String::from_utf8(errors)?))
-}
-
-/// Asserts that `check` writes the input again, with status 0 and no line.
+/// Asserts that `check` writes the bytes that a reader gives again.
 fn comes_back<R: Read>(
     rt: &impl Abort,
     alloc: Global,
     name: &str,
     reader: &mut R,
-    input: &[u8],
+    bytes: &[u8],
 ) -> Result<(), Fail> {
-    let mut output = Vec::new(alloc);
-    let (status, line) = run_command(alloc, "check", reader, &mut output)?;
-    is(rt, name, (status, line.as_str()), (0, ""));
-    holds(rt, name, output.as_slice() == input);
+    let run = run_from(alloc, "check", reader)?;
+    same(rt, name, &run, &wrote(alloc, bytes)?);
     Ok(())
 }
 
-/// Asserts that `check` ends with status 1 and this line, and writes nothing.
-fn is_reported<R: Read>(
+/// Asserts that `check` writes the bytes again, and that nothing of them is left unread.
+fn is_read_whole(rt: &impl Abort, alloc: Global, name: &str, bytes: &[u8]) -> Result<(), Fail> {
+    let mut reader = bytes;
+    comes_back(rt, alloc, name, &mut reader, bytes)?;
+    holds(rt, name, reader.is_empty());
+    Ok(())
+}
+
+/// Asserts that `check` writes the bytes again, where a read gives so many and every second read
+/// is interrupted.
+fn is_read_in_pieces(
     rt: &impl Abort,
     alloc: Global,
     name: &str,
-    reader: &mut R,
-    wanted: &str,
+    bytes: &[u8],
+    piece: usize,
 ) -> Result<(), Fail> {
-    let mut output = Vec::new(alloc);
-    let (status, line) = run_command(alloc, "check", reader, &mut output)?;
-    is(
-        rt,
-        name,
-        (status, line.as_str(), output.len()),
-        (1, wanted, 0),
-    );
-    Ok(())
+    let mut reader = HaltingReader::ending(bytes, piece);
+    comes_back(rt, alloc, name, &mut reader, bytes)
+}
+
+/// Asserts so of bytes that are read at once, and of the same byte by byte.
+fn is_read_in_two_ways(
+    rt: &impl Abort,
+    alloc: Global,
+    name: &str,
+    bytes: &[u8],
+) -> Result<(), Fail> {
+    is_read_whole(rt, alloc, name, bytes)?;
+    is_read_in_pieces(rt, alloc, name, bytes, 1)
 }
 
 #[test]
-fn check_writes_each_table_again(rt: HostRuntime) -> Result<(), Fail> {
-    for row in rows(rt.alloc(), TABLES)? {
-        let mut reader = row.bytes.as_slice();
-        comes_back(&rt, rt.alloc(), row.name, &mut reader, &row.bytes)?;
-        holds(&rt, row.name, reader.is_empty());
+fn check_writes_each_table_again_however_it_is_read(rt: HostRuntime) -> Result<(), Fail> {
+    let tables = rows(rt.alloc(), TABLES)?;
+    for row in &tables {
+        is_read_in_two_ways(&rt, rt.alloc(), row.name, &row.bytes)?;
     }
     Ok(())
 }
 
-#[test]
-fn reads_may_be_short_and_interrupted(rt: HostRuntime) -> Result<(), Fail> {
-    for row in rows(rt.alloc(), TABLES)? {
-        let mut reader = HaltingReader::ending(&row.bytes, 1);
-        comes_back(&rt, rt.alloc(), row.name, &mut reader, &row.bytes)?;
-    }
-    Ok(())
-}
-
-/// A table of 30000 numbers, whose encoding is longer than two buffers of 64 KiB.
-fn large_table(alloc: Global) -> Result<Vec<u8>, Fail> {
-    let mut bytes = vec![in alloc; 0xc2, 0xd4, 0x01, 0x00]?;
-    for _ in 0..30000 {
-        bytes.extend_from_slice(&[0x00, 0x00, 0x00, 0x05, 0x05, 0x00])?;
-    }
-    Ok(bytes)
-}
-
+/// The encoding has 294340 bytes, and a buffer 64 KiB.
 #[test]
 fn a_table_may_be_longer_than_a_buffer(rt: HostRuntime) -> Result<(), Fail> {
-    let large = large_table(rt.alloc())?;
-    comes_back(&rt, rt.alloc(), "whole", &mut large.as_slice(), &large)?;
-    for piece in [1, 40000] {
-        let mut reader = HaltingReader::ending(&large, piece);
-        comes_back(&rt, rt.alloc(), "in pieces", &mut reader, &large)?;
-    }
-    Ok(())
-}
-
-#[test]
-fn proper_prefixes_of_tables_are_reported_as_malformed(rt: HostRuntime) -> Result<(), Fail> {
-    for row in rows(rt.alloc(), TABLES)? {
-        for end in 0..row.bytes.len() {
-            let mut reader = &row.bytes[..end];
-            is_reported(
-                &rt,
-                rt.alloc(),
-                row.name,
-                &mut reader,
-                "type_table: malformed\n",
-            )?;
-        }
-    }
-    Ok(())
-}
-
-#[test]
-fn malformed_inputs_are_reported(rt: HostRuntime) -> Result<(), Fail> {
-    for row in rows(rt.alloc(), MALFORMED)? {
-        let mut reader = row.bytes.as_slice();
-        is_reported(
-            &rt,
-            rt.alloc(),
-            row.name,
-            &mut reader,
-            "type_table: malformed\n",
-        )?;
-    }
-    Ok(())
-}
-
-#[test]
-fn bytes_after_a_table_are_reported(rt: HostRuntime) -> Result<(), Fail> {
-    for row in rows(rt.alloc(), TABLES)? {
-        let mut input = row.bytes;
-        input.push(0xff)?;
-        let mut reader = input.as_slice();
-        is_reported(
-            &rt,
-            rt.alloc(),
-            row.name,
-            &mut reader,
-            "type_table: trailing bytes\n",
-        )?;
-    }
-    Ok(())
-}
-
-#[test]
-fn a_failed_read_is_reported(rt: HostRuntime) -> Result<(), Fail> {
-    for end in 0..VEC_U32.len() + 1 {
-        let mut reader = HaltingReader::failing(&VEC_U32[..end]);
-        is_reported(
-            &rt,
-            rt.alloc(),
-            "a failed read",
-            &mut reader,
-            "type_table: input failed\n",
-        )?;
-    }
-    Ok(())
-}
-
-#[test]
-fn a_failed_write_is_reported(rt: HostRuntime) -> Result<(), Fail> {
-    // A writer that is just full fails at its flush.
-    for room in 0..VEC_U32.len() + 1 {
-        let mut output = HaltingWriter::new(rt.alloc(), room);
-        let (status, line) = run_command(
-            rt.alloc(),
-            "check",
-            &mut VEC_U32.as_slice(),
-            &mut output,
-        )?;
-        is(
-            &rt,
-            "line",
-            (status, line.as_str()),
-            (1, "type_table: output failed\n"),
-        );
-        is(&rt, "output", output.taken.as_slice(), &VEC_U32[..room]);
-    }
-    Ok(())
+    let large = encoding(rt.alloc(), &chain_to_bool(rt.alloc(), 30000)?)?;
+    is_read_in_two_ways(&rt, rt.alloc(), "large", &large)?;
+    is_read_in_pieces(&rt, rt.alloc(), "in pieces", &large, 40000)
 }
 
 #[test]
 fn writes_may_be_short_and_interrupted(rt: HostRuntime) -> Result<(), Fail> {
     let mut output = HaltingWriter::new(rt.alloc(), VEC_U32.len() + 1);
-    let (status, _) = run_command(rt.alloc(), "check", &mut VEC_U32.as_slice(), &mut output)?;
+    let (status, _) = run_words(rt.alloc(), "check", &mut VEC_U32.as_slice(), &mut output)?;
     is(&rt, "status", status, 0);
     is(&rt, "output", output.taken.as_slice(), VEC_U32.as_slice());
     Ok(())
 }
 
-/// The reader fails when it is asked, and that would be reported with status 1.
+/// Lists of arguments that are no command.
+const NO_COMMANDS: [&[&str]; 20] = [
+    &[],
+    &[""],
+    &["CHECK"],
+    &["checks"],
+    &["check", "check"],
+    &["check", ""],
+    &["prune"],
+    &["prunes", "0"],
+    &["prune", "x"],
+    &["prune", ""],
+    &["prune", "+1"],
+    &["prune", "-1"],
+    &["prune", "0x1"],
+    &["prune", "1 "],
+    &["prune", "1,2"],
+    &["prune", "\u{661}"],
+    &["prune", "4294967296"],
+    &["prune", "18446744073709551616"],
+    &["prune", "0", "x"],
+    &["json", "0"],
+];
+
+/// Runs the program with a writer of errors that has this much room: the status, how many bytes
+/// were written, and what was taken of the line.
+fn run_to<R: Read>(
+    alloc: Global,
+    arguments: &[Text],
+    reader: &mut R,
+    room: usize,
+) -> (u8, usize, Vec<u8>) {
+    let mut output = Vec::new(alloc);
+    let mut errors = HaltingWriter::new(alloc, room);
+    let status = type_table_run::run(alloc, arguments, reader, &mut output, &mut errors);
+    (status, output.len(), errors.taken)
+}
+
+/// Asserts that the usage is all that is written, with status 2, and that nothing is read: the
+/// reader fails when it is asked, and that would be reported with status 1.
+fn prints_the_usage(rt: &impl Abort, alloc: Global, arguments: &[Text]) {
+    let mut reader = HaltingReader::failing(&[]);
+    let (status, written, line) = run_to(alloc, arguments, &mut reader, 100);
+    is(rt, "line", line.as_slice(), USAGE.as_bytes());
+    is(rt, "status", (status, written, reader.calls()), (2, 0, 0));
+}
+
 #[test]
 fn other_arguments_print_the_usage_and_nothing_is_read(rt: HostRuntime) -> Result<(), Fail> {
-    let lists: [&[&str]; 20] = [
-        &[],
-        &[""],
-        &["CHECK"],
-        &["checks"],
-        &["check", "check"],
-        &["check", ""],
-        &["prune"],
-        &["prunes", "0"],
-        &["prune", "x"],
-        &["prune", ""],
-        &["prune", "+1"],
-        &["prune", "-1"],
-        &["prune", "0x1"],
-        &["prune", "1 "],
-        &["prune", "1,2"],
-        &["prune", "\u{661}"],
-        &["prune", "4294967296"],
-        &["prune", "18446744073709551616"],
-        &["prune", "0", "x"],
-        &["json", "0"],
-    ];
-    for list in lists {
-        let arguments = texts(rt.alloc(), list)?;
-        let (mut reader, mut output) = (HaltingReader::failing(&[]), Vec::new(rt.alloc()));
-        let mut errors = HaltingWriter::new(rt.alloc(), 100);
-        let status = type_table_run::run(
-            rt.alloc(),
-            &arguments,
-            &mut reader,
-            &mut output,
-            &mut errors,
-        );
-        is(&rt, "line", errors.taken.as_slice(), USAGE.as_bytes());
-        is(
-            &rt,
-            "status",
-            (status, output.len(), reader.calls()),
-            (2, 0, 0),
-        );
+    for list in &NO_COMMANDS {
+        prints_the_usage(&rt, rt.alloc(), &texts(rt.alloc(), list)?);
     }
     Ok(())
 }
 
-/// Runs the program with one argument over malformed input, and asserts that the first bytes of
-/// this line are all that a writer with so much room has got.
-fn is_cut(
-    rt: &impl Abort,
-    alloc: Global,
-    argument: &str,
-    room: usize,
-    line: &str,
-) -> Result<u8, Fail> {
-    let arguments = texts(alloc, &[argument])?;
-    let mut output = Vec::new(alloc);
-    let mut errors = HaltingWriter::new(alloc, room);
-    let mut reader: &[u8] = &[4];
-    let status = type_table_run::run(alloc, &arguments, &mut reader, &mut output, &mut errors);
-    is(
-        rt,
-        argument,
-        errors.taken.as_slice(),
-        &line.as_bytes()[..room.min(line.len())],
-    );
-    Ok(status)
+/// A run that is refused: its arguments, its input, its status and its line.
+type Refusal = (&'static [&'static str], &'static [u8], u8, &'static str);
+
+/// Runs that are refused, of which none has a longer line than the usage.
+const REFUSALS: [Refusal; 3] = [
+    (&["check"], &[4], 1, "type_table: malformed\n"),
+    (&["prune"], &[4], 2, USAGE),
+    (
+        &["prune", "4294967295"],
+        &[0],
+        1,
+        "type_table: no such type 4294967295\n",
+    ),
+];
+
+/// Asserts that the line of a run is written as far as there is room, and the status is the same.
+fn may_be_cut(rt: &impl Abort, alloc: Global, arguments: &[Text], run: &Refusal, room: usize) {
+    let (_, input, status, line) = *run;
+    let mut reader = input;
+    let (found, written, taken) = run_to(alloc, arguments, &mut reader, room);
+    is(rt, line, (found, written), (status, 0));
+    let wanted = &line.as_bytes()[..room.min(line.len())];
+    is(rt, line, taken.as_slice(), wanted);
+}
+
+/// Asserts that the line of a run may be cut anywhere.
+fn may_be_cut_anywhere(rt: &impl Abort, alloc: Global, run: &Refusal) -> Result<(), Fail> {
+    let arguments = texts(alloc, run.0)?;
+    for room in 0..USAGE.len() + 2 {
+        may_be_cut(rt, alloc, &arguments, run, room);
+    }
+    Ok(())
 }
 
 #[test]
 fn a_line_that_cannot_be_written_changes_no_status(rt: HostRuntime) -> Result<(), Fail> {
-    for room in 0..3 {
-        let status = is_cut(&rt, rt.alloc(), "check", room, "type_table: malformed\n")?;
-        is(&rt, "malformed", status, 1);
-        let status = is_cut(&rt, rt.alloc(), "prune", room, USAGE)?;
-        is(&rt, "usage", status, 2);
+    for run in &REFUSALS {
+        may_be_cut_anywhere(&rt, rt.alloc(), run)?;
     }
     Ok(())
 }
@@ -284,61 +193,20 @@ fn a_line_that_cannot_be_written_changes_no_status(rt: HostRuntime) -> Result<()
 #[test]
 fn a_million_interrupted_reads_are_tried_again(rt: HostRuntime) -> Result<(), Fail> {
     let mut reader = InterruptedReader { left: 1000000 };
-    is_reported(
-        &rt,
-        rt.alloc(),
-        "interrupted",
-        &mut reader,
-        "type_table: malformed\n",
-    )
+    let run = run_from(rt.alloc(), "check", &mut reader)?;
+    is(&rt, "interrupted", run, refused(rt.alloc(), "malformed")?);
+    Ok(())
 }
 
 #[test]
 fn json_writes_the_text_and_a_line_feed(rt: HostRuntime) -> Result<(), Fail> {
-    let mut output = Vec::new(rt.alloc());
     let mut reader = HaltingReader::ending(&VEC_U32, 1);
-    let (status, line) = run_command(rt.alloc(), "json", &mut reader, &mut output)?;
-    is(&rt, "line", (status, line.as_str()), (0, ""));
-    is(&rt, "output", output.as_slice(), VEC_U32_JSON.as_bytes());
-    Ok(())
-}
-
-#[test]
-fn json_reports_malformed_inputs(rt: HostRuntime) -> Result<(), Fail> {
-    for row in rows(rt.alloc(), MALFORMED)? {
-        let (mut reader, mut output) = (row.bytes.as_slice(), Vec::new(rt.alloc()));
-        let (status, line) = run_command(rt.alloc(), "json", &mut reader, &mut output)?;
-        is(&rt, row.name, (status, output.len()), (1, 0));
-        is(&rt, row.name, line.as_str(), "type_table: malformed\n");
-    }
-    Ok(())
-}
-
-#[test]
-fn json_reports_trailing_bytes(rt: HostRuntime) -> Result<(), Fail> {
-    let (mut reader, mut output) = ([0, 0].as_slice(), Vec::new(rt.alloc()));
-    let (status, line) = run_command(rt.alloc(), "json", &mut reader, &mut output)?;
-    is(&rt, "status", (status, output.len()), (1, 0));
-    is(&rt, "line", line.as_str(), "type_table: trailing bytes\n");
-    Ok(())
-}
-
-#[test]
-fn json_reports_failed_writes(rt: HostRuntime) -> Result<(), Fail> {
-    for room in 0..VEC_U32_JSON.len() + 1 {
-        let mut output = HaltingWriter::new(rt.alloc(), room);
-        let (status, line) = run_command(rt.alloc(), "json", &mut VEC_U32.as_slice(), &mut output)?;
-        is(
-            &rt,
-            "line",
-            (status, line.as_str()),
-            (1, "type_table: output failed\n"),
-        );
-        holds(
-            &rt,
-            "output",
-            output.taken.as_slice() == &VEC_U32_JSON.as_bytes()[..room],
-        );
-    }
+    let run = run_from(rt.alloc(), "json", &mut reader)?;
+    is(
+        &rt,
+        "Vec<u32>",
+        run,
+        wrote(rt.alloc(), VEC_U32_JSON.as_bytes())?,
+    );
     Ok(())
 }

@@ -33,15 +33,21 @@ pub fn run_words<R: Read, W: Write>(
     Ok((status, String::from_utf8(errors)?))
 }
 
-/// Runs the program over these bytes.
-pub fn run_over(alloc: Global, words: &str, input: &[u8]) -> Result<Run, Fail> {
-    let (mut reader, mut output) = (input, Vec::new(alloc));
-    let (status, line) = run_words(alloc, words, &mut reader, &mut output)?;
+/// Runs the program with these words over what a reader gives.
+pub fn run_from<R: Read>(alloc: Global, words: &str, reader: &mut R) -> Result<Run, Fail> {
+    let mut output = Vec::new(alloc);
+    let (status, line) = run_words(alloc, words, reader, &mut output)?;
     Ok(Run {
         status,
         output,
         line,
     })
+}
+
+/// Runs the program with these words over these bytes.
+pub fn run_over(alloc: Global, words: &str, input: &[u8]) -> Result<Run, Fail> {
+    let mut reader = input;
+    run_from(alloc, words, &mut reader)
 }
 
 /// A run that writes nothing and ends with status 1 and a line that says this.
@@ -54,19 +60,19 @@ pub fn refused(alloc: Global, reason: &str) -> Result<Run, Fail> {
 }
 
 /// A run that writes these bytes and ends with status 0.
-pub fn wrote(alloc: Global, output: Vec<u8>) -> Run {
-    Run {
+pub fn wrote(alloc: Global, output: &[u8]) -> Result<Run, Fail> {
+    Ok(Run {
         status: 0,
-        output,
+        output: Vec::from_slice(alloc, output)?,
         line: String::new(alloc),
-    }
+    })
 }
 
 /// What `json` does with a table: it writes the text of its tree, and a line feed.
 fn by_tree(alloc: Global, table: &PortableRegistry) -> Result<Run, Fail> {
     let mut line = to_json(alloc, table)?.to_string(alloc)?;
     line.push('\n')?;
-    Ok(wrote(alloc, line.into_bytes()))
+    wrote(alloc, line.as_bytes())
 }
 
 /// The numbers that spaces separate.
@@ -95,7 +101,7 @@ fn by_retain(alloc: Global, mut table: PortableRegistry, ids: &[u32]) -> Result<
         return refused(alloc, format!(in alloc; "no such type {id}")?.as_str());
     }
     match table.retain(alloc, |id| ids.contains(&id)) {
-        Ok(_) => Ok(wrote(alloc, encoding(alloc, &table)?)),
+        Ok(_) => wrote(alloc, &encoding(alloc, &table)?),
         Err(RetainError::Dangling { id }) => {
             refused(alloc, format!(in alloc; "dangling id {id}")?.as_str())
         }
@@ -117,6 +123,6 @@ pub fn expected(alloc: Global, words: &str, input: &[u8]) -> Result<Run, Fail> {
     match words.split_once(' ') {
         Some((_, ids)) => by_retain(alloc, table, &numbers(alloc, ids)?),
         None if words == "json" => by_tree(alloc, &table),
-        None => Ok(wrote(alloc, encoding(alloc, &table)?)),
+        None => wrote(alloc, &encoding(alloc, &table)?),
     }
 }

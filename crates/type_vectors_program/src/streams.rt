@@ -1,6 +1,6 @@
 //! Readers and writers that fail at each byte, under each command.
 use crate::asserts::is;
-use crate::runs::{expected, run_words};
+use crate::runs::{expected, refused, run_from, run_words};
 use std::alloc::Global;
 use std::process::Abort;
 use std::test::Fail;
@@ -16,11 +16,10 @@ json
 
 /// Asserts that nothing is written where reading fails after any number of bytes.
 fn reads_fail(rt: &impl Abort, alloc: Global, words: &str, input: &[u8]) -> Result<(), Fail> {
+    let wanted = refused(alloc, "input failed")?;
     for end in 0..input.len() + 1 {
-        let (mut reader, mut output) = (HaltingReader::failing(&input[..end]), Vec::new(alloc));
-        let (status, line) = run_words(alloc, words, &mut reader, &mut output)?;
-        is(rt, words, (status, output.len()), (1, 0));
-        is(rt, words, line.as_str(), "type_table: input failed\n");
+        let mut reader = HaltingReader::failing(&input[..end]);
+        is(rt, words, &run_from(alloc, words, &mut reader)?, &wanted);
     }
     Ok(())
 }
@@ -34,16 +33,29 @@ fn failing_reads_are_reported(rt: HostRuntime) -> Result<(), Fail> {
     Ok(())
 }
 
-/// Asserts that the first bytes of the output are written where writing fails after these.
+/// Asserts that a writer that is full after these first bytes of the output has got them, and that
+/// it fails.
+fn fails_after(
+    rt: &impl Abort,
+    alloc: Global,
+    words: &str,
+    input: &[u8],
+    first: &[u8],
+) -> Result<(), Fail> {
+    let (mut reader, mut output) = (input, HaltingWriter::new(alloc, first.len()));
+    let (status, line) = run_words(alloc, words, &mut reader, &mut output)?;
+    is(rt, words, status, 1);
+    is(rt, words, line.as_str(), "type_table: output failed\n");
+    is(rt, words, output.taken.as_slice(), first);
+    Ok(())
+}
+
+/// Asserts that the first bytes of the output are written where writing fails after these. A writer
+/// that is just full fails at its flush.
 fn writes_fail(rt: &impl Abort, alloc: Global, words: &str, input: &[u8]) -> Result<(), Fail> {
     let wanted = expected(alloc, words, input)?.output;
-    // A writer that is just full fails at its flush.
     for room in 0..wanted.len() + 1 {
-        let mut output = HaltingWriter::new(alloc, room);
-        let (status, line) = run_words(alloc, words, &mut &input[..], &mut output)?;
-        is(rt, words, status, 1);
-        is(rt, words, line.as_str(), "type_table: output failed\n");
-        is(rt, words, output.taken.as_slice(), &wanted[..room]);
+        fails_after(rt, alloc, words, input, &wanted[..room])?;
     }
     Ok(())
 }

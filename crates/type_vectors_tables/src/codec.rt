@@ -1,11 +1,12 @@
-//! Tables and numbers as bytes: what is decoded is encoded again, and all else is malformed.
+//! Tables and numbers as bytes: what is decoded is encoded again. That all else is malformed,
+//! `type_vectors_program` shows.
 use crate::asserts::is;
 use scale_info::impls::Compact;
-use scale_info::{DecodeError, PortableRegistry, Scale};
+use scale_info::{PortableRegistry, Scale};
 use std::alloc::{AllocError, Global};
 use std::process::Abort;
 use std::test::Fail;
-use type_vectors_common::rows::{COMPACT_NUMBERS, MALFORMED, Row, TABLES, rows};
+use type_vectors_common::rows::{COMPACT_NUMBERS, Row, TABLES, decoded, rows};
 
 /// The bytes of both, in order.
 fn chained(alloc: Global, first: &[u8], second: &[u8]) -> Result<Vec<u8>, AllocError> {
@@ -56,58 +57,42 @@ fn row_round_trips(rt: &impl Abort, alloc: Global, row: &Row) -> Result<(), Fail
     round_trips(rt, alloc, row.name, &row.bytes, &[0xff])
 }
 
-/// Asserts that no prefix of the input is the encoding of a table.
-fn is_malformed(rt: &impl Abort, alloc: Global, name: &str, input: &[u8]) {
-    let error = PortableRegistry::decode(alloc, input).err();
-    is(rt, name, error, Some(DecodeError::Malformed));
-}
-
-/// Asserts that each of these rows round-trips, in both ways.
-fn rows_round_trip(rt: &impl Abort, alloc: Global, tables: &[Row]) -> Result<(), Fail> {
-    for row in tables {
-        row_round_trips(rt, alloc, row)?;
-    }
-    Ok(())
-}
-
 #[test]
 fn tables_round_trip_alone_and_before_another_byte(rt: HostRuntime) -> Result<(), Fail> {
     let tables = rows(rt.alloc(), TABLES)?;
     is(&rt, "tables", tables.len(), 23);
-    rows_round_trip(&rt, rt.alloc(), &tables)
-}
-
-#[test]
-fn proper_prefixes_of_tables_are_malformed(rt: HostRuntime) -> Result<(), Fail> {
-    for row in rows(rt.alloc(), TABLES)? {
-        for end in 0..row.bytes.len() {
-            is_malformed(&rt, rt.alloc(), row.name, &row.bytes[..end]);
-        }
+    for row in &tables {
+        row_round_trips(&rt, rt.alloc(), row)?;
     }
     Ok(())
 }
 
-/// The rows with an announced count show no more than the error: `Malformed`, and not `Memory`,
-/// which a decoder that asks for the announced room would report where the system refuses so much.
-#[test]
-fn other_bytes_are_malformed(rt: HostRuntime) -> Result<(), Fail> {
-    let inputs = rows(rt.alloc(), MALFORMED)?;
-    is(&rt, "inputs", inputs.len(), 20);
-    for row in &inputs {
-        is_malformed(&rt, rt.alloc(), row.name, &row.bytes);
-    }
+/// The encoding of a compact number.
+fn encoded(alloc: Global, number: u32) -> Result<Vec<u8>, Fail> {
+    let mut output = Vec::new(alloc);
+    Compact(number).encode_to(&mut output)?;
+    Ok(output)
+}
+
+/// The number that a compact encoding begins with, and how many bytes are left.
+fn number_in(alloc: Global, bytes: &[u8]) -> Result<(u32, usize), Fail> {
+    let (read, rest) = Compact::<u32>::decode_from(alloc, bytes)?;
+    Ok((read.0, rest.len()))
+}
+
+/// Asserts that the number that a row is named by has the encoding of the row.
+fn number_round_trips(rt: &impl Abort, alloc: Global, row: &Row) -> Result<(), Fail> {
+    let number: u32 = row.name.parse()?;
+    is(rt, row.name, &encoded(alloc, number)?, &row.bytes);
+    is(rt, row.name, number_in(alloc, &row.bytes)?, (number, 0));
     Ok(())
 }
 
 #[test]
 fn compact_numbers_round_trip(rt: HostRuntime) -> Result<(), Fail> {
-    for row in rows(rt.alloc(), COMPACT_NUMBERS)? {
-        let number: u32 = row.name.parse()?;
-        let mut output = Vec::new(rt.alloc());
-        Compact(number).encode_to(&mut output)?;
-        is(&rt, row.name, output.as_slice(), row.bytes.as_slice());
-        let (read, rest) = Compact::<u32>::decode_from(rt.alloc(), &row.bytes)?;
-        is(&rt, row.name, (read.0, rest.len()), (number, 0));
+    let numbers = rows(rt.alloc(), COMPACT_NUMBERS)?;
+    for row in &numbers {
+        number_round_trips(&rt, rt.alloc(), row)?;
     }
     Ok(())
 }
@@ -118,11 +103,11 @@ fn bytes_of_id(alloc: Global, id: &[u8]) -> Result<Vec<u8>, AllocError> {
     chained(alloc, &[4], &entry)
 }
 
-/// The entry of `bool` whose id has this encoding, alone in its table.
-fn table_of_id(alloc: Global, id: &[u8]) -> Result<PortableRegistry, Fail> {
-    let input = bytes_of_id(alloc, id)?;
-    let (table, _) = PortableRegistry::decode(alloc, &input)?;
-    Ok(table)
+/// The entry of `bool` whose id has the encoding of a row, alone in its table.
+fn table_of_id(alloc: Global, row: &Row) -> Result<PortableRegistry, Fail> {
+    let bytes = bytes_of_id(alloc, &row.bytes)?;
+    let name = row.name;
+    decoded(alloc, &Row { name, bytes })
 }
 
 /// How many entries a table has, and the id of the first.
@@ -133,8 +118,9 @@ fn ids(table: &PortableRegistry) -> (usize, Option<u32>) {
 
 #[test]
 fn ids_of_entries_are_compact_numbers(rt: HostRuntime) -> Result<(), Fail> {
-    for row in rows(rt.alloc(), COMPACT_NUMBERS)? {
-        let table = table_of_id(rt.alloc(), &row.bytes)?;
+    let numbers = rows(rt.alloc(), COMPACT_NUMBERS)?;
+    for row in &numbers {
+        let table = table_of_id(rt.alloc(), row)?;
         is(&rt, row.name, ids(&table), (1, row.name.parse().ok()));
     }
     Ok(())

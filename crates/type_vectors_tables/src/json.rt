@@ -2,10 +2,11 @@
 use crate::asserts::is;
 use scale_info::{JsonError, PortableRegistry, append_json, from_json, to_json};
 use serde_json::Value;
-use std::alloc::Global;
+use std::alloc::{AllocError, Global};
 use std::process::Abort;
 use std::test::Fail;
-use type_vectors_common::rows::{TABLES, row_bytes, row_named};
+use type_vectors_common::chains::encoding;
+use type_vectors_common::rows::{TABLES, decoded, row_bytes, row_named};
 
 /// The row with characters that are escaped, and its text.
 const ESCAPES: &str = "control characters, quotes and characters of two to four bytes";
@@ -219,27 +220,34 @@ fn is_appended(
     Ok(())
 }
 
-/// Asserts that the table with these bytes has this text, by its tree and without it.
-fn is_written(rt: &impl Abort, alloc: Global, bytes: &[u8], text: &str) -> Result<(), Fail> {
-    let (table, _) = PortableRegistry::decode(alloc, bytes)?;
-    has_tree(rt, alloc, &table, text)?;
-    is_appended(rt, alloc, &table, text)
+/// Asserts that a table has this text, by its tree and without it.
+fn is_written(
+    rt: &impl Abort,
+    alloc: Global,
+    table: &PortableRegistry,
+    text: &str,
+) -> Result<(), Fail> {
+    has_tree(rt, alloc, table, text)?;
+    is_appended(rt, alloc, table, text)
+}
+
+/// The table that the tree of this text means.
+fn meant_by(alloc: Global, text: &str) -> Result<PortableRegistry, Fail> {
+    let tree = Value::from_str(alloc, text)?;
+    Ok(from_json(alloc, &tree)?)
 }
 
 /// Asserts that the tree of this text is read as the table with these bytes.
 fn is_read(rt: &impl Abort, alloc: Global, text: &str, bytes: &[u8]) -> Result<(), Fail> {
-    let tree = Value::from_str(alloc, text)?;
-    let table = from_json(alloc, &tree)?;
-    let mut output = Vec::new(alloc);
-    table.encode(&mut output)?;
-    is(rt, text, output.as_slice(), bytes);
+    let table = meant_by(alloc, text)?;
+    is(rt, text, encoding(alloc, &table)?.as_slice(), bytes);
     Ok(())
 }
 
 /// Asserts that the table of the row with this name is written as this text and read from it.
 fn is_text_of(rt: &impl Abort, alloc: Global, name: &str, text: &str) -> Result<(), Fail> {
     let row = row_named(alloc, TABLES, name)?;
-    is_written(rt, alloc, &row.bytes, text)?;
+    is_written(rt, alloc, &decoded(alloc, &row)?, text)?;
     is_read(rt, alloc, text, &row.bytes)
 }
 
@@ -282,57 +290,61 @@ fn tables_are_written_as_these_texts_and_read_from_them(rt: HostRuntime) -> Resu
     Ok(())
 }
 
+/// Asserts that the tree of a block is read as the table with the bytes below it.
+fn is_other_tree(rt: &impl Abort, alloc: Global, block: &str) -> Result<(), Fail> {
+    let Some((text, digits)) = block.split_once('\n') else {
+        return Err(Fail::new("a block has one line"));
+    };
+    is_read(rt, alloc, text, &row_bytes(alloc, digits)?)
+}
+
 #[test]
 fn trees_in_another_form_are_read(rt: HostRuntime) -> Result<(), Fail> {
-    let alloc = rt.alloc();
     for block in OTHER_TREES.split("\n\n") {
-        let Some((text, digits)) = block.split_once('\n') else {
-            return Err(Fail::new("a block has one line"));
-        };
-        let bytes = row_bytes(alloc, digits)?;
-        is_read(&rt, alloc, text, &bytes)?;
+        is_other_tree(&rt, rt.alloc(), block)?;
+    }
+    Ok(())
+}
+
+/// The line between these two texts.
+fn between(alloc: Global, before: &str, line: &str, after: &str) -> Result<String, AllocError> {
+    format!(in alloc; "{before}{line}{after}")
+}
+
+/// Asserts that the tree of each line between these two texts means no table.
+fn have_no_meaning(
+    rt: &impl Abort,
+    alloc: Global,
+    before: &str,
+    lines: &str,
+    after: &str,
+) -> Result<(), Fail> {
+    for line in lines.lines() {
+        let text = between(alloc, before, line, after)?;
+        has_no_meaning(rt, alloc, text.as_str())?;
     }
     Ok(())
 }
 
 #[test]
 fn trees_of_another_shape_are_no_tables(rt: HostRuntime) -> Result<(), Fail> {
-    for text in NO_TABLES.lines() {
-        has_no_meaning(&rt, rt.alloc(), text)?;
-    }
-    Ok(())
+    have_no_meaning(&rt, rt.alloc(), "", NO_TABLES, "")
 }
 
 #[test]
 fn other_trees_are_no_ids(rt: HostRuntime) -> Result<(), Fail> {
-    let alloc = rt.alloc();
-    for id in NO_IDS.lines() {
-        let text = format!(in alloc;
-            r#"{{"types":[{{"id":{id},"type":{{"def":{{"tuple":[]}}}}}}]}}"#
-        )?;
-        has_no_meaning(&rt, alloc, text.as_str())?;
-    }
-    Ok(())
+    let (before, after) = (r#"{"types":[{"id":"#, r#","type":{"def":{"tuple":[]}}}]}"#);
+    have_no_meaning(&rt, rt.alloc(), before, NO_IDS, after)
 }
 
 #[test]
 fn other_trees_are_no_definitions(rt: HostRuntime) -> Result<(), Fail> {
-    let alloc = rt.alloc();
-    for definition in NO_DEFINITIONS.lines() {
-        let text = format!(in alloc; r#"{{"types":[{{"id":0,"type":{{"def":{definition}}}}}]}}"#)?;
-        has_no_meaning(&rt, alloc, text.as_str())?;
-    }
-    Ok(())
+    let (before, after) = (r#"{"types":[{"id":0,"type":{"def":"#, "}}]}");
+    have_no_meaning(&rt, rt.alloc(), before, NO_DEFINITIONS, after)
 }
 
 #[test]
 fn other_members_are_none_of_a_description(rt: HostRuntime) -> Result<(), Fail> {
-    let alloc = rt.alloc();
-    for member in NO_MEMBERS.lines() {
-        let text = format!(in alloc;
-            r#"{{"types":[{{"id":0,"type":{{"def":{{"tuple":[]}},{member}}}}}]}}"#
-        )?;
-        has_no_meaning(&rt, alloc, text.as_str())?;
-    }
-    Ok(())
+    let (before, after) = (r#"{"types":[{"id":0,"type":{"def":{"tuple":[]},"#, "}}]}");
+    have_no_meaning(&rt, rt.alloc(), before, NO_MEMBERS, after)
 }

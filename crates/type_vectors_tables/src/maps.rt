@@ -1,13 +1,10 @@
-//! Maps as values: their parts, copies, order, and their ids in a builder.
+//! Maps as values: their parts, copies and order.
 use crate::asserts::is;
 use scale_info::form::PortableForm;
-use scale_info::{
-    PortableRegistryBuilder, TryClone, Type, TypeDef, TypeDefBitSequence, TypeDefMap,
-};
-use std::alloc::{AllocError, Global};
+use scale_info::{TryClone, TypeDef, TypeDefBitSequence, TypeDefMap};
 use std::process::Abort;
 use std::test::Fail;
-use type_vectors_common::parts::{description, id};
+use type_vectors_common::parts::id;
 
 /// The numbers of a map's types.
 fn parts(map: &TypeDefMap<PortableForm>) -> (u32, u32) {
@@ -20,6 +17,11 @@ fn a_map_returns_its_key_and_its_value(rt: HostRuntime) -> Result<(), Fail> {
     is(&rt, "map", parts(&map), (1, 2));
     is(&rt, "copy", parts(&map.try_clone(rt.alloc())?), (1, 2));
     Ok(())
+}
+
+/// The map of these types.
+fn map(key: u32, value: u32) -> TypeDef<PortableForm> {
+    TypeDef::from(TypeDefMap::new(id(key), id(value)))
 }
 
 /// The definition with this number in ascending order.
@@ -51,35 +53,5 @@ fn maps_are_ordered_after_the_other_definitions(rt: HostRuntime) -> Result<(), F
         ascending.push(definition(number))?;
     }
     ascends(&rt, &ascending);
-    Ok(())
-}
-
-/// The map of these types.
-fn map(key: u32, value: u32) -> TypeDef<PortableForm> {
-    TypeDef::from(TypeDefMap::new(id(key), id(value)))
-}
-
-/// The description of the map of these types.
-fn described(alloc: Global, key: u32, value: u32) -> Result<Type<PortableForm>, AllocError> {
-    description(alloc, &[], &[], map(key, value), &[])
-}
-
-/// The id of the map of these types, which is registered if it is new.
-fn registered(
-    alloc: Global,
-    builder: &mut PortableRegistryBuilder,
-    key: u32,
-    value: u32,
-) -> Result<u32, Fail> {
-    Ok(builder.register_type(described(alloc, key, value)?)?)
-}
-
-#[test]
-fn a_map_is_registered_once(rt: HostRuntime) -> Result<(), Fail> {
-    let mut builder = PortableRegistryBuilder::new(rt.alloc());
-    for (key, value, wanted) in [(1, 2, 0), (2, 1, 1), (1, 2, 0)] {
-        let given = registered(rt.alloc(), &mut builder, key, value)?;
-        is(&rt, "map", (key, value, given), (key, value, wanted));
-    }
     Ok(())
 }

@@ -1,12 +1,12 @@
 //! Passes: each instance under each visitor, and tables through `skip` as through `decode`.
-use crate::asserts::is;
+use crate::asserts::{holds, is};
 use scale_info::form::PortableForm;
 use scale_info::impls::Compact;
 use scale_info::{
     DecodeError, Field, Items, Path, PortableRegistry, PortableType, Text, Type, TypeDef,
     TypeDefPrimitive, TypeId, TypeParameter, UntrackedSymbol, Variant,
 };
-use scale_info_passes::entries::{index_entries, renumber_entries};
+use scale_info_passes::entries::{EntryIndex, index_entries, renumber_entries};
 use scale_info_passes::pass::Pass;
 use scale_info_passes::visitors::{gather, renumber, skip};
 use std::alloc::Global;
@@ -100,32 +100,48 @@ fn three_groups(groups: &str) -> Option<(&str, &str, &str)> {
     Some((first, second, third))
 }
 
-/// A row of values: its name, the encoding, the references, and the renumbered encoding.
-fn value_row(line: &str) -> Option<(&str, &str, &str, &str)> {
+/// A row of values: its type, its name, the encoding, the references, and the renumbered encoding.
+type ValueRow<'a> = (&'a str, &'a str, &'a str, &'a str, &'a str);
+
+/// The row of a line, if it has all parts.
+fn value_row(line: &str) -> Option<ValueRow<'_>> {
     let (name, groups) = line.split_once(':')?;
+    let (kind, _) = name.split_once(';')?;
     let (encoding, ids, renumbered) = three_groups(groups)?;
-    Some((name, encoding, ids, renumbered))
+    Some((kind, name, encoding, ids, renumbered))
+}
+
+/// The row of a line.
+fn read_row(line: &str) -> Result<ValueRow<'_>, Fail> {
+    match value_row(line) {
+        Some(row) => Ok(row),
+        None => Err(Fail::new("a row is cut")),
+    }
+}
+
+/// The bytes of digits, and another byte.
+fn followed(alloc: Global, digits: &str) -> Result<Vec<u8>, Fail> {
+    let mut bytes = row_bytes(alloc, digits)?;
+    bytes.push(0xff)?;
+    Ok(bytes)
+}
+
+/// The references of a row.
+fn references(alloc: Global, digits: &str) -> Result<Vec<u32>, Fail> {
+    let mut ids = Vec::new(alloc);
+    for id in &row_bytes(alloc, digits)? {
+        ids.push(*id as u32)?;
+    }
+    Ok(ids)
 }
 
 /// Asserts what the visitors make of the encoding of a row, followed by another byte.
 fn is_visited(rt: &impl Abort, alloc: Global, line: &str) -> Result<(), Fail> {
-    let Some((name, encoding, ids, renumbered)) = value_row(line) else {
-        return Err(Fail::new("a row is cut"));
-    };
-    let mut input = row_bytes(alloc, encoding)?;
-    input.push(0xff)?;
-    let mut wanted = Vec::new(alloc);
-    for id in &row_bytes(alloc, ids)? {
-        wanted.push(*id as u32)?;
-    }
-    let (kind, _) = name.split_once(';').unwrap_or((name, ""));
-    let visited = visits_of(alloc, kind, &input)?;
-    is(
-        rt,
-        name,
-        visited,
-        Some((1, wanted, row_bytes(alloc, renumbered)?)),
-    );
+    let (kind, name, encoding, ids, renumbered) = read_row(line)?;
+    let visited = visits_of(alloc, kind, &followed(alloc, encoding)?)?;
+    let ids = references(alloc, ids)?;
+    let wanted = Some((1, ids, row_bytes(alloc, renumbered)?));
+    is(rt, name, visited, wanted);
     Ok(())
 }
 
@@ -139,10 +155,7 @@ fn values_are_skipped_gathered_and_renumbered(rt: HostRuntime) -> Result<(), Fai
 
 /// Asserts that no proper prefix of the encoding of a row is visited as a value.
 fn prefixes_are_refused(rt: &impl Abort, alloc: Global, line: &str) -> Result<(), Fail> {
-    let Some((name, encoding, _, _)) = value_row(line) else {
-        return Err(Fail::new("a row is cut"));
-    };
-    let (kind, _) = name.split_once(';').unwrap_or((name, ""));
+    let (kind, name, encoding, _, _) = read_row(line)?;
     let input = row_bytes(alloc, encoding)?;
     for end in 0..input.len() {
         is(rt, name, visits_of(alloc, kind, &input[..end])?, None);
@@ -174,25 +187,37 @@ fn agrees(rt: &impl Abort, alloc: Global, name: &str, input: &[u8]) -> Result<()
     Ok(())
 }
 
-#[test]
-fn tables_are_skipped_as_they_are_decoded(rt: HostRuntime) -> Result<(), Fail> {
-    for row in rows(rt.alloc(), TABLES)? {
-        agrees(&rt, rt.alloc(), row.name, &row.bytes)?;
-    }
-    for row in rows(rt.alloc(), MALFORMED)? {
-        agrees(&rt, rt.alloc(), row.name, &row.bytes)?;
+/// Asserts so of the rows of a text.
+fn rows_agree(rt: &impl Abort, alloc: Global, text: &str) -> Result<(), Fail> {
+    let inputs = rows(alloc, text)?;
+    for row in &inputs {
+        agrees(rt, alloc, row.name, &row.bytes)?;
     }
     Ok(())
 }
 
+#[test]
+fn tables_are_skipped_as_they_are_decoded(rt: HostRuntime) -> Result<(), Fail> {
+    rows_agree(&rt, rt.alloc(), TABLES)?;
+    rows_agree(&rt, rt.alloc(), MALFORMED)
+}
+
 /// The bytes with another byte at this index.
 fn changed(alloc: Global, table: &[u8], index: usize, byte: u8) -> Result<Vec<u8>, Fail> {
-    let mut copy = Vec::new(alloc);
-    copy.extend_from_slice(table)?;
-    if let Some(old) = copy.get_mut(index) {
-        *old = byte;
+    let mut copy = Vec::from_slice(alloc, table)?;
+    if index < copy.len() {
+        copy[index] = byte;
     }
     Ok(copy)
+}
+
+/// Asserts that each change of the byte at an index is skipped as it is decoded.
+fn changes_agree(rt: &impl Abort, alloc: Global, table: &[u8], index: usize) -> Result<(), Fail> {
+    for byte in 0..=255 {
+        let input = changed(alloc, table, index, byte)?;
+        agrees(rt, alloc, "a change", &input)?;
+    }
+    Ok(())
 }
 
 #[test]
@@ -201,10 +226,7 @@ fn each_change_of_a_byte_is_skipped_as_it_is_decoded(rt: HostRuntime) -> Result<
     is(&rt, "bytes", table.len(), 312);
     is(&rt, "rest", decoded_rest(rt.alloc(), &table)?, Some(0));
     for index in 0..table.len() {
-        for byte in 0..=255 {
-            let input = changed(rt.alloc(), &table, index, byte)?;
-            agrees(&rt, rt.alloc(), "a change", &input)?;
-        }
+        changes_agree(&rt, rt.alloc(), &table, index)?;
     }
     Ok(())
 }
@@ -217,6 +239,19 @@ const ENTRIES: &str = "\
 const KEPT: &str = "\
     000000040c04081000 040000050500 08000003200000000c00 0c0000050300 100000050000";
 
+/// Asserts that an index has these parts.
+fn is_index(
+    rt: &impl Abort,
+    index: &EntryIndex,
+    offsets: &[usize],
+    starts: &[usize],
+    references: &[u32],
+) {
+    is(rt, "offsets", index.offsets.as_slice(), offsets);
+    is(rt, "starts", index.starts.as_slice(), starts);
+    is(rt, "references", index.references.as_slice(), references);
+}
+
 #[test]
 fn entries_are_indexed(rt: HostRuntime) -> Result<(), Fail> {
     let input = row_bytes(rt.alloc(), ENTRIES)?;
@@ -224,17 +259,11 @@ fn entries_are_indexed(rt: HostRuntime) -> Result<(), Fail> {
         return Err(Fail::new("no entries"));
     };
     is(&rt, "rest", rest.len(), 0);
-    is(
+    is_index(
         &rt,
-        "offsets",
-        index.offsets.as_slice(),
+        &index,
         &[1, 7, 16, 22, 32, 38],
-    );
-    is(&rt, "starts", index.starts.as_slice(), &[0, 0, 3, 3, 4, 4]);
-    is(
-        &rt,
-        "references",
-        index.references.as_slice(),
+        &[0, 0, 3, 3, 4, 4],
         &[2, 3, 0, 4],
     );
     Ok(())
@@ -243,12 +272,8 @@ fn entries_are_indexed(rt: HostRuntime) -> Result<(), Fail> {
 #[test]
 fn further_entries_are_missed(rt: HostRuntime) -> Result<(), Fail> {
     let input = row_bytes(rt.alloc(), ENTRIES)?;
-    is(
-        &rt,
-        "seven",
-        index_entries(rt.alloc(), 7, &input)?.is_none(),
-        true,
-    );
+    let found = index_entries(rt.alloc(), 7, &input)?;
+    holds(&rt, "seven", found.is_none());
     Ok(())
 }
 

@@ -1,14 +1,15 @@
 //! Tables: what an id resolves to, and tables that are built at run time.
-use crate::asserts::{holds, is};
+use crate::asserts::{holds, is, same};
 use scale_info::form::PortableForm;
 use scale_info::{
-    PortableRegistry, PortableRegistryBuilder, PortableType, Type, TypeDef, TypeDefComposite,
+    PortableRegistry, PortableRegistryBuilder, Type, TypeDef, TypeDefComposite, TypeDefMap,
     TypeDefPrimitive,
 };
 use std::alloc::Global;
 use std::process::Abort;
 use std::test::Fail;
-use type_vectors_common::parts::{sequence, unnamed_fields};
+use type_vectors_common::chains::chain;
+use type_vectors_common::parts::{id, sequence, unnamed_fields};
 use type_vectors_common::rows::{TABLES, decoded, rows};
 
 /// Whether the first id past the end of a table and the greatest id resolve to none.
@@ -43,21 +44,29 @@ fn composite(alloc: Global, types: &[u32]) -> Result<TypeDef<PortableForm>, Fail
     Ok(TypeDef::from(TypeDefComposite::from(unnamed_fields(alloc, types)?)))
 }
 
-/// Definitions of a table of three: `u32`, a sequence of it, and a struct of all three.
+/// The map of these types.
+fn map(key: u32, value: u32) -> TypeDef<PortableForm> {
+    TypeDef::from(TypeDefMap::new(id(key), id(value)))
+}
+
+/// Definitions of a table of five: `u32`, a sequence of it, a struct of both and of itself, and two
+/// maps.
 fn definition(alloc: Global, id: u32) -> Result<TypeDef<PortableForm>, Fail> {
     match id {
         0 => Ok(TypeDef::from(TypeDefPrimitive::U32)),
         1 => Ok(sequence(0)),
-        _ => composite(alloc, &[0, 1, 2]),
+        2 => composite(alloc, &[0, 1, 2]),
+        3 => Ok(map(1, 2)),
+        _ => Ok(map(2, 1)),
     }
 }
 
-/// The description with this id in the table of three.
+/// The description with this id in the table of five.
 fn worked(alloc: Global, id: u32) -> Result<Type<PortableForm>, Fail> {
     Ok(Type::from_def(alloc, definition(alloc, id)?))
 }
 
-/// The id that registering a description of the table of three gives, and the next one.
+/// The id that registering a description of the table of five gives, and the next one.
 fn ids_after(
     alloc: Global,
     builder: &mut PortableRegistryBuilder,
@@ -67,29 +76,41 @@ fn ids_after(
     Ok((found, builder.next_type_id()))
 }
 
+/// Descriptions of the table of five in the order of their registration, with the next id after it.
+const REGISTERED: [(u32, u32); 8] = [
+    (0, 1),
+    (1, 2),
+    (2, 3),
+    (0, 3),
+    (2, 3),
+    (3, 4),
+    (4, 5),
+    (3, 5),
+];
+
 #[test]
 fn equal_descriptions_share_an_id(rt: HostRuntime) -> Result<(), Fail> {
     let mut builder = PortableRegistryBuilder::new(rt.alloc());
-    for (id, next) in [(0, 1), (1, 2), (2, 3), (0, 3), (2, 3)] {
+    for (id, next) in REGISTERED {
         let ids = ids_after(rt.alloc(), &mut builder, id)?;
         is(&rt, "id", ids, (id, next));
     }
     Ok(())
 }
 
-/// The builder of the table of three.
+/// The builder of the table of five.
 fn built(alloc: Global) -> Result<PortableRegistryBuilder, Fail> {
     let mut builder = PortableRegistryBuilder::new(alloc);
-    for id in 0..3 {
+    for id in 0..5 {
         builder.register_type(worked(alloc, id)?)?;
     }
     Ok(builder)
 }
 
-/// Whether this is the description with this id in the table of three; None is the one of id 3.
+/// Whether this is the description with this id in the table of five; None is the one of id 5.
 fn is_worked(alloc: Global, id: u32, found: Option<&Type<PortableForm>>) -> Result<bool, Fail> {
     match found {
-        None => Ok(id == 3),
+        None => Ok(id == 5),
         Some(found) => Ok(*found == worked(alloc, id)?),
     }
 }
@@ -97,7 +118,7 @@ fn is_worked(alloc: Global, id: u32, found: Option<&Type<PortableForm>>) -> Resu
 #[test]
 fn a_builder_returns_what_was_registered(rt: HostRuntime) -> Result<(), Fail> {
     let builder = built(rt.alloc())?;
-    for id in 0..4 {
+    for id in 0..6 {
         is(
             &rt,
             "id",
@@ -113,9 +134,9 @@ fn finished(alloc: Global, builder: PortableRegistryBuilder) -> Result<PortableR
     Ok(builder.finish(alloc)?)
 }
 
-/// Asserts that a table resolves the ids of the table of three as it does, and the id 3 to none.
+/// Asserts that a table resolves the ids of the table of five as it does, and the id 5 to none.
 fn has_worked(rt: &impl Abort, alloc: Global, table: &PortableRegistry) -> Result<(), Fail> {
-    for id in 0..4 {
+    for id in 0..6 {
         let is_found = is_worked(alloc, id, table.resolve(id))?;
         is(rt, "id", (id, is_found), (id, true));
     }
@@ -128,53 +149,34 @@ fn a_finished_table_has_what_was_registered(rt: HostRuntime) -> Result<(), Fail>
     has_worked(&rt, rt.alloc(), &table)
 }
 
-/// Asserts that the ids of entries are 0, 1, 2 and so on, and returns how many there are.
-fn count_in_order(rt: &impl Abort, entries: &[PortableType]) -> u32 {
-    let mut next = 0;
-    for entry in entries {
-        is(rt, "id", entry.id(), next);
-        next = entry.id().saturating_add(1);
-    }
-    next
-}
-
-#[test]
-fn ids_of_a_finished_table_are_its_indices(rt: HostRuntime) -> Result<(), Fail> {
-    let table = finished(rt.alloc(), built(rt.alloc())?)?;
-    is(&rt, "entries", count_in_order(&rt, table.types()), 3);
-    Ok(())
-}
-
-/// The table of a sequence of id 5 alone.
-fn with_reference_outside(alloc: Global) -> Result<PortableRegistry, Fail> {
-    let mut builder = PortableRegistryBuilder::new(alloc);
-    let _ = registered(alloc, &mut builder, 5)?;
-    finished(alloc, builder)
-}
-
-#[test]
-fn a_reference_may_lie_outside_the_built_table(rt: HostRuntime) -> Result<(), Fail> {
-    let table = with_reference_outside(rt.alloc())?;
-    let found = table.resolve(0).map(|described| described.type_def());
-    holds(&rt, "sequence", found == Some(&sequence(5)));
-    Ok(())
-}
-
 /// The id of a sequence of this type, which is registered if it is new.
 fn registered(alloc: Global, builder: &mut PortableRegistryBuilder, ty: u32) -> Result<u32, Fail> {
     Ok(builder.register_type(Type::from_def(alloc, sequence(ty)))?)
 }
 
-/// The test's limit of 60 seconds alone bounds the time, which one comparison with each earlier
-/// description at each call would not keep.
+/// Asserts that sequences, each of the next, get the ids from 0 up.
+fn registers_a_chain(
+    rt: &impl Abort,
+    alloc: Global,
+    builder: &mut PortableRegistryBuilder,
+    count: u32,
+) -> Result<(), Fail> {
+    for id in 0..count {
+        let found = registered(alloc, builder, id.saturating_add(1))?;
+        is(rt, "id", found, id);
+    }
+    Ok(())
+}
+
+/// The last of them refers past the end of the table. The test's limit of 60 seconds alone bounds
+/// the time, which one comparison with each earlier description at each call would not keep.
 #[test]
 fn a_hundred_thousand_descriptions_are_registered_twice(rt: HostRuntime) -> Result<(), Fail> {
     let mut builder = PortableRegistryBuilder::new(rt.alloc());
-    for _ in 0..2 {
-        for id in 0..100000 {
-            is(&rt, "id", registered(rt.alloc(), &mut builder, id)?, id);
-        }
-    }
+    registers_a_chain(&rt, rt.alloc(), &mut builder, 100000)?;
+    registers_a_chain(&rt, rt.alloc(), &mut builder, 100000)?;
     is(&rt, "next id", builder.next_type_id(), 100000);
+    let wanted = chain(rt.alloc(), 100000, sequence(100000))?;
+    same(&rt, "chain", &finished(rt.alloc(), builder)?, &wanted);
     Ok(())
 }
