@@ -1,10 +1,12 @@
 //! Fields and tuples, with types that are left out and types that only look like them.
-use crate::asserts::{holds, is};
+use crate::asserts::holds;
+use crate::parts::{list_of, with};
 use crate::phantom::{Nothing, Phantom};
 use scale_info::build::{Fields, FieldsBuilder, NamedFields, UnnamedFields};
 use scale_info::form::{Form, MetaForm};
 use scale_info::impls::meta_type;
-use scale_info::{Field, MetaType, TypeDef, TypeDefComposite, TypeDefTuple, tuple_meta_type};
+use scale_info::meta_type::HasIdentity;
+use scale_info::{Field, MetaType, TypeDef, TypeDefComposite, TypeDefTuple};
 use std::alloc::{AllocError, Global};
 use std::test::Fail;
 
@@ -20,20 +22,33 @@ const CASES: [Case; 5] = [
     ("Phantom<Phantom<()>>", false),
 ];
 
+/// Fields with names in the making.
+type Named = FieldsBuilder<MetaForm, NamedFields>;
+
+/// The field `a` of `u8`.
+fn first_field(alloc: Global) -> Result<Named, AllocError> {
+    Fields::named::<MetaForm>(alloc).field(alloc, |f| f.name("a").ty::<u8>(alloc))
+}
+
+/// The fields, and after them `m` of this type; the builder gets the name before the type.
+fn with_named<T: HasIdentity>(alloc: Global, fields: Named) -> Result<Named, AllocError> {
+    fields.field(alloc, |f| f.name("m").ty::<T>(alloc))
+}
+
+/// The fields, and after them `m` of this type; the builder gets the type before the name.
+fn with_typed<T: HasIdentity>(alloc: Global, fields: Named) -> Result<Named, AllocError> {
+    fields.field(alloc, |f| Ok(f.ty::<T>(alloc)?.name("m")))
+}
+
 /// A struct with the field `a` of `u8`, and then the field `m` of the case.
-fn named(alloc: Global, case: &str) -> Result<FieldsBuilder<MetaForm, NamedFields>, AllocError> {
-    let fields = Fields::named::<MetaForm>(alloc).field(alloc, |f| f.name("a").ty::<u8>(alloc))?;
+fn named(alloc: Global, case: &str) -> Result<Named, AllocError> {
+    let fields = first_field(alloc)?;
     match case {
-        "u32" => fields.field(alloc, |f| f.name("m").ty::<u32>(alloc)),
-        "Phantom<u8>" => fields.field(alloc, |f| Ok(f.ty::<Phantom<u8>>(alloc)?.name("m"))),
-        "Box<Phantom<()>>" => {
-            fields.field(alloc, |f| f.name("m").ty::<Box<Phantom<Nothing>>>(alloc))
-        }
-        "Box<Phantom<u8>>" => fields.field(alloc, |f| f.name("m").ty::<Box<Phantom<u8>>>(alloc)),
-        _ => fields.field(
-            alloc,
-            |f| f.name("m").ty::<Phantom<Phantom<Nothing>>>(alloc),
-        ),
+        "u32" => with_named::<u32>(alloc, fields),
+        "Phantom<u8>" => with_typed::<Phantom<u8>>(alloc, fields),
+        "Box<Phantom<()>>" => with_named::<Box<Phantom<Nothing>>>(alloc, fields),
+        "Box<Phantom<u8>>" => with_named::<Box<Phantom<u8>>>(alloc, fields),
+        _ => with_named::<Phantom<Phantom<Nothing>>>(alloc, fields),
     }
 }
 
@@ -48,40 +63,73 @@ fn second(alloc: Global, case: &str) -> Result<MetaType, AllocError> {
     }
 }
 
+/// The field `a` of `u8`, by its constructor.
+fn wanted_first(alloc: Global) -> Result<Field, AllocError> {
+    Ok(Field::new(Some("a"), meta_type::<u8>(alloc)?, None, Vec::new(alloc)))
+}
+
+/// The field `m` of the case, by its constructor.
+fn wanted_second(alloc: Global, case: &str) -> Result<Field, AllocError> {
+    Ok(Field::new(Some("m"), second(alloc, case)?, None, Vec::new(alloc)))
+}
+
 /// The fields that the case is to have.
-fn wanted(alloc: Global, case: Case) -> Result<TypeDefComposite, AllocError> {
-    let first = Field::new(Some("a"), meta_type::<u8>(alloc)?, None, Vec::new(alloc));
-    let mut fields = vec![in alloc; first]?;
+fn wanted(alloc: Global, case: Case) -> Result<Vec<Field>, AllocError> {
+    let fields = list_of(alloc, wanted_first(alloc)?);
     if case.1 {
-        fields.push(Field::new(Some("m"), second(alloc, case.0)?, None, Vec::new(alloc)))?;
+        with(fields, wanted_second(alloc, case.0))
+    } else {
+        fields
     }
-    Ok(TypeDefComposite::from(fields))
+}
+
+/// Whether these are the fields that the case is to have.
+fn are_wanted(alloc: Global, case: Case, fields: &TypeDefComposite) -> Result<bool, AllocError> {
+    Ok(*fields == TypeDefComposite::from(wanted(alloc, case)?))
+}
+
+/// Whether the fields of the case are built as they are wanted.
+fn is_built(alloc: Global, case: Case) -> Result<bool, AllocError> {
+    let built = TypeDefComposite::from(named(alloc, case.0)?);
+    are_wanted(alloc, case, &built)
 }
 
 #[test]
 fn fields_without_phantoms(rt: HostRuntime) -> Result<(), Fail> {
-    let alloc = rt.alloc();
     for case in &CASES {
-        let built = TypeDefComposite::from(named(alloc, case.0)?);
-        holds(&rt, case.0, built == wanted(alloc, *case)?);
+        holds(&rt, case.0, is_built(rt.alloc(), *case)?);
     }
     Ok(())
 }
 
-/// A tuple struct of `u8` and of a type, the second with a name of its type.
-fn unnamed(alloc: Global) -> Result<FieldsBuilder<MetaForm, UnnamedFields>, AllocError> {
-    Fields::unnamed::<MetaForm>(alloc)
-        .field(alloc, |f| f.ty::<u8>(alloc))?
-        .field(alloc, |f| f.ty::<Phantom<u8>>(alloc))?
-        .field(alloc, |f| f.type_name("Vec<T>").ty::<Vec<u8>>(alloc))
+/// Fields without names in the making.
+type Unnamed = FieldsBuilder<MetaForm, UnnamedFields>;
+
+/// A tuple struct of `u8` and of a phantom.
+fn number_and_phantom(alloc: Global) -> Result<Unnamed, AllocError> {
+    let first = Fields::unnamed::<MetaForm>(alloc).field(alloc, |f| f.ty::<u8>(alloc))?;
+    first.field(alloc, |f| f.ty::<Phantom<u8>>(alloc))
+}
+
+/// The same with one more type, which has a name.
+fn unnamed(alloc: Global) -> Result<Unnamed, AllocError> {
+    let fields = number_and_phantom(alloc)?;
+    fields.field(alloc, |f| f.type_name("Vec<T>").ty::<Vec<u8>>(alloc))
+}
+
+/// A field without a name, by its constructor.
+fn wanted_field_of<T: HasIdentity>(
+    alloc: Global,
+    type_name: Option<&'static str>,
+) -> Result<Field, AllocError> {
+    Ok(Field::new(None, meta_type::<T>(alloc)?, type_name, Vec::new(alloc)))
 }
 
 /// The same fields by constructors, without the phantom.
 fn wanted_unnamed(alloc: Global) -> Result<TypeDefComposite, AllocError> {
-    let first = Field::new(None, meta_type::<u8>(alloc)?, None, Vec::new(alloc));
-    let list = meta_type::<Vec<u8>>(alloc)?;
-    let second = Field::new(None, list, Some("Vec<T>"), Vec::new(alloc));
-    Ok(TypeDefComposite::from(vec![in alloc; first, second]?))
+    let first = list_of(alloc, wanted_field_of::<u8>(alloc, None)?);
+    let both = with(first, wanted_field_of::<Vec<u8>>(alloc, Some("Vec<T>")));
+    Ok(TypeDefComposite::from(both?))
 }
 
 #[test]
@@ -111,62 +159,52 @@ fn one_field_by_its_builder(rt: HostRuntime) -> Result<(), Fail> {
     Ok(())
 }
 
-/// The members of a tuple.
-fn members<F: Form>(definition: &TypeDef<F>) -> &[F::Ty] {
-    match definition {
-        TypeDef::Tuple(tuple) => tuple.fields(),
-        _ => &[],
+/// The tuple of the second type of the case and of `u64`.
+fn tuple(alloc: Global, case: &str) -> Result<TypeDef, AllocError> {
+    let first = list_of(alloc, second(alloc, case)?);
+    TypeDefTuple::new(alloc, with(first, meta_type::<u64>(alloc))?)
+}
+
+/// The members that the tuple of the case is to have.
+fn wanted_members(alloc: Global, case: Case) -> Result<Vec<MetaType>, AllocError> {
+    let last = meta_type::<u64>(alloc)?;
+    if case.1 {
+        with(list_of(alloc, second(alloc, case.0)?), Ok(last))
+    } else {
+        list_of(alloc, last)
     }
 }
 
-/// The tuple of the second type of the case and of `u64`.
-fn tuple(alloc: Global, case: &str) -> Result<TypeDef, AllocError> {
-    let mut given = Vec::new(alloc);
-    given.push(second(alloc, case)?)?;
-    given.push(meta_type::<u64>(alloc)?)?;
-    TypeDefTuple::new(alloc, given)
+/// Whether a definition is the tuple of these members.
+fn is_tuple_of<F: Form>(definition: &TypeDef<F>, members: &[F::Ty]) -> bool {
+    match definition {
+        TypeDef::Tuple(tuple) => tuple.fields() == members,
+        _ => false,
+    }
+}
+
+/// Whether a definition is the tuple that the case is to have.
+fn is_wanted(alloc: Global, case: Case, tuple: &TypeDef) -> Result<bool, AllocError> {
+    Ok(is_tuple_of(tuple, &wanted_members(alloc, case)?))
+}
+
+/// Whether the tuple of the case has the members that are wanted.
+fn has_members(alloc: Global, case: Case) -> Result<bool, AllocError> {
+    let tuple = tuple(alloc, case.0)?;
+    is_wanted(alloc, case, &tuple)
 }
 
 #[test]
 fn tuples_without_phantoms(rt: HostRuntime) -> Result<(), Fail> {
-    let alloc = rt.alloc();
     for case in &CASES {
-        let tuple = tuple(alloc, case.0)?;
-        let count = if case.1 { 2 } else { 1 };
-        is(&rt, case.0, members(&tuple).len(), count);
+        holds(&rt, case.0, has_members(rt.alloc(), *case)?);
     }
     Ok(())
 }
 
-#[test]
-fn the_last_member_of_a_tuple_stays(rt: HostRuntime) -> Result<(), Fail> {
-    let alloc = rt.alloc();
-    let last = meta_type::<u64>(alloc)?;
-    for case in &CASES {
-        let tuple = tuple(alloc, case.0)?;
-        holds(&rt, case.0, members(&tuple).last() == Some(&last));
-    }
-    Ok(())
-}
-
-/// The tuple of these members.
-fn tuple_of(alloc: Global, given: Vec<MetaType>) -> Result<TypeDef, AllocError> {
-    TypeDefTuple::new(alloc, given)
-}
-
-/// The list of `Phantom<u8>` alone.
-fn a_phantom(alloc: Global) -> Result<Vec<MetaType>, AllocError> {
-    tuple_meta_type!(alloc; Phantom<u8>)
-}
-
-/// The tuple of `Phantom<u8>` alone.
-fn tuple_of_a_phantom(alloc: Global) -> Result<TypeDef, AllocError> {
-    tuple_of(alloc, a_phantom(alloc)?)
-}
-
-/// The tuple of `u8` alone.
-fn tuple_of_a_number(alloc: Global) -> Result<TypeDef, AllocError> {
-    tuple_of(alloc, tuple_meta_type!(alloc; u8)?)
+/// The tuple of this type alone.
+fn single<T: HasIdentity>(alloc: Global) -> Result<TypeDef, AllocError> {
+    TypeDefTuple::new(alloc, list_of(alloc, meta_type::<T>(alloc)?)?)
 }
 
 /// The tuple of nothing.
@@ -176,14 +214,14 @@ fn nothing(alloc: Global) -> TypeDef {
 
 #[test]
 fn a_tuple_of_a_phantom_is_that_of_nothing(rt: HostRuntime) -> Result<(), Fail> {
-    let phantoms = tuple_of_a_phantom(rt.alloc())?;
+    let phantoms = single::<Phantom<u8>>(rt.alloc())?;
     holds(&rt, "a phantom alone", phantoms == nothing(rt.alloc()));
     Ok(())
 }
 
 #[test]
 fn a_tuple_of_a_number_is_another(rt: HostRuntime) -> Result<(), Fail> {
-    let other = tuple_of_a_number(rt.alloc())?;
+    let other = single::<u8>(rt.alloc())?;
     holds(&rt, "a member", other != nothing(rt.alloc()));
     Ok(())
 }

@@ -1,17 +1,17 @@
 //! The macros that list types and parameters.
 use crate::asserts::holds;
+use crate::parts::{list_of, with};
 use scale_info::impls::meta_type;
+use scale_info::meta_type::HasIdentity;
 use scale_info::{MetaType, TypeParameter, named_type_params, tuple_meta_type, type_params};
 use std::alloc::{AllocError, Global};
 use std::test::Fail;
 
 /// Three types, by their own calls.
 fn types(alloc: Global) -> Result<Vec<MetaType>, AllocError> {
-    let mut types = Vec::new(alloc);
-    types.push(meta_type::<i32>(alloc)?)?;
-    types.push(meta_type::<[u8; 32]>(alloc)?)?;
-    types.push(meta_type::<String>(alloc)?)?;
-    Ok(types)
+    let first = list_of(alloc, meta_type::<i32>(alloc)?);
+    let two = with(first, meta_type::<[u8; 32]>(alloc));
+    with(two, meta_type::<String>(alloc))
 }
 
 #[test]
@@ -22,11 +22,18 @@ fn types_in_order(rt: HostRuntime) -> Result<(), Fail> {
     Ok(())
 }
 
+/// A parameter that is this type.
+fn parameter<T: HasIdentity>(
+    alloc: Global,
+    name: &'static str,
+) -> Result<TypeParameter, AllocError> {
+    Ok(TypeParameter::new(name, Some(meta_type::<T>(alloc)?)))
+}
+
 /// The parameters `T`, which is `u8`, and `U`, which is `u32`.
 fn parameters(alloc: Global) -> Result<Vec<TypeParameter>, AllocError> {
-    let first = TypeParameter::new("T", Some(meta_type::<u8>(alloc)?));
-    let second = TypeParameter::new("U", Some(meta_type::<u32>(alloc)?));
-    Ok(vec![in alloc; first, second]?)
+    let first = list_of(alloc, parameter::<u8>(alloc, "T")?);
+    with(first, parameter::<u32>(alloc, "U"))
 }
 
 #[test]
@@ -38,9 +45,7 @@ fn named_parameters_in_order(rt: HostRuntime) -> Result<(), Fail> {
 }
 
 /// The parameters of a type that is generic over `T` and `U`.
-fn listed<T: scale_info::meta_type::HasIdentity, U: scale_info::meta_type::HasIdentity>(
-    alloc: Global,
-) -> Result<Vec<TypeParameter>, AllocError> {
+fn listed<T: HasIdentity, U: HasIdentity>(alloc: Global) -> Result<Vec<TypeParameter>, AllocError> {
     type_params!(alloc; T, U)
 }
 

@@ -2,17 +2,18 @@
 ghost use Rattle.std.specs.Prelude.{codes};
 ghost use Rattle.scale_info_type_ids.specs.StandardTerms.{applied};
 
-use crate::asserts::holds;
-use scale_info::build::{Fields, FieldsBuilder, NamedFields};
+use crate::asserts::{holds, is};
+use crate::parts::{list_of, with};
+use scale_info::build::{Fields, FieldsBuilder, NamedFields, PathNotAssigned, TypeBuilder};
 use scale_info::form::MetaForm;
 use scale_info::impls::meta_type;
 use scale_info::meta_type::{HasIdentity, Identified};
 use scale_info::{
-    Field, MetaType, Path, PathError, Type, TypeDefComposite, TypeId, TypeParameter,
-    named_type_params,
+    Field, Items, Path, Type, TypeDef, TypeDefComposite, TypeId, TypeParameter, named_type_params,
 };
 use std::alloc::{AllocError, Global};
 use std::marker::PhantomData;
+use std::process::Abort;
 use std::test::Fail;
 
 /// A struct with the field `data` of type `T`.
@@ -31,25 +32,11 @@ impl<T: Identified> HasIdentity for MyStruct<T> {
     type Identity = MyStruct<T>;
 }
 
-/// The path of a type with this name in this module.
-///
-/// The texts are arguments, since a proof computes on texts that it can read.
-fn declared(
-    alloc: Global,
-    name: &'static str,
-    module_path: &'static str,
-) -> Result<Path, PathError> {
-    Path::new(alloc, name, module_path)
-}
-
-/// The same path; a refusal of it fails the test.
-pub fn path_of(alloc: Global, name: &'static str, module_path: &'static str) -> Result<Path, Fail> {
-    Ok(declared(alloc, name, module_path)?)
-}
-
 /// The path of the struct.
-fn path(alloc: Global) -> Result<Path, Fail> {
-    path_of(alloc, "MyStruct", "scale_info::tests")
+fn path(alloc: Global) -> Result<Path, AllocError> {
+    let modules = with(list_of(alloc, "scale_info"), Ok("tests"));
+    let segments = with(modules, Ok("MyStruct"))?;
+    Ok(Path::from(Items::from(segments)))
 }
 
 /// The struct's field, by its builder.
@@ -60,69 +47,71 @@ fn built_fields<T: HasIdentity>(
     fields.field(alloc, |f| f.name("data").type_name("T").ty::<T>(alloc))
 }
 
+/// The struct's parameter and its docs, by a builder.
+fn begun<T: HasIdentity>(
+    alloc: Global,
+) -> Result<TypeBuilder<MetaForm, PathNotAssigned>, AllocError> {
+    let params = named_type_params!(alloc; (T, T))?;
+    let builder = Type::builder(alloc).type_params(params);
+    builder.docs(alloc, &["a struct", ""])
+}
+
 /// The struct's description, by builders.
-fn built<T: HasIdentity>(alloc: Global) -> Result<Type, Fail> {
-    let builder = Type::builder(alloc)
-        .type_params(named_type_params!(alloc; (T, T))?)
-        .docs(alloc, &["a struct", ""])?;
-    let fields = built_fields::<T>(alloc)?;
-    Ok(builder.path(path(alloc)?).composite(fields))
+fn built<T: HasIdentity>(alloc: Global) -> Result<Type, AllocError> {
+    let path = path(alloc)?;
+    let builder = begun::<T>(alloc)?.path(path);
+    Ok(builder.composite(built_fields::<T>(alloc)?))
+}
+
+/// Whether a description has the struct's path.
+fn has_path(alloc: Global, ty: &Type) -> Result<bool, AllocError> {
+    Ok(ty.path == path(alloc)?)
+}
+
+/// The struct's parameter, by its constructor.
+fn parameter<T: HasIdentity>(alloc: Global) -> Result<Vec<TypeParameter>, AllocError> {
+    let ty = meta_type::<T>(alloc)?;
+    list_of(alloc, TypeParameter::new("T", Some(ty)))
+}
+
+/// Whether a description has the parameter that is this type.
+fn has_parameter<T: HasIdentity>(alloc: Global, ty: &Type) -> Result<bool, AllocError> {
+    Ok(ty.type_params == Items::from(parameter::<T>(alloc)?))
 }
 
 /// The struct's field, by its constructor.
-fn wanted_fields(alloc: Global, data: MetaType) -> Result<TypeDefComposite, AllocError> {
-    let field = Field::new(Some("data"), data, Some("T"), Vec::new(alloc));
-    Ok(TypeDefComposite::from(vec![in alloc; field]?))
+fn fields<T: HasIdentity>(alloc: Global) -> Result<TypeDef, AllocError> {
+    let ty = meta_type::<T>(alloc)?;
+    let field = Field::new(Some("data"), ty, Some("T"), Vec::new(alloc));
+    Ok(TypeDefComposite::from(list_of(alloc, field)?).into())
 }
 
-/// The struct's description where the parameter is this type, by constructors.
-fn wanted(alloc: Global, param: MetaType, data: MetaType) -> Result<Type, Fail> {
-    let ty = Type::from((
-        path(alloc)?,
-        vec![in alloc; TypeParameter::new("T", Some(param))]?,
-        wanted_fields(alloc, data)?.into(),
-        vec![in alloc; "a struct", ""]?,
-    ));
-    Ok(ty)
+/// Whether a description has the field of this type.
+fn has_field<T: HasIdentity>(alloc: Global, ty: &Type) -> Result<bool, AllocError> {
+    Ok(ty.type_def == fields::<T>(alloc)?)
 }
 
-/// The struct's description where the parameter is `P` and the field's type is `D`.
-fn wanted_of<P: HasIdentity, D: HasIdentity>(alloc: Global) -> Result<Type, Fail> {
-    wanted(alloc, meta_type::<P>(alloc)?, meta_type::<D>(alloc)?)
-}
-
-/// The description of the struct of itself, by builders.
-fn built_of_itself(alloc: Global) -> Result<Type, Fail> {
-    built::<Box<MyStruct<bool>>>(alloc)
-}
-
-/// The struct of `bool` as a type.
-fn inner(alloc: Global) -> Result<MetaType, AllocError> {
-    meta_type::<MyStruct<bool>>(alloc)
-}
-
-/// A box of the struct of `bool` as a type.
-fn boxed(alloc: Global) -> Result<MetaType, AllocError> {
-    meta_type::<Box<MyStruct<bool>>>(alloc)
-}
-
-/// The description of the struct of itself, by constructors.
-fn wanted_of_itself(alloc: Global) -> Result<Type, Fail> {
-    wanted(alloc, inner(alloc)?, boxed(alloc)?)
+/// Asserts that a description is the struct's with the parameter `P` and a field of type `D`.
+fn is_struct_of<P: HasIdentity, D: HasIdentity>(
+    rt: &impl Abort,
+    alloc: Global,
+    ty: &Type,
+) -> Result<(), Fail> {
+    holds(rt, "path", has_path(alloc, ty)?);
+    holds(rt, "parameter", has_parameter::<P>(alloc, ty)?);
+    holds(rt, "field", has_field::<D>(alloc, ty)?);
+    is(rt, "docs", ty.docs(), ["a struct", ""].as_slice());
+    Ok(())
 }
 
 #[test]
 fn a_struct_of_bool(rt: HostRuntime) -> Result<(), Fail> {
-    let alloc = rt.alloc();
-    let wanted = wanted_of::<bool, bool>(alloc)?;
-    holds(&rt, "of bool", built::<bool>(alloc)? == wanted);
-    Ok(())
+    let built = built::<bool>(rt.alloc())?;
+    is_struct_of::<bool, bool>(&rt, rt.alloc(), &built)
 }
 
 #[test]
 fn a_struct_of_itself(rt: HostRuntime) -> Result<(), Fail> {
-    let alloc = rt.alloc();
-    let wanted = wanted_of_itself(alloc)?;
-    holds(&rt, "of itself", built_of_itself(alloc)? == wanted);
-    Ok(())
+    let built = built::<Box<MyStruct<bool>>>(rt.alloc())?;
+    is_struct_of::<MyStruct<bool>, Box<MyStruct<bool>>>(&rt, rt.alloc(), &built)
 }

@@ -1,5 +1,6 @@
 //! A table whose last type, made by portable builders, refers to itself.
 use crate::asserts::{holds, is};
+use crate::parts::{list_of, with};
 use scale_info::build::{Fields, FieldsBuilder, NamedFields};
 use scale_info::form::PortableForm;
 use scale_info::{
@@ -7,6 +8,7 @@ use scale_info::{
     TypeDefComposite, TypeDefPrimitive, TypeDefSequence,
 };
 use std::alloc::{AllocError, Global};
+use std::process::Abort;
 use std::test::Fail;
 
 /// The names of the fields; the field at an index has the type with that id.
@@ -35,33 +37,62 @@ fn built(alloc: Global) -> Result<Built, AllocError> {
     Ok(fields)
 }
 
-/// The list of this segment alone.
-fn one_segment(alloc: Global, name: &str) -> Result<Vec<Text>, AllocError> {
-    let mut segments = Vec::new(alloc);
-    segments.push(Text::from_str(alloc, name)?)?;
-    Ok(segments)
-}
-
-/// The path of one segment.
-fn path_of_one(alloc: Global, name: &str) -> Result<Path<PortableForm>, AllocError> {
-    Ok(Path::from(Items::from(one_segment(alloc, name)?)))
-}
-
 /// The path of the struct.
 fn path(alloc: Global) -> Result<Path<PortableForm>, AllocError> {
-    path_of_one(alloc, "MyStruct")
+    let segments = list_of(alloc, Text::from_str(alloc, "MyStruct")?)?;
+    Ok(Path::from(Items::from(segments)))
+}
+
+/// A field with this name and type, by its constructor.
+fn field(alloc: Global, name: &str, id: u32) -> Result<Field<PortableForm>, AllocError> {
+    let name = Text::from_str(alloc, name)?;
+    Ok(Field::new(Some(name), id.into(), None, Vec::new(alloc)))
 }
 
 /// The fields of the struct, by constructors.
-fn fields(alloc: Global) -> Result<TypeDefComposite<PortableForm>, AllocError> {
-    let mut fields = Vec::new(alloc);
+fn fields(alloc: Global) -> Result<Vec<Field<PortableForm>>, AllocError> {
+    let mut fields = Ok(Vec::new(alloc));
     let mut id: u32 = 0;
     for name in &NAMES {
-        let name = Text::from_str(alloc, name)?;
-        fields.push(Field::new(Some(name), id.into(), None, Vec::new(alloc)))?;
+        fields = with(fields, field(alloc, name, id));
         id = id.saturating_add(1);
     }
-    Ok(TypeDefComposite::from(fields))
+    fields
+}
+
+/// The definition of the struct, by constructors.
+fn definition(alloc: Global) -> Result<TypeDef<PortableForm>, AllocError> {
+    Ok(TypeDef::Composite(TypeDefComposite::from(fields(alloc)?)))
+}
+
+/// The description of the struct, by builders.
+fn built_struct(alloc: Global) -> Result<Type<PortableForm>, AllocError> {
+    let path = path(alloc)?;
+    let fields = built(alloc)?;
+    Ok(Type::builder_portable(alloc).path(path).composite(fields))
+}
+
+/// Whether a description has the struct's path.
+fn has_path(alloc: Global, ty: &Type<PortableForm>) -> Result<bool, AllocError> {
+    Ok(ty.path == path(alloc)?)
+}
+
+/// Whether a description has the struct's fields, in order.
+fn has_fields(alloc: Global, ty: &Type<PortableForm>) -> Result<bool, AllocError> {
+    Ok(ty.type_def == definition(alloc)?)
+}
+
+/// Asserts that a description has the struct's path and its fields.
+fn is_struct(rt: &impl Abort, alloc: Global, ty: &Type<PortableForm>) -> Result<(), Fail> {
+    holds(rt, "path", has_path(alloc, ty)?);
+    holds(rt, "fields", has_fields(alloc, ty)?);
+    Ok(())
+}
+
+#[test]
+fn its_path_and_its_fields_are_as_they_are_given(rt: HostRuntime) -> Result<(), Fail> {
+    let built = built_struct(rt.alloc())?;
+    is_struct(&rt, rt.alloc(), &built)
 }
 
 /// The description at an id of the table.
@@ -69,11 +100,7 @@ fn described(alloc: Global, id: u32) -> Result<Type<PortableForm>, AllocError> {
     match id {
         0 => Ok(Type::from_def(alloc, TypeDefPrimitive::U32.into())),
         1 => Ok(Type::from_def(alloc, TypeDefSequence::new(0.into()).into())),
-        _ => Ok(
-            Type::builder_portable(alloc)
-                .path(path(alloc)?)
-                .composite(built(alloc)?),
-        ),
+        _ => built_struct(alloc),
     }
 }
 
@@ -85,65 +112,33 @@ fn register(alloc: Global, builder: &mut PortableRegistryBuilder, id: u32) -> Re
     Ok(builder.register_type(described(alloc, id)?)?)
 }
 
+/// Asserts that the types get their ids, in order.
+fn register_all(
+    rt: &impl Abort,
+    alloc: Global,
+    builder: &mut PortableRegistryBuilder,
+) -> Result<(), Fail> {
+    for (id, wanted) in &REGISTERED {
+        is(rt, "id", register(alloc, builder, *id)?, *wanted);
+    }
+    Ok(())
+}
+
+/// Asserts that each id of the table resolves to its type.
+fn has_types(rt: &impl Abort, alloc: Global, table: &PortableRegistry) -> Result<(), Fail> {
+    for id in 0..3 {
+        let wanted = described(alloc, id)?;
+        holds(rt, "resolve", table.resolve(id) == Some(&wanted));
+    }
+    Ok(())
+}
+
 #[test]
 fn a_struct_that_refers_to_itself(rt: HostRuntime) -> Result<(), Fail> {
     let alloc = rt.alloc();
     let mut builder = PortableRegistryBuilder::new(alloc);
-    for (id, wanted) in &REGISTERED {
-        let found = register(alloc, &mut builder, *id)?;
-        is(&rt, "id", found, *wanted);
-    }
-    is(&rt, "length", builder.finish(alloc)?.len(), 3);
-    Ok(())
-}
-
-/// The table of the registered types.
-fn table(alloc: Global) -> Result<PortableRegistry, Fail> {
-    let mut builder = PortableRegistryBuilder::new(alloc);
-    for (id, _) in &REGISTERED {
-        register(alloc, &mut builder, *id)?;
-    }
-    Ok(builder.finish(alloc)?)
-}
-
-#[test]
-fn its_table_has_the_types_by_id(rt: HostRuntime) -> Result<(), Fail> {
-    let alloc = rt.alloc();
-    let table = table(alloc)?;
-    for id in 0..3 {
-        let wanted = described(alloc, id)?;
-        holds(&rt, "resolve", table.resolve(id) == Some(&wanted));
-    }
-    Ok(())
-}
-
-/// Whether a description has this path.
-fn has_path(ty: &Type<PortableForm>, path: &Path<PortableForm>) -> bool {
-    ty.path == *path
-}
-
-#[test]
-fn its_path_is_its_name(rt: HostRuntime) -> Result<(), Fail> {
-    let alloc = rt.alloc();
-    let ty = described(alloc, 2)?;
-    holds(&rt, "path", has_path(&ty, &path(alloc)?));
-    Ok(())
-}
-
-/// The definition of the struct, by constructors.
-fn definition(alloc: Global) -> Result<TypeDef<PortableForm>, AllocError> {
-    Ok(TypeDef::Composite(fields(alloc)?))
-}
-
-/// Whether a description has this definition.
-fn is_defined_by(ty: &Type<PortableForm>, definition: &TypeDef<PortableForm>) -> bool {
-    ty.type_def == *definition
-}
-
-#[test]
-fn its_fields_in_order(rt: HostRuntime) -> Result<(), Fail> {
-    let alloc = rt.alloc();
-    let ty = described(alloc, 2)?;
-    holds(&rt, "fields", is_defined_by(&ty, &definition(alloc)?));
-    Ok(())
+    register_all(&rt, alloc, &mut builder)?;
+    let table = builder.finish(alloc)?;
+    is(&rt, "length", table.len(), 3);
+    has_types(&rt, alloc, &table)
 }

@@ -1,39 +1,46 @@
 //! Enums: variants out of the order of their indices, and with equal indices.
-use crate::asserts::holds;
-use crate::structs::path_of;
-use scale_info::build::{Fields, Variants};
+use crate::asserts::{holds, is};
+use crate::parts::{list_of, with};
+use scale_info::build::{Fields, FieldsBuilder, NamedFields, UnnamedFields, Variants};
 use scale_info::form::MetaForm;
 use scale_info::impls::meta_type;
-use scale_info::{Field, Type, TypeDefVariant, TypeInfo, Variant};
+use scale_info::meta_type::HasIdentity;
+use scale_info::{Field, Items, Path, Type, TypeDef, TypeDefVariant, Variant};
 use std::alloc::{AllocError, Global};
+use std::process::Abort;
 use std::test::Fail;
 
 /// The names of the variants with their indices: `A(bool)`, `B { b: u8 }`, `C(u16, u32)` and `D`.
 const VARIANTS: [(&str, u8); 4] = [("A", 3), ("B", 0), ("C", 2), ("D", 3)];
 
+/// Fields without names in the making.
+type Unnamed = FieldsBuilder<MetaForm, UnnamedFields>;
+
+/// One field of this type without a name.
+fn unnamed<T: HasIdentity>(alloc: Global) -> Result<Unnamed, AllocError> {
+    Fields::unnamed::<MetaForm>(alloc).field(alloc, |f| f.ty::<T>(alloc))
+}
+
+/// Two fields without names.
+fn two_unnamed(alloc: Global) -> Result<Unnamed, AllocError> {
+    unnamed::<u16>(alloc)?.field(alloc, |f| f.ty::<u32>(alloc))
+}
+
+/// The field `b` of `u8`.
+fn named(alloc: Global) -> Result<FieldsBuilder<MetaForm, NamedFields>, AllocError> {
+    Fields::named::<MetaForm>(alloc).field(alloc, |f| f.name("b").ty::<u8>(alloc))
+}
+
 /// The variants, and after them that of this name.
 fn with_variant(alloc: Global, variants: Variants, name: &str) -> Result<Variants, AllocError> {
     match name {
-        "A" => variants.variant(alloc, "A", |v| {
-            let fields = Fields::unnamed::<MetaForm>(alloc);
-            Ok(
-                v.index(3)
-                    .fields(fields.field(alloc, |f| f.ty::<bool>(alloc))?),
-            )
-        }),
-        "B" => variants.variant(alloc, "B", |v| {
-            let fields = Fields::named::<MetaForm>(alloc);
-            Ok(
-                v.fields(fields.field(alloc, |f| f.name("b").ty::<u8>(alloc))?)
-                    .index(0),
-            )
-        }),
-        "C" => variants.variant(alloc, "C", |v| {
-            let fields = Fields::unnamed::<MetaForm>(alloc)
-                .field(alloc, |f| f.ty::<u16>(alloc))?
-                .field(alloc, |f| f.ty::<u32>(alloc))?;
-            Ok(v.index(2).fields(fields))
-        }),
+        "A" => variants.variant(
+            alloc,
+            "A",
+            |v| Ok(v.index(3).fields(unnamed::<bool>(alloc)?)),
+        ),
+        "B" => variants.variant(alloc, "B", |v| Ok(v.fields(named(alloc)?).index(0))),
+        "C" => variants.variant(alloc, "C", |v| Ok(v.index(2).fields(two_unnamed(alloc)?))),
         _ => variants.variant_unit(alloc, "D", 3),
     }
 }
@@ -48,17 +55,21 @@ fn built(alloc: Global) -> Result<Variants, AllocError> {
 }
 
 /// A field of this type.
-fn field<T: TypeInfo>(alloc: Global, name: Option<&'static str>) -> Result<Field, AllocError> {
+fn field<T: HasIdentity>(alloc: Global, name: Option<&'static str>) -> Result<Field, AllocError> {
     Ok(Field::new(name, meta_type::<T>(alloc)?, None, Vec::new(alloc)))
 }
 
 /// The fields of the variant of this name.
 fn fields(alloc: Global, variant: &str) -> Result<Vec<Field>, AllocError> {
+    let none = Ok(Vec::new(alloc));
     match variant {
-        "A" => Ok(vec![in alloc; field::<bool>(alloc, None)?]?),
-        "B" => Ok(vec![in alloc; field::<u8>(alloc, Some("b"))?]?),
-        "C" => Ok(vec![in alloc; field::<u16>(alloc, None)?, field::<u32>(alloc, None)?]?),
-        _ => Ok(Vec::new(alloc)),
+        "A" => with(none, field::<bool>(alloc, None)),
+        "B" => with(none, field::<u8>(alloc, Some("b"))),
+        "C" => with(
+            with(none, field::<u16>(alloc, None)),
+            field::<u32>(alloc, None),
+        ),
+        _ => none,
     }
 }
 
@@ -67,52 +78,52 @@ fn variant(alloc: Global, name: &'static str, index: u8) -> Result<Variant, Allo
     Ok(Variant::new(name, fields(alloc, name)?, index, Vec::new(alloc)))
 }
 
-/// Puts the variant of this name and index at the end of a list.
-fn add_variant(
-    alloc: Global,
-    variants: &mut Vec<Variant>,
-    name: &'static str,
-    index: u8,
-) -> Result<(), AllocError> {
-    variants.push(variant(alloc, name, index)?)?;
-    Ok(())
-}
-
 /// The same variants by their constructors, in order.
-fn listed(alloc: Global) -> Result<Vec<Variant>, AllocError> {
-    let mut variants = Vec::new(alloc);
+fn wanted(alloc: Global) -> Result<Vec<Variant>, AllocError> {
+    let mut variants = Ok(Vec::new(alloc));
     for (name, index) in &VARIANTS {
-        add_variant(alloc, &mut variants, name, *index)?;
+        variants = with(variants, variant(alloc, name, *index));
     }
-    Ok(variants)
+    variants
 }
 
-/// The same variants, as a definition.
-fn wanted(alloc: Global) -> Result<TypeDefVariant, AllocError> {
-    Ok(TypeDefVariant::from(listed(alloc)?))
+/// The path of the enum.
+fn path(alloc: Global) -> Result<Path, AllocError> {
+    Ok(Path::from(Items::from(with(list_of(alloc, "demo"), Ok("E"))?)))
 }
 
 /// The enum, by builders.
-fn built_enum(alloc: Global) -> Result<Type, Fail> {
-    let path = path_of(alloc, "E", "demo")?;
+fn built_enum(alloc: Global) -> Result<Type, AllocError> {
+    let path = path(alloc)?;
     Ok(Type::builder(alloc).path(path).variant(built(alloc)?))
 }
 
-/// The enum, by constructors.
-fn wanted_enum(alloc: Global) -> Result<Type, Fail> {
-    let path = path_of(alloc, "E", "demo")?;
-    let ty = Type::from((
-        path,
-        Vec::new(alloc),
-        wanted(alloc)?.into(),
-        Vec::new(alloc),
-    ));
-    Ok(ty)
+/// Whether a description has the enum's path.
+fn has_path(alloc: Global, ty: &Type) -> Result<bool, AllocError> {
+    Ok(ty.path == path(alloc)?)
+}
+
+/// The definition of the enum, by constructors.
+fn definition(alloc: Global) -> Result<TypeDef, AllocError> {
+    Ok(TypeDef::Variant(TypeDefVariant::from(wanted(alloc)?)))
+}
+
+/// Whether a description has the enum's variants, in order.
+fn has_variants(alloc: Global, ty: &Type) -> Result<bool, AllocError> {
+    Ok(ty.type_def == definition(alloc)?)
+}
+
+/// Asserts that a description is the enum's, without parameters and docs.
+fn is_enum(rt: &impl Abort, alloc: Global, ty: &Type) -> Result<(), Fail> {
+    holds(rt, "path", has_path(alloc, ty)?);
+    holds(rt, "variants", has_variants(alloc, ty)?);
+    is(rt, "parameters", ty.type_params().len(), 0);
+    is(rt, "docs", ty.docs().len(), 0);
+    Ok(())
 }
 
 #[test]
 fn variants_in_the_order_of_declaration(rt: HostRuntime) -> Result<(), Fail> {
-    let alloc = rt.alloc();
-    holds(&rt, "enum", built_enum(alloc)? == wanted_enum(alloc)?);
-    Ok(())
+    let built = built_enum(rt.alloc())?;
+    is_enum(&rt, rt.alloc(), &built)
 }
