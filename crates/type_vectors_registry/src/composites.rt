@@ -1,111 +1,72 @@
-//! Structs and enums of a program: the order in which types get their ids.
+//! Structs of a program: the order in which types get their ids.
 use crate::asserts::is;
 use crate::described::catalogue;
-use crate::own::{A, C, Documented, References, Skipping};
-use crate::registered::{bytes, count, is_row, one, table, two};
-use scale_info::impls::meta_type;
-use scale_info::{PortableRegistry, Registry};
-use std::alloc::Global;
-use std::process::Abort;
+use crate::own::{A, C, References, Skipping};
+use crate::registered::{count, register, registers_as};
+use scale_info::meta_type::{Catalogue, HasIdentity};
+use scale_info::registry::RegisterError;
+use scale_info::{MetaType, Registry, tuple_meta_type};
+use std::alloc::{AllocError, Global};
 use std::test::Fail;
-use type_vectors_common::rows::row_named;
+use type_vectors_common::rows::rows;
 
-/// Tables of one registered type: a row is a name, a colon and the bytes in hexadecimal.
+/// Tables of registered types: a row is a name, a colon and the bytes in hexadecimal. Parameters
+/// come before fields, a struct of itself is one type, and what a type refers to comes before the
+/// next type.
 const ROWS: &str = "\
 P: 0c 0004045008045300045401040008010461080000010462040000 00 040000050000 080000050300
 RecursiveRefs: 04 00043452656375727369766552656673 00 000c 0114626f786564000000 \
     01247265666572656e6365000000 01446d757461626c655f7265666572656e6365000000 00
+C, A: 10 0004044300000000 040404410000080104620800000104630000 0000 \
+    080404420000040104640c000000 0c04044400000401046104000000
+A: 10 00040441000008010462040000010463 0c000000 0404044200000401046408000000 \
+    0804044400000401046100000000 0c04044300000000
 ";
 
-/// Asserts that a table is encoded as the row above of this name has it.
-fn is_row_above(
-    rt: &impl Abort,
-    alloc: Global,
-    table: &PortableRegistry,
-    name: &str,
-) -> Result<(), Fail> {
-    let row = row_named(alloc, ROWS, name)?;
-    is(rt, name, bytes(alloc, table)?, row.bytes);
-    Ok(())
-}
-
-#[test]
-fn parameters_come_before_fields(rt: HostRuntime) -> Result<(), Fail> {
-    let alloc = rt.alloc();
-    let known = catalogue(alloc)?;
-    let table = table(alloc, &known, one::<Skipping>(alloc)?)?;
-    is_row_above(&rt, alloc, &table, "P")
-}
-
-#[test]
-fn a_struct_of_itself_is_one_type(rt: HostRuntime) -> Result<(), Fail> {
-    let alloc = rt.alloc();
-    let known = catalogue(alloc)?;
-    let table = table(alloc, &known, one::<References>(alloc)?)?;
-    is_row_above(&rt, alloc, &table, "RecursiveRefs")
-}
-
-#[test]
-fn docs_and_names_are_kept(rt: HostRuntime) -> Result<(), Fail> {
-    let alloc = rt.alloc();
-    let known = catalogue(alloc)?;
-    let alone = table(alloc, &known, one::<Documented>(alloc)?)?;
-    is_row(&rt, alloc, &alone, "the same enum before its bool")
-}
-
-#[test]
-fn docs_and_names_are_kept_after_another_type(rt: HostRuntime) -> Result<(), Fail> {
-    let alloc = rt.alloc();
-    let known = catalogue(alloc)?;
-    let after = table(alloc, &known, two::<bool, Documented>(alloc)?)?;
-    is_row(&rt, alloc, &after, "docs of a type, a variant and a field")
-}
-
-/// The names of the types of a table, in order.
-fn names(alloc: Global, table: &PortableRegistry) -> Result<String, Fail> {
-    let mut names = String::new(alloc);
-    for (_, ty) in table.entries() {
-        names.push_str(format!(in alloc; "{} ", ty.path)?.as_str())?;
+/// The types of the row of this name.
+fn roots(alloc: Global, name: &str) -> Result<Vec<MetaType>, AllocError> {
+    match name {
+        "P" => tuple_meta_type!(alloc; Skipping),
+        "RecursiveRefs" => tuple_meta_type!(alloc; References),
+        "C, A" => tuple_meta_type!(alloc; C, A),
+        _ => tuple_meta_type!(alloc; A),
     }
-    Ok(names)
 }
 
 #[test]
 fn composites_come_in_depth_first_order(rt: HostRuntime) -> Result<(), Fail> {
     let alloc = rt.alloc();
     let known = catalogue(alloc)?;
-    let both = table(alloc, &known, two::<C, A>(alloc)?)?;
-    is(&rt, "C, A", names(alloc, &both)?.as_str(), "C A B D ");
-    let alone = table(alloc, &known, one::<A>(alloc)?)?;
-    is(&rt, "A", names(alloc, &alone)?.as_str(), "A B D C ");
+    for row in &rows(alloc, ROWS)? {
+        let roots = roots(alloc, row.name)?;
+        registers_as(&rt, alloc, &known, row.name, roots, &row.bytes)?;
+    }
     Ok(())
 }
 
-#[test]
-fn what_is_kept_is_as_registered_afresh(rt: HostRuntime) -> Result<(), Fail> {
-    let alloc = rt.alloc();
-    let known = catalogue(alloc)?;
-    let mut both = table(alloc, &known, two::<C, A>(alloc)?)?;
-    let new_ids = both.retain(alloc, |id| id == 1)?;
-    is(&rt, "the id of C", new_ids.get(&0).copied(), Some(3));
-    is(&rt, "the id of D", new_ids.get(&3).copied(), Some(2));
-    let afresh = table(alloc, &known, one::<A>(alloc)?)?;
-    let (kept, wanted) = (bytes(alloc, &both)?, bytes(alloc, &afresh)?);
-    is(&rt, "the table", kept, wanted);
-    Ok(())
+/// The registry of two types, which are registered in order.
+fn registry<T: HasIdentity, U: HasIdentity>(
+    alloc: Global,
+    known: &Catalogue,
+) -> Result<Registry, RegisterError> {
+    let mut registry = Registry::new(alloc);
+    register::<T>(alloc, &mut registry, known)?;
+    register::<U>(alloc, &mut registry, known)?;
+    Ok(registry)
+}
+
+/// Whether the registries of `C` and `A` in both orders are equal.
+fn are_equal(alloc: Global, known: &Catalogue) -> Result<bool, RegisterError> {
+    let first = registry::<C, A>(alloc, known)?;
+    Ok(first == registry::<A, C>(alloc, known)?)
 }
 
 #[test]
 fn the_order_of_calls_counts(rt: HostRuntime) -> Result<(), Fail> {
     let alloc = rt.alloc();
     let known = catalogue(alloc)?;
-    let mut first = Registry::new(alloc);
-    first.register_type(&meta_type::<C>(alloc)?, &known)?;
-    first.register_type(&meta_type::<A>(alloc)?, &known)?;
-    let mut second = Registry::new(alloc);
-    second.register_type(&meta_type::<A>(alloc)?, &known)?;
-    is(&rt, "equal", first == second, false);
-    second.register_type(&meta_type::<C>(alloc)?, &known)?;
-    is(&rt, "the types", count(&second), 4);
+    is(&rt, "equal", are_equal(alloc, &known)?, false);
+    let registry = registry::<A, C>(alloc, &known)?;
+    is(&rt, "the types", count(alloc, &registry)?, 4);
     Ok(())
 }

@@ -1,41 +1,54 @@
 //! Parts of descriptions in the form of a program, made in few words.
-use scale_info::form::Form;
+use scale_info::build::{PathAssigned, TypeBuilder};
+use scale_info::form::{Form, MetaForm};
 use scale_info::impls::meta_type;
 use scale_info::meta_type::HasIdentity;
-use scale_info::{
-    Field, Items, Path, Type, TypeDef, TypeDefComposite, TypeDefTuple, TypeDefVariant,
-    TypeParameter, Variant,
-};
+use scale_info::{Field, Items, Path, Type, TypeDef, TypeDefTuple, TypeParameter, Variant};
 use std::alloc::{AllocError, Global};
 
-/// A field with a name, without docs.
-pub fn named<T: HasIdentity>(alloc: Global, name: &'static str) -> Result<Field, AllocError> {
-    let ty = meta_type::<T>(alloc)?;
-    Ok(Field::new(Some(name), ty, None, Vec::new(alloc)))
+/// A description in the making that has its path.
+pub type Begun = TypeBuilder<MetaForm, PathAssigned<MetaForm>>;
+
+/// A list of one item.
+pub fn list_of<T: Drop>(alloc: Global, item: T) -> Result<Vec<T>, AllocError> {
+    let mut list = Vec::new(alloc);
+    list.push(item)?;
+    Ok(list)
 }
 
-/// A field with a name and the name of its type, without docs.
-pub fn typed<T: HasIdentity>(
-    alloc: Global,
-    name: &'static str,
-    type_name: &'static str,
-) -> Result<Field, AllocError> {
-    let ty = meta_type::<T>(alloc)?;
-    Ok(Field::new(Some(name), ty, Some(type_name), Vec::new(alloc)))
+/// The list with the item at its end; an Err stays as it is.
+pub fn with<T: Drop>(
+    so_far: Result<Vec<T>, AllocError>,
+    item: Result<T, AllocError>,
+) -> Result<Vec<T>, AllocError> {
+    let mut list = so_far?;
+    list.push(item?)?;
+    Ok(list)
 }
 
-/// A field of a tuple: without a name, and without the name of its type if none is given.
-pub fn unnamed<T: HasIdentity>(
+/// A field of this type, without docs.
+pub fn field<T: HasIdentity>(
     alloc: Global,
+    name: Option<&'static str>,
     type_name: Option<&'static str>,
 ) -> Result<Field, AllocError> {
     let ty = meta_type::<T>(alloc)?;
-    Ok(Field::new(None, ty, type_name, Vec::new(alloc)))
+    Ok(Field::new(name, ty, type_name, Vec::new(alloc)))
 }
 
-/// A variant without docs.
-pub fn variant(alloc: Global, name: &'static str, fields: Vec<Field>, index: u8) -> Variant {
-    Variant::new(name, fields, index, Vec::new(alloc))
+/// A field with a name, without the name of its type.
+pub fn named<T: HasIdentity>(alloc: Global, name: &'static str) -> Result<Field, AllocError> {
+    field::<T>(alloc, Some(name), None)
+}
+
+/// A variant of one field without a name, without docs.
+pub fn variant<T: HasIdentity>(
+    alloc: Global,
+    name: &'static str,
+    index: u8,
+) -> Result<Variant, AllocError> {
+    let fields = list_of(alloc, field::<T>(alloc, None, None)?)?;
+    Ok(Variant::new(name, fields, index, Vec::new(alloc)))
 }
 
 /// A parameter that is given a type.
@@ -47,32 +60,39 @@ pub fn given<T: HasIdentity>(
 }
 
 /// A tuple of members of these types.
-pub fn tuple<F: Form>(members: Vec<F::Ty>) -> TypeDef<F> {
-    TypeDef::Tuple(TypeDefTuple {
-        fields: Items::from(members),
-    })
+pub fn tuple<F: Form>(members: Result<Vec<F::Ty>, AllocError>) -> Result<TypeDef<F>, AllocError> {
+    let fields = Items::from(members?);
+    Ok(TypeDef::Tuple(TypeDefTuple { fields }))
 }
 
-/// The description of a composite with these parts.
+/// A description of these parameters and this path in the making.
+pub fn begun(
+    alloc: Global,
+    segments: Result<Vec<&'static str>, AllocError>,
+    params: Result<Vec<TypeParameter>, AllocError>,
+) -> Result<Begun, AllocError> {
+    let path = Path::from(Items::from(segments?));
+    Ok(Type::builder(alloc).path(path).type_params(params?))
+}
+
+/// The description of a composite of one segment, without docs.
 pub fn composite(
     alloc: Global,
-    segments: Vec<&'static str>,
-    params: Vec<TypeParameter>,
-    fields: Vec<Field>,
+    name: &'static str,
+    params: Result<Vec<TypeParameter>, AllocError>,
+    fields: Result<Vec<Field>, AllocError>,
 ) -> Result<Type, AllocError> {
-    let path = Path::from_segments_unchecked(alloc, segments)?;
-    let def = TypeDef::from(TypeDefComposite::from(fields));
-    Type::new(alloc, path, params, def, Vec::new(alloc))
+    let builder = begun(alloc, list_of(alloc, name), params)?;
+    Ok(builder.composite(fields?))
 }
 
-/// The description of an enum with these parts.
+/// The description of an enum with these lines of documentation.
 pub fn enumeration(
     alloc: Global,
-    segments: Vec<&'static str>,
-    params: Vec<TypeParameter>,
-    variants: Vec<Variant>,
+    builder: Result<Begun, AllocError>,
+    variants: Result<Vec<Variant>, AllocError>,
+    docs: &[&'static str],
 ) -> Result<Type, AllocError> {
-    let path = Path::from_segments_unchecked(alloc, segments)?;
-    let def = TypeDef::from(TypeDefVariant::from(variants));
-    Type::new(alloc, path, params, def, Vec::new(alloc))
+    let builder = builder?.docs(alloc, docs)?;
+    Ok(builder.variant(variants?))
 }

@@ -1,54 +1,77 @@
 //! Registrations that are refused, and the registry afterwards.
 use crate::asserts::{holds, is};
-use crate::registered::{bytes, count, ids, three};
-use scale_info::impls::meta_type;
-use scale_info::meta_type::{Catalogue, Identified};
+use crate::registered::{ids, is_written, register};
+use scale_info::meta_type::{Catalogue, CatalogueError, Identified};
 use scale_info::registry::RegisterError;
-use scale_info::{PortableRegistry, Registry};
+use scale_info::{Registry, tuple_meta_type};
 use std::alloc::Global;
 use std::process::Abort;
 use std::test::Fail;
 
-/// The error that names `u32`.
-fn without_u32(alloc: Global) -> Result<RegisterError, Fail> {
-    Ok(RegisterError::Undescribed(u32::type_id(alloc)?))
+/// Adds `u8` and `Vec<u32>`, but not `u32`.
+fn add_all(known: &mut Catalogue) -> Result<bool, CatalogueError> {
+    known.add::<u8>()?;
+    known.add::<Vec<u32>>()
 }
 
 /// A catalogue that describes `u8` and `Vec<u32>`, but not `u32`.
-fn catalogue(alloc: Global) -> Result<Catalogue, Fail> {
-    let mut catalogue = Catalogue::new(alloc);
-    catalogue.add::<u8>()?;
-    catalogue.add::<Vec<u32>>()?;
-    Ok(catalogue)
+fn catalogue(alloc: Global) -> Result<Catalogue, CatalogueError> {
+    let mut known = Catalogue::new(alloc);
+    add_all(&mut known)?;
+    Ok(known)
 }
 
 /// The registry of `u8`.
 fn registry_of_u8(alloc: Global) -> Result<Registry, Fail> {
-    let mut catalogue = Catalogue::new(alloc);
-    catalogue.add::<u8>()?;
+    let known = catalogue(alloc)?;
     let mut registry = Registry::new(alloc);
-    registry.register_type(&meta_type::<u8>(alloc)?, &catalogue)?;
+    register::<u8>(alloc, &mut registry, &known)?;
     Ok(registry)
+}
+
+/// Whether a registry is that of `u8`.
+fn is_of_u8(alloc: Global, registry: &Registry) -> Result<bool, Fail> {
+    Ok(*registry == registry_of_u8(alloc)?)
+}
+
+/// Whether an error names `u32`.
+fn names_u32(alloc: Global, error: &RegisterError) -> Result<bool, Fail> {
+    Ok(*error == RegisterError::Undescribed(u32::type_id(alloc)?))
+}
+
+/// Whether `Vec<u32>` is refused, and the error names `u32`.
+fn type_is_refused(alloc: Global, registry: &mut Registry) -> Result<bool, Fail> {
+    let known = catalogue(alloc)?;
+    match register::<Vec<u32>>(alloc, registry, &known) {
+        Ok(_) => Ok(false),
+        Err(error) => names_u32(alloc, &error),
+    }
+}
+
+/// Whether `u8`, `Vec<u32>` and `u8` are refused, and the error names `u32`.
+fn list_is_refused(alloc: Global, registry: &mut Registry) -> Result<bool, Fail> {
+    let known = catalogue(alloc)?;
+    let list = tuple_meta_type!(alloc; u8, Vec<u32>, u8)?;
+    match registry.register_types(list, &known) {
+        Ok(_) => Ok(false),
+        Err(error) => names_u32(alloc, &error),
+    }
 }
 
 #[test]
 fn a_missing_type_is_named(rt: HostRuntime) -> Result<(), Fail> {
     let alloc = rt.alloc();
     let mut registry = Registry::new(alloc);
-    let refused = registry.register_type(&meta_type::<Vec<u32>>(alloc)?, &catalogue(alloc)?);
-    is(&rt, "Vec<u32>", refused.err(), Some(without_u32(alloc)?));
+    holds(&rt, "Vec<u32>", type_is_refused(alloc, &mut registry)?);
     holds(&rt, "nothing is there", registry == Registry::new(alloc));
-    is(&rt, "the types", count(&registry), 0);
     Ok(())
 }
 
 #[test]
 fn a_list_is_registered_whole_or_not(rt: HostRuntime) -> Result<(), Fail> {
     let alloc = rt.alloc();
-    let known = catalogue(alloc)?;
     let mut registry = Registry::new(alloc);
-    let refused = registry.register_types(three::<u8, Vec<u32>, u8>(alloc)?, &known);
-    is(&rt, "of nothing", refused.err(), Some(without_u32(alloc)?));
+    holds(&rt, "of nothing", list_is_refused(alloc, &mut registry)?);
     holds(&rt, "nothing is there", registry == Registry::new(alloc));
     Ok(())
 }
@@ -56,11 +79,9 @@ fn a_list_is_registered_whole_or_not(rt: HostRuntime) -> Result<(), Fail> {
 #[test]
 fn a_refused_list_leaves_what_was_there(rt: HostRuntime) -> Result<(), Fail> {
     let alloc = rt.alloc();
-    let known = catalogue(alloc)?;
     let mut registry = registry_of_u8(alloc)?;
-    let refused = registry.register_types(three::<u8, Vec<u32>, u8>(alloc)?, &known);
-    is(&rt, "of u8", refused.err(), Some(without_u32(alloc)?));
-    holds(&rt, "u8 is there alone", registry == registry_of_u8(alloc)?);
+    holds(&rt, "of u8", list_is_refused(alloc, &mut registry)?);
+    holds(&rt, "u8 is there alone", is_of_u8(alloc, &registry)?);
     Ok(())
 }
 
@@ -69,11 +90,11 @@ fn a_known_type_needs_no_description(rt: HostRuntime) -> Result<(), Fail> {
     let alloc = rt.alloc();
     let mut registry = registry_of_u8(alloc)?;
     let nothing = Catalogue::new(alloc);
-    let symbol = registry.register_type(&meta_type::<Box<u8>>(alloc)?, &nothing)?;
+    let symbol = register::<Box<u8>>(alloc, &mut registry, &nothing)?;
     is(&rt, "Box<u8>", symbol.id, 0);
-    let refused = registry.register_type(&meta_type::<bool>(alloc)?, &nothing);
+    let refused = register::<bool>(alloc, &mut registry, &nothing);
     holds(&rt, "bool", refused.is_err());
-    holds(&rt, "u8 is there alone", registry == registry_of_u8(alloc)?);
+    holds(&rt, "u8 is there alone", is_of_u8(alloc, &registry)?);
     Ok(())
 }
 
@@ -81,24 +102,30 @@ fn a_known_type_needs_no_description(rt: HostRuntime) -> Result<(), Fail> {
 const BOXED: [u8; 13] = [8, 0, 0, 0, 5, 3, 0, 4, 0, 0, 5, 3, 0];
 
 /// A catalogue of `u8` and its boxes, where a box alone has the description of what is in it.
-fn catalogue_of_boxes(rt: &impl Abort, alloc: Global) -> Result<Catalogue, Fail> {
+fn catalogue_of_boxes(rt: &impl Abort, alloc: Global) -> Catalogue {
     let mut known = Catalogue::new(alloc);
     is(rt, "u8", known.add::<u8>(), Ok(true));
     is(rt, "Box<u8>", known.add::<Box<u8>>(), Ok(false));
     is(rt, "Box<Box<u8>>", known.add::<Box<Box<u8>>>(), Ok(true));
-    Ok(known)
+    known
+}
+
+/// The ids that they get in this registry.
+fn ids_of_boxes(rt: &impl Abort, alloc: Global, registry: &mut Registry) -> Result<Vec<u32>, Fail> {
+    let known = catalogue_of_boxes(rt, alloc);
+    ids(
+        alloc,
+        registry,
+        &known,
+        tuple_meta_type!(alloc; u8, Box<u8>, Box<Box<u8>>)?,
+    )
 }
 
 #[test]
 fn two_identities_are_two_types(rt: HostRuntime) -> Result<(), Fail> {
     let alloc = rt.alloc();
-    let known = catalogue_of_boxes(&rt, alloc)?;
     let mut registry = Registry::new(alloc);
-    let roots = three::<u8, Box<u8>, Box<Box<u8>>>(alloc)?;
-    let found = ids(alloc, &mut registry, &known, roots)?;
+    let found = ids_of_boxes(&rt, alloc, &mut registry)?;
     is(&rt, "ids", found.as_slice(), [0, 0, 1].as_slice());
-    let table = PortableRegistry::from_registry(alloc, &registry)?;
-    let found = bytes(alloc, &table)?;
-    is(&rt, "bytes", found.as_slice(), BOXED.as_slice());
-    Ok(())
+    is_written(&rt, alloc, "bytes", &registry, &BOXED)
 }

@@ -2,39 +2,29 @@
 use crate::asserts::is;
 use scale_info::impls::meta_type;
 use scale_info::meta_type::{Catalogue, HasIdentity};
-use scale_info::{MetaType, PortableRegistry, Registry};
-use std::alloc::{AllocError, Global};
+use scale_info::registry::RegisterError;
+use scale_info::{MetaType, PortableRegistry, Registry, TypeId, UntrackedSymbol};
+use std::alloc::Global;
 use std::process::Abort;
 use std::test::Fail;
-use type_vectors_common::rows::{TABLES, row_named};
 
-/// One type.
-pub fn one<T: HasIdentity>(alloc: Global) -> Result<Vec<MetaType>, AllocError> {
-    Ok(vec![in alloc; meta_type::<T>(alloc)?]?)
-}
-
-/// Two types.
-pub fn two<T: HasIdentity, U: HasIdentity>(alloc: Global) -> Result<Vec<MetaType>, AllocError> {
-    let (first, second) = (meta_type::<T>(alloc)?, meta_type::<U>(alloc)?);
-    Ok(vec![in alloc; first, second]?)
-}
-
-/// Three types.
-pub fn three<T: HasIdentity, U: HasIdentity, V: HasIdentity>(
+/// Registers a type.
+pub fn register<T: HasIdentity>(
     alloc: Global,
-) -> Result<Vec<MetaType>, AllocError> {
-    let (first, second) = (meta_type::<T>(alloc)?, meta_type::<U>(alloc)?);
-    Ok(vec![in alloc; first, second, meta_type::<V>(alloc)?]?)
+    registry: &mut Registry,
+    known: &Catalogue,
+) -> Result<UntrackedSymbol<TypeId>, RegisterError> {
+    registry.register_type(&meta_type::<T>(alloc)?, known)
 }
 
 /// The table of a new registry with these types.
 pub fn table(
     alloc: Global,
-    catalogue: &Catalogue,
+    known: &Catalogue,
     roots: Vec<MetaType>,
 ) -> Result<PortableRegistry, Fail> {
     let mut registry = Registry::new(alloc);
-    registry.register_types(roots, catalogue)?;
+    registry.register_types(roots, known)?;
     Ok(PortableRegistry::from_registry(alloc, &registry)?)
 }
 
@@ -42,11 +32,11 @@ pub fn table(
 pub fn ids(
     alloc: Global,
     registry: &mut Registry,
-    catalogue: &Catalogue,
+    known: &Catalogue,
     roots: Vec<MetaType>,
 ) -> Result<Vec<u32>, Fail> {
     let mut ids = Vec::new(alloc);
-    let symbols = registry.register_types(roots, catalogue)?;
+    let symbols = registry.register_types(roots, known)?;
     for symbol in symbols.as_slice() {
         ids.push(symbol.id())?;
     }
@@ -54,25 +44,46 @@ pub fn ids(
 }
 
 /// The number of types of a registry.
-pub fn count(registry: &Registry) -> usize {
-    registry.types().size_hint().0
+pub fn count(alloc: Global, registry: &Registry) -> Result<usize, Fail> {
+    Ok(PortableRegistry::from_registry(alloc, registry)?.len())
 }
 
-/// The encoding of a table.
-pub fn bytes(alloc: Global, table: &PortableRegistry) -> Result<Vec<u8>, Fail> {
-    let mut bytes = Vec::new(alloc);
-    table.encode(&mut bytes)?;
-    Ok(bytes)
-}
-
-/// Asserts that a table is encoded as the row of this name has it.
-pub fn is_row(
+/// Asserts that a table is encoded as these bytes.
+pub fn is_encoded(
     rt: &impl Abort,
     alloc: Global,
-    table: &PortableRegistry,
     name: &str,
+    table: &PortableRegistry,
+    wanted: &[u8],
 ) -> Result<(), Fail> {
-    let row = row_named(alloc, TABLES, name)?;
-    is(rt, name, bytes(alloc, table)?, row.bytes);
+    let mut bytes = Vec::new(alloc);
+    table.encode(&mut bytes)?;
+    is(rt, name, bytes.as_slice(), wanted);
     Ok(())
+}
+
+/// Asserts that the table of a registry is encoded as these bytes.
+pub fn is_written(
+    rt: &impl Abort,
+    alloc: Global,
+    name: &str,
+    registry: &Registry,
+    wanted: &[u8],
+) -> Result<(), Fail> {
+    let table = PortableRegistry::from_registry(alloc, registry)?;
+    is_encoded(rt, alloc, name, &table, wanted)
+}
+
+/// Asserts that types register as a table of these bytes, in which each reference leads to a type.
+pub fn registers_as(
+    rt: &impl Abort,
+    alloc: Global,
+    known: &Catalogue,
+    name: &str,
+    roots: Vec<MetaType>,
+    wanted: &[u8],
+) -> Result<(), Fail> {
+    let table = table(alloc, known, roots)?;
+    is(rt, name, table.is_closed(), true);
+    is_encoded(rt, alloc, name, &table, wanted)
 }
