@@ -8,8 +8,8 @@ use std::test::Fail;
 use type_vectors_common::rows::row_bytes;
 
 /// A row is the chosen ids, a colon, a table, an arrow, the pruned table, another arrow, and each
-/// old id that is kept with its new one. The tables that `type_vectors_registry` registers are among
-/// them.
+/// old id that is kept with its new one. The tables that `type_vectors_registry` registers are
+/// among them.
 const PRUNED: &str = "\
 : 00 > 00 >
 : 04 000000050000 > 00 >
