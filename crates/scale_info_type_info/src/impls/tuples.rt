@@ -1,7 +1,9 @@
 //! Tuples of up to 20 members: the tuple of the members that are no `PhantomData`.
-ghost use Rattle.std.specs.Prelude.{◌≡◌, ◌++◌, [], ◌∷◌, IfOk, Some, map};
+ghost use Rattle.std.specs.Prelude.{◌≡◌, ◌++◌, [], ◌∷◌, IfOk, IfErr, List, Some, map};
+ghost use Rattle.scale_info_identities.specs.TypeIds.{Term};
 ghost use Rattle.scale_info_types.specs.MetaDescriptions.{meta_content, type_term};
 ghost use Rattle.scale_info_type_info.specs.StandardTypes.{tuple_description};
+ghost use Rattle.scale_info_type_info.specs.declared.type_info.InfoError.TheVariants as info_error;
 
 use super::built_in;
 use crate::type_info::{InfoError, TypeInfo};
@@ -19,33 +21,55 @@ fn tuple_info(types: Vec<MetaType>) -> Result<Type, AllocError>
     Ok(built_in(alloc, TypeDefTuple::new(alloc, types)?))
 }
 
-/// These types and `A`.
-fn with_1<A: HasIdentity>(mut types: Vec<MetaType>) -> Result<Vec<MetaType>, AllocError>
-    ensures { IfOk result (λ all. map type_term all.items
-        ≡ map type_term types.items ++ A.Identity.own ∷ []) }
+/// The description of the tuple with members of these types; an Err stays as it is.
+fn tuple_of(types: Result<Vec<MetaType>, AllocError>) -> Result<Type, InfoError>
+    ensures ok { (members : List Term) → IfOk types (λ of. map type_term of.items ≡ members)
+        → IfOk result (λ d. tuple_description members ≡ Some (meta_content d)) }
+    ensures err { IfErr result (λ e. e ≡ info_error.Memory) }
 {
+    Ok(tuple_info(types?)?)
+}
+
+/// The list of no types.
+fn no_types(alloc: Global) -> Result<Vec<MetaType>, AllocError>
+    ensures { IfOk result (λ of. map type_term of.items ≡ []) }
+{
+    Ok(Vec::new(alloc))
+}
+
+/// These types and `A`.
+fn with_1<A: HasIdentity>(
+    types: Result<Vec<MetaType>, AllocError>,
+) -> Result<Vec<MetaType>, AllocError>
+    ensures { (before : List Term) → IfOk types (λ of. map type_term of.items ≡ before)
+        → IfOk result (λ all. map type_term all.items ≡ before ++ A.Identity.own ∷ []) }
+{
+    let mut types = types?;
     let alloc = *types.allocator();
     types.push(MetaType::new::<A>(alloc)?)?;
     Ok(types)
 }
 
 /// These types and 2 more.
-fn with_2<A: HasIdentity, B: HasIdentity>(types: Vec<MetaType>) -> Result<Vec<MetaType>, AllocError>
-    ensures { IfOk result (λ all. map type_term all.items
-        ≡ map type_term types.items ++ A.Identity.own ∷ B.Identity.own ∷ []) }
+fn with_2<A: HasIdentity, B: HasIdentity>(
+    types: Result<Vec<MetaType>, AllocError>,
+) -> Result<Vec<MetaType>, AllocError>
+    ensures { (before : List Term) → IfOk types (λ of. map type_term of.items ≡ before)
+        → IfOk result (λ all. map type_term all.items
+        ≡ before ++ A.Identity.own ∷ B.Identity.own ∷ []) }
 {
-    with_1::<B>(with_1::<A>(types)?)
+    with_1::<B>(with_1::<A>(types))
 }
 
 /// These types and 4 more.
 fn with_4<A: HasIdentity, B: HasIdentity, C: HasIdentity, D: HasIdentity>(
-    types: Vec<MetaType>,
+    types: Result<Vec<MetaType>, AllocError>,
 ) -> Result<Vec<MetaType>, AllocError>
-    ensures { IfOk result (λ all. map type_term all.items
-        ≡ map type_term types.items ++ A.Identity.own ∷ B.Identity.own ∷ C.Identity.own
-        ∷ D.Identity.own ∷ []) }
+    ensures { (before : List Term) → IfOk types (λ of. map type_term of.items ≡ before)
+        → IfOk result (λ all. map type_term all.items ≡ before
+        ++ A.Identity.own ∷ B.Identity.own ∷ C.Identity.own ∷ D.Identity.own ∷ []) }
 {
-    with_2::<C, D>(with_2::<A, B>(types)?)
+    with_2::<C, D>(with_2::<A, B>(types))
 }
 
 /// These types and 8 more.
@@ -58,19 +82,20 @@ fn with_8<
     F: HasIdentity,
     G: HasIdentity,
     H: HasIdentity,
->(types: Vec<MetaType>) -> Result<Vec<MetaType>, AllocError>
-    ensures { IfOk result (λ all. map type_term all.items
-        ≡ map type_term types.items ++ A.Identity.own ∷ B.Identity.own ∷ C.Identity.own
-        ∷ D.Identity.own ∷ E.Identity.own ∷ F.Identity.own ∷ G.Identity.own ∷ H.Identity.own ∷ []) }
+>(types: Result<Vec<MetaType>, AllocError>) -> Result<Vec<MetaType>, AllocError>
+    ensures { (before : List Term) → IfOk types (λ of. map type_term of.items ≡ before)
+        → IfOk result (λ all. map type_term all.items ≡ before
+        ++ A.Identity.own ∷ B.Identity.own ∷ C.Identity.own ∷ D.Identity.own ∷ E.Identity.own
+        ∷ F.Identity.own ∷ G.Identity.own ∷ H.Identity.own ∷ []) }
 {
-    with_4::<E, F, G, H>(with_4::<A, B, C, D>(types)?)
+    with_4::<E, F, G, H>(with_4::<A, B, C, D>(types))
 }
 
 impl TypeInfo for () {
     ghost description = { tuple_description [] };
 
     fn type_info(alloc: Global) -> Result<Type, InfoError> {
-        Ok(tuple_info(Vec::new(alloc))?)
+        tuple_of(no_types(alloc))
     }
 }
 
@@ -78,8 +103,7 @@ impl<A: TypeInfo> TypeInfo for (A,) {
     ghost description = { tuple_description (A.Identity.own ∷ []) };
 
     fn type_info(alloc: Global) -> Result<Type, InfoError> {
-        let types = with_1::<A>(Vec::new(alloc))?;
-        Ok(tuple_info(types)?)
+        tuple_of(with_1::<A>(no_types(alloc)))
     }
 }
 
@@ -87,8 +111,7 @@ impl<A: TypeInfo, B: TypeInfo> TypeInfo for (A, B) {
     ghost description = { tuple_description (A.Identity.own ∷ B.Identity.own ∷ []) };
 
     fn type_info(alloc: Global) -> Result<Type, InfoError> {
-        let types = with_2::<A, B>(Vec::new(alloc))?;
-        Ok(tuple_info(types)?)
+        tuple_of(with_2::<A, B>(no_types(alloc)))
     }
 }
 
@@ -97,9 +120,8 @@ impl<A: TypeInfo, B: TypeInfo, C: TypeInfo> TypeInfo for (A, B, C) {
         ∷ []) };
 
     fn type_info(alloc: Global) -> Result<Type, InfoError> {
-        let types = with_2::<A, B>(Vec::new(alloc))?;
-        let types = with_1::<C>(types)?;
-        Ok(tuple_info(types)?)
+        let types = with_2::<A, B>(no_types(alloc));
+        tuple_of(with_1::<C>(types))
     }
 }
 
@@ -108,8 +130,7 @@ impl<A: TypeInfo, B: TypeInfo, C: TypeInfo, D: TypeInfo> TypeInfo for (A, B, C, 
         ∷ D.Identity.own ∷ []) };
 
     fn type_info(alloc: Global) -> Result<Type, InfoError> {
-        let types = with_4::<A, B, C, D>(Vec::new(alloc))?;
-        Ok(tuple_info(types)?)
+        tuple_of(with_4::<A, B, C, D>(no_types(alloc)))
     }
 }
 
@@ -118,9 +139,8 @@ impl<A: TypeInfo, B: TypeInfo, C: TypeInfo, D: TypeInfo, E: TypeInfo> TypeInfo f
         ∷ D.Identity.own ∷ E.Identity.own ∷ []) };
 
     fn type_info(alloc: Global) -> Result<Type, InfoError> {
-        let types = with_4::<A, B, C, D>(Vec::new(alloc))?;
-        let types = with_1::<E>(types)?;
-        Ok(tuple_info(types)?)
+        let types = with_4::<A, B, C, D>(no_types(alloc));
+        tuple_of(with_1::<E>(types))
     }
 }
 
@@ -130,9 +150,8 @@ impl<A: TypeInfo, B: TypeInfo, C: TypeInfo, D: TypeInfo, E: TypeInfo, F: TypeInf
         ∷ D.Identity.own ∷ E.Identity.own ∷ F.Identity.own ∷ []) };
 
     fn type_info(alloc: Global) -> Result<Type, InfoError> {
-        let types = with_4::<A, B, C, D>(Vec::new(alloc))?;
-        let types = with_2::<E, F>(types)?;
-        Ok(tuple_info(types)?)
+        let types = with_4::<A, B, C, D>(no_types(alloc));
+        tuple_of(with_2::<E, F>(types))
     }
 }
 
@@ -149,10 +168,9 @@ impl<
         ∷ D.Identity.own ∷ E.Identity.own ∷ F.Identity.own ∷ G.Identity.own ∷ []) };
 
     fn type_info(alloc: Global) -> Result<Type, InfoError> {
-        let types = with_4::<A, B, C, D>(Vec::new(alloc))?;
-        let types = with_2::<E, F>(types)?;
-        let types = with_1::<G>(types)?;
-        Ok(tuple_info(types)?)
+        let types = with_4::<A, B, C, D>(no_types(alloc));
+        let types = with_2::<E, F>(types);
+        tuple_of(with_1::<G>(types))
     }
 }
 
@@ -171,8 +189,7 @@ impl<
         ∷ []) };
 
     fn type_info(alloc: Global) -> Result<Type, InfoError> {
-        let types = with_8::<A, B, C, D, E, F, G, H>(Vec::new(alloc))?;
-        Ok(tuple_info(types)?)
+        tuple_of(with_8::<A, B, C, D, E, F, G, H>(no_types(alloc)))
     }
 }
 
@@ -192,9 +209,8 @@ impl<
         ∷ I.Identity.own ∷ []) };
 
     fn type_info(alloc: Global) -> Result<Type, InfoError> {
-        let types = with_8::<A, B, C, D, E, F, G, H>(Vec::new(alloc))?;
-        let types = with_1::<I>(types)?;
-        Ok(tuple_info(types)?)
+        let types = with_8::<A, B, C, D, E, F, G, H>(no_types(alloc));
+        tuple_of(with_1::<I>(types))
     }
 }
 
@@ -215,9 +231,8 @@ impl<
         ∷ I.Identity.own ∷ J.Identity.own ∷ []) };
 
     fn type_info(alloc: Global) -> Result<Type, InfoError> {
-        let types = with_8::<A, B, C, D, E, F, G, H>(Vec::new(alloc))?;
-        let types = with_2::<I, J>(types)?;
-        Ok(tuple_info(types)?)
+        let types = with_8::<A, B, C, D, E, F, G, H>(no_types(alloc));
+        tuple_of(with_2::<I, J>(types))
     }
 }
 
@@ -239,10 +254,9 @@ impl<
         ∷ I.Identity.own ∷ J.Identity.own ∷ K.Identity.own ∷ []) };
 
     fn type_info(alloc: Global) -> Result<Type, InfoError> {
-        let types = with_8::<A, B, C, D, E, F, G, H>(Vec::new(alloc))?;
-        let types = with_2::<I, J>(types)?;
-        let types = with_1::<K>(types)?;
-        Ok(tuple_info(types)?)
+        let types = with_8::<A, B, C, D, E, F, G, H>(no_types(alloc));
+        let types = with_2::<I, J>(types);
+        tuple_of(with_1::<K>(types))
     }
 }
 
@@ -265,9 +279,8 @@ impl<
         ∷ I.Identity.own ∷ J.Identity.own ∷ K.Identity.own ∷ L.Identity.own ∷ []) };
 
     fn type_info(alloc: Global) -> Result<Type, InfoError> {
-        let types = with_8::<A, B, C, D, E, F, G, H>(Vec::new(alloc))?;
-        let types = with_4::<I, J, K, L>(types)?;
-        Ok(tuple_info(types)?)
+        let types = with_8::<A, B, C, D, E, F, G, H>(no_types(alloc));
+        tuple_of(with_4::<I, J, K, L>(types))
     }
 }
 
@@ -292,10 +305,9 @@ impl<
         ∷ []) };
 
     fn type_info(alloc: Global) -> Result<Type, InfoError> {
-        let types = with_8::<A, B, C, D, E, F, G, H>(Vec::new(alloc))?;
-        let types = with_4::<I, J, K, L>(types)?;
-        let types = with_1::<M>(types)?;
-        Ok(tuple_info(types)?)
+        let types = with_8::<A, B, C, D, E, F, G, H>(no_types(alloc));
+        let types = with_4::<I, J, K, L>(types);
+        tuple_of(with_1::<M>(types))
     }
 }
 
@@ -321,10 +333,9 @@ impl<
         ∷ N.Identity.own ∷ []) };
 
     fn type_info(alloc: Global) -> Result<Type, InfoError> {
-        let types = with_8::<A, B, C, D, E, F, G, H>(Vec::new(alloc))?;
-        let types = with_4::<I, J, K, L>(types)?;
-        let types = with_2::<M, N>(types)?;
-        Ok(tuple_info(types)?)
+        let types = with_8::<A, B, C, D, E, F, G, H>(no_types(alloc));
+        let types = with_4::<I, J, K, L>(types);
+        tuple_of(with_2::<M, N>(types))
     }
 }
 
@@ -351,11 +362,10 @@ impl<
         ∷ N.Identity.own ∷ O.Identity.own ∷ []) };
 
     fn type_info(alloc: Global) -> Result<Type, InfoError> {
-        let types = with_8::<A, B, C, D, E, F, G, H>(Vec::new(alloc))?;
-        let types = with_4::<I, J, K, L>(types)?;
-        let types = with_2::<M, N>(types)?;
-        let types = with_1::<O>(types)?;
-        Ok(tuple_info(types)?)
+        let types = with_8::<A, B, C, D, E, F, G, H>(no_types(alloc));
+        let types = with_4::<I, J, K, L>(types);
+        let types = with_2::<M, N>(types);
+        tuple_of(with_1::<O>(types))
     }
 }
 
@@ -383,9 +393,8 @@ impl<
         ∷ N.Identity.own ∷ O.Identity.own ∷ P.Identity.own ∷ []) };
 
     fn type_info(alloc: Global) -> Result<Type, InfoError> {
-        let types = with_8::<A, B, C, D, E, F, G, H>(Vec::new(alloc))?;
-        let types = with_8::<I, J, K, L, M, N, O, P>(types)?;
-        Ok(tuple_info(types)?)
+        let types = with_8::<A, B, C, D, E, F, G, H>(no_types(alloc));
+        tuple_of(with_8::<I, J, K, L, M, N, O, P>(types))
     }
 }
 
@@ -414,10 +423,9 @@ impl<
         ∷ N.Identity.own ∷ O.Identity.own ∷ P.Identity.own ∷ Q.Identity.own ∷ []) };
 
     fn type_info(alloc: Global) -> Result<Type, InfoError> {
-        let types = with_8::<A, B, C, D, E, F, G, H>(Vec::new(alloc))?;
-        let types = with_8::<I, J, K, L, M, N, O, P>(types)?;
-        let types = with_1::<Q>(types)?;
-        Ok(tuple_info(types)?)
+        let types = with_8::<A, B, C, D, E, F, G, H>(no_types(alloc));
+        let types = with_8::<I, J, K, L, M, N, O, P>(types);
+        tuple_of(with_1::<Q>(types))
     }
 }
 
@@ -448,10 +456,9 @@ impl<
         ∷ []) };
 
     fn type_info(alloc: Global) -> Result<Type, InfoError> {
-        let types = with_8::<A, B, C, D, E, F, G, H>(Vec::new(alloc))?;
-        let types = with_8::<I, J, K, L, M, N, O, P>(types)?;
-        let types = with_2::<Q, R>(types)?;
-        Ok(tuple_info(types)?)
+        let types = with_8::<A, B, C, D, E, F, G, H>(no_types(alloc));
+        let types = with_8::<I, J, K, L, M, N, O, P>(types);
+        tuple_of(with_2::<Q, R>(types))
     }
 }
 
@@ -483,11 +490,10 @@ impl<
         ∷ S.Identity.own ∷ []) };
 
     fn type_info(alloc: Global) -> Result<Type, InfoError> {
-        let types = with_8::<A, B, C, D, E, F, G, H>(Vec::new(alloc))?;
-        let types = with_8::<I, J, K, L, M, N, O, P>(types)?;
-        let types = with_2::<Q, R>(types)?;
-        let types = with_1::<S>(types)?;
-        Ok(tuple_info(types)?)
+        let types = with_8::<A, B, C, D, E, F, G, H>(no_types(alloc));
+        let types = with_8::<I, J, K, L, M, N, O, P>(types);
+        let types = with_2::<Q, R>(types);
+        tuple_of(with_1::<S>(types))
     }
 }
 
@@ -520,9 +526,8 @@ impl<
         ∷ S.Identity.own ∷ T.Identity.own ∷ []) };
 
     fn type_info(alloc: Global) -> Result<Type, InfoError> {
-        let types = with_8::<A, B, C, D, E, F, G, H>(Vec::new(alloc))?;
-        let types = with_8::<I, J, K, L, M, N, O, P>(types)?;
-        let types = with_4::<Q, R, S, T>(types)?;
-        Ok(tuple_info(types)?)
+        let types = with_8::<A, B, C, D, E, F, G, H>(no_types(alloc));
+        let types = with_8::<I, J, K, L, M, N, O, P>(types);
+        tuple_of(with_4::<Q, R, S, T>(types))
     }
 }

@@ -1,9 +1,8 @@
 use Rattle.std.proofs.Common.{rules, ◌≡◌, ◌∙◌, ◌++◌, false, ap, map, sym}
 use Rattle.std.proofs.lemmas.List.{map-append}
 use Rattle.std.specs.Prelude.{if◌then◌else◌, [], ◌∷◌}
-use Rattle.scale_info_types.specs.MetaDescriptions.{type_term}
 use Rattle.scale_info_types.specs.Phantoms.{is_phantom}
-use Rattle.scale_info_type_info.specs.StandardTypes.{kept, meta_field}
+use Rattle.scale_info_type_info.specs.StandardTypes.{meta_field}
 use Rattle.scale_info_type_info.proofs.impls.parts.keep.Goals as goal
 
 pub returns : goal.returns

@@ -1,5 +1,4 @@
-use Rattle.std.proofs.Common.{rules}
 use Rattle.scale_info_type_info.proofs.impls.tuples.Tuple3TypeInfo.type_info.Goals as goal
 
 pub returns-clause-ok : goal.returns-clause-ok
-returns-clause-ok g c = search rules
+returns-clause-ok g c = c.tuple_of.ensures.ok _ (c.with_1.ensures _ (c.with_2-types.ensures _ c.no_types.ensures))
