@@ -11,14 +11,14 @@ use type_refusals_tables::calls as calls_of_tables;
 
 /// Makes the call of a line.
 fn outcome(rt: &HostRuntime, name: &str, input: &str) -> Result<Outcome, Fail> {
-    if let Some(outcome) = calls_of_tables::call(rt, name, input)? {
-        return Ok(outcome);
+    if let Some(outcome) = calls_of_tables::call(rt, name, input) {
+        return outcome;
     }
-    if let Some(outcome) = calls_of_parts::call(rt, name, input)? {
-        return Ok(outcome);
+    if let Some(outcome) = calls_of_parts::call(rt, name, input) {
+        return outcome;
     }
-    if let Some(outcome) = calls_of_builders::call(rt, name, input)? {
-        return Ok(outcome);
+    if let Some(outcome) = calls_of_builders::call(rt, name, input) {
+        return outcome;
     }
     Err(Fail::new("no call has this name"))
 }

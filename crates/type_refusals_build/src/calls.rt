@@ -4,16 +4,16 @@ use std::test::Fail;
 use type_refusals_common::outcomes::Outcome;
 
 /// Makes the call of this name; None if there is none.
-pub fn call(rt: &HostRuntime, name: &str, input: &str) -> Result<Option<Outcome>, Fail> {
+pub fn call(rt: &HostRuntime, name: &str, input: &str) -> Option<Result<Outcome, Fail>> {
     let outcome = match name {
-        "field" => field(rt, input)?,
-        "variant" => variant(rt, input)?,
-        "TypeBuilder::docs" => descriptions::docs(rt)?,
-        "list" => list(rt, input)?,
-        "build_empty" => empty(rt, input)?,
+        "field" => field(rt, input),
+        "variant" => variant(rt, input),
+        "TypeBuilder::docs" => descriptions::docs(rt),
+        "list" => list(rt, input),
+        "build_empty" => empty(rt, input),
         _ => return call_of_constructors(rt, name, input),
     };
-    Ok(Some(outcome))
+    Some(outcome)
 }
 
 /// Makes the call of this name that makes a definition or a description; None if there is none.
@@ -21,31 +21,31 @@ fn call_of_constructors(
     rt: &HostRuntime,
     name: &str,
     input: &str,
-) -> Result<Option<Outcome>, Fail> {
+) -> Option<Result<Outcome, Fail>> {
     let outcome = match name {
-        "Type::new" => constructors::description(rt, input)?,
-        "Type::new_portable" => constructors::portable_description(rt)?,
-        "TypeDefComposite::new" => constructors::composite(rt)?,
-        "TypeDefVariant::new" => constructors::variants(rt)?,
-        "TypeDefTuple::new" => constructors::tuple(rt)?,
-        "TypeDefTuple::new_portable" => constructors::portable_tuple(rt)?,
-        "TypeDefBitSequence::new" => constructors::bit_sequence(rt, input)?,
+        "Type::new" => constructors::description(rt, input),
+        "Type::new_portable" => constructors::portable_description(rt),
+        "TypeDefComposite::new" => constructors::composite(rt),
+        "TypeDefVariant::new" => constructors::variants(rt),
+        "TypeDefTuple::new" => constructors::tuple(rt),
+        "TypeDefTuple::new_portable" => constructors::portable_tuple(rt),
+        "TypeDefBitSequence::new" => constructors::bit_sequence(rt, input),
         _ => return call_of_paths(rt, name, input),
     };
-    Ok(Some(outcome))
+    Some(outcome)
 }
 
 /// Makes the call of this name that makes a path; None if there is none.
-fn call_of_paths(rt: &HostRuntime, name: &str, input: &str) -> Result<Option<Outcome>, Fail> {
+fn call_of_paths(rt: &HostRuntime, name: &str, input: &str) -> Option<Result<Outcome, Fail>> {
     let outcome = match name {
-        "Path::new" => paths::new(rt, input)?,
-        "Path::new_with_replace" => paths::new_with_replace(rt, input)?,
-        "Path::from_segments" => paths::from_segments(rt, input)?,
-        "Path::from_segments_unchecked" => paths::from_segments_unchecked(rt)?,
-        "Path::ident" => paths::ident(rt)?,
-        _ => return Ok(None),
+        "Path::new" => paths::new(rt, input),
+        "Path::new_with_replace" => paths::new_with_replace(rt, input),
+        "Path::from_segments" => paths::from_segments(rt, input),
+        "Path::from_segments_unchecked" => paths::from_segments_unchecked(rt),
+        "Path::ident" => paths::ident(rt),
+        _ => return None,
     };
-    Ok(Some(outcome))
+    Some(outcome)
 }
 
 /// Adds a field of this kind, or gives it its type.

@@ -10,63 +10,59 @@ use type_refusals_common::outcomes::Outcome;
 use type_refusals_common::types::{
     demo_path, description_named, documented_field, documented_variant, parameters,
 };
+use type_vectors_common::lists::{list_of, with};
 use type_vectors_common::parts;
 
 /// Makes a description of the kind of this name.
 pub fn description(rt: &HostRuntime, name: &str) -> Result<Outcome, Fail> {
     let alloc = rt.alloc();
+    let def = description_named(alloc, name)?.type_def;
     let (path, params) = (demo_path(alloc)?, parameters(alloc)?);
-    let (def, docs) = (
-        description_named(alloc, name)?.type_def,
-        vec![in alloc; "d"]?,
-    );
+    let docs = list_of(alloc, "d")?;
     begin(rt);
     let returned = Type::new(alloc, path, params, def, docs);
     end(rt);
-    Ok(Outcome::of(registered(alloc, returned)?))
+    Outcome::of(registered(alloc, returned))
 }
 
 /// Makes a portable description.
 pub fn portable_description(rt: &HostRuntime) -> Result<Outcome, Fail> {
     let alloc = rt.alloc();
     let path = parts::path(alloc, &["p", "q"])?;
-    let params = vec![in alloc; parts::parameter(alloc, "T", Some(7))?]?;
+    let params = list_of(alloc, parts::parameter(alloc, "T", Some(7))?)?;
     let docs = parts::texts(alloc, &["d", "e"])?;
     begin(rt);
     let returned = Type::<PortableForm>::new(alloc, path, params, parts::sequence(2), docs);
     end(rt);
-    Ok(Outcome::of(encoded(alloc, returned)?))
+    Outcome::of(encoded(alloc, returned))
 }
 
 /// Makes the definition of a composite.
 pub fn composite(rt: &HostRuntime) -> Result<Outcome, Fail> {
-    let fields = vec![in rt.alloc(); documented_field(rt.alloc())?]?;
+    let fields = list_of(rt.alloc(), documented_field(rt.alloc())?)?;
     begin(rt);
     let returned = TypeDefComposite::new(rt.alloc(), fields);
     end(rt);
-    Ok(Outcome::of(registered(rt.alloc(), returned)?))
+    Outcome::of(registered(rt.alloc(), returned))
 }
 
 /// Makes the definition of an enum.
 pub fn variants(rt: &HostRuntime) -> Result<Outcome, Fail> {
-    let variants = vec![in rt.alloc(); documented_variant(rt.alloc())?]?;
+    let variants = list_of(rt.alloc(), documented_variant(rt.alloc())?)?;
     begin(rt);
     let returned = TypeDefVariant::new(rt.alloc(), variants);
     end(rt);
-    Ok(Outcome::of(registered(rt.alloc(), returned)?))
+    Outcome::of(registered(rt.alloc(), returned))
 }
 
 /// Makes the definition of a tuple of types of the program.
 pub fn tuple(rt: &HostRuntime) -> Result<Outcome, Fail> {
-    let alloc = rt.alloc();
-    let members = vec![in alloc;
-        MetaType::new::<Vec<u32>>(alloc)?,
-        MetaType::new::<bool>(alloc)?,
-    ]?;
+    let first = list_of(rt.alloc(), MetaType::new::<Vec<u32>>(rt.alloc())?);
+    let members = with(first, MetaType::new::<bool>(rt.alloc()))?;
     begin(rt);
-    let returned = TypeDefTuple::new(alloc, members);
+    let returned = TypeDefTuple::new(rt.alloc(), members);
     end(rt);
-    Ok(Outcome::of(registered(alloc, returned)?))
+    Outcome::of(registered(rt.alloc(), returned))
 }
 
 /// Makes the definition of a tuple of ids.
@@ -75,7 +71,7 @@ pub fn portable_tuple(rt: &HostRuntime) -> Result<Outcome, Fail> {
     begin(rt);
     let returned = TypeDefTuple::new_portable(rt.alloc(), members);
     end(rt);
-    Ok(Outcome::of(encoded(rt.alloc(), returned)?))
+    Outcome::of(encoded(rt.alloc(), returned))
 }
 
 /// Makes the definition of a sequence of bits.
@@ -86,5 +82,5 @@ pub fn bit_sequence(rt: &HostRuntime, name: &str) -> Result<Outcome, Fail> {
         _ => TypeDefBitSequence::new::<Vec<u32>, [u8; 32]>(rt.alloc()),
     };
     end(rt);
-    Ok(Outcome::of(registered(rt.alloc(), returned)?))
+    Outcome::of(registered(rt.alloc(), returned))
 }

@@ -27,7 +27,7 @@ pub fn docs(rt: &HostRuntime) -> Result<Outcome, Fail> {
         Ok(builder) => Ok(builder.path(path).composite(unit)),
         Err(error) => Err(error),
     };
-    Ok(Outcome::of(registered(rt.alloc(), ty)?))
+    Outcome::of(registered(rt.alloc(), ty))
 }
 
 /// Gives a description its path, its parameters and a composite.
@@ -40,7 +40,7 @@ pub fn composite(rt: &HostRuntime) -> Result<Outcome, Fail> {
         .type_params(params)
         .composite(unit);
     end(rt);
-    Ok(Outcome::of(registered(rt.alloc(), done(ty))?))
+    Outcome::of(registered(rt.alloc(), done(ty)))
 }
 
 /// Gives a description a path and an enum.
@@ -51,7 +51,7 @@ pub fn variants(rt: &HostRuntime) -> Result<Outcome, Fail> {
         .path(path)
         .variant(Variants::new(rt.alloc()));
     end(rt);
-    Ok(Outcome::of(registered(rt.alloc(), done(ty))?))
+    Outcome::of(registered(rt.alloc(), done(ty)))
 }
 
 /// Gives a portable description a path and a composite.
@@ -63,7 +63,7 @@ pub fn portable(rt: &HostRuntime) -> Result<Outcome, Fail> {
         .path(path)
         .composite(unit);
     end(rt);
-    Ok(Outcome::of(encoded(rt.alloc(), done(ty))?))
+    Outcome::of(encoded(rt.alloc(), done(ty)))
 }
 
 /// Makes the tuple without members.
@@ -71,5 +71,5 @@ pub fn unit(rt: &HostRuntime) -> Result<Outcome, Fail> {
     begin(rt);
     let def = TypeDefTuple::unit(rt.alloc());
     end(rt);
-    Ok(Outcome::of(registered(rt.alloc(), done(def))?))
+    Outcome::of(registered(rt.alloc(), done(def)))
 }

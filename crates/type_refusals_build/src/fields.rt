@@ -4,7 +4,7 @@ use scale_info::form::{Form, MetaForm, PortableForm};
 use scale_info::{Field, TypeDefComposite};
 use std::alloc::AllocError;
 use std::test::Fail;
-use type_refusals_common::answers::{Answer, digits, encoded, registered};
+use type_refusals_common::answers::{digits, done, encoded, registered};
 use type_refusals_common::marks::{begin, end};
 use type_refusals_common::outcomes::Outcome;
 use type_vectors_common::parts::text;
@@ -29,7 +29,7 @@ pub fn named(rt: &HostRuntime) -> Result<Outcome, Fail> {
         |f| f.name("data").type_name("T").ty::<Vec<u32>>(alloc),
     );
     end(rt);
-    Ok(Outcome::of(registered(alloc, composite(returned))?))
+    Outcome::of(registered(alloc, composite(returned)))
 }
 
 /// Adds a field without a name.
@@ -39,7 +39,7 @@ pub fn unnamed(rt: &HostRuntime) -> Result<Outcome, Fail> {
     begin(rt);
     let returned = fields.field(alloc, |f| f.ty::<[u8; 32]>(alloc));
     end(rt);
-    Ok(Outcome::of(registered(alloc, composite(returned))?))
+    Outcome::of(registered(alloc, composite(returned)))
 }
 
 /// Adds a field with a name and an id.
@@ -49,7 +49,7 @@ pub fn portable_named(rt: &HostRuntime) -> Result<Outcome, Fail> {
     begin(rt);
     let returned = fields.field_portable(rt.alloc(), |f| Ok(f.name(name).ty(3)));
     end(rt);
-    Ok(Outcome::of(encoded(rt.alloc(), composite(returned))?))
+    Outcome::of(encoded(rt.alloc(), composite(returned)))
 }
 
 /// Adds a field with an id and without a name.
@@ -58,7 +58,7 @@ pub fn portable_unnamed(rt: &HostRuntime) -> Result<Outcome, Fail> {
     begin(rt);
     let returned = fields.field_portable(rt.alloc(), |f| Ok(f.ty(3)));
     end(rt);
-    Ok(Outcome::of(encoded(rt.alloc(), composite(returned))?))
+    Outcome::of(encoded(rt.alloc(), composite(returned)))
 }
 
 /// Gives a field its type.
@@ -71,7 +71,7 @@ pub fn ty(rt: &HostRuntime) -> Result<Outcome, Fail> {
         Ok(built) => Ok(built.finalize(alloc)),
         Err(error) => Err(error),
     };
-    Ok(Outcome::of(registered(alloc, field)?))
+    Outcome::of(registered(alloc, field))
 }
 
 /// Gives a field its parts by moves alone.
@@ -85,7 +85,7 @@ pub fn moved(rt: &HostRuntime) -> Result<Outcome, Fail> {
         .ty(3)
         .finalize(rt.alloc());
     end(rt);
-    Ok(Outcome::of(Answer::Done(digits(rt.alloc(), &field)?)))
+    Outcome::of(done(digits(rt.alloc(), &field)))
 }
 
 /// Begins lists of fields, and ends one.
@@ -97,5 +97,5 @@ pub fn empty(rt: &HostRuntime) -> Result<Outcome, Fail> {
     end(rt);
     let (named, unnamed) = (digits(rt.alloc(), &named)?, digits(rt.alloc(), &unnamed)?);
     let unit = digits(rt.alloc(), &unit)?;
-    Ok(Outcome::of(Answer::Done(format!(in rt.alloc(); "{named} {unnamed} {unit}")?)))
+    Outcome::of(done(format!(in rt.alloc(); "{named} {unnamed} {unit}")))
 }

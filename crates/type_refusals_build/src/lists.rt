@@ -15,14 +15,14 @@ fn shown_types(
 ) -> Result<Outcome, Fail> {
     let types = match returned {
         Ok(types) => types,
-        Err(error) => return Ok(Outcome::of(failed(alloc, &error)?)),
+        Err(error) => return Outcome::of(failed(alloc, &error)),
     };
     let mut text = String::new(alloc);
     for ty in &types {
         let id = ty.type_id();
         text.push_str(format!(in alloc; "{id:?} ")?.as_str())?;
     }
-    Ok(Outcome::of(Answer::Done(text)))
+    Outcome::of(Ok(Answer::Done(text)))
 }
 
 /// The names and the identities of parameters, or the error.
@@ -32,14 +32,14 @@ fn shown_parameters(
 ) -> Result<Outcome, Fail> {
     let params = match returned {
         Ok(params) => params,
-        Err(error) => return Ok(Outcome::of(failed(alloc, &error)?)),
+        Err(error) => return Outcome::of(failed(alloc, &error)),
     };
     let mut text = String::new(alloc);
     for param in &params {
         let (name, id) = (*param.name(), param.ty().map(|ty| ty.type_id()));
         text.push_str(format!(in alloc; "{name} {id:?} ")?.as_str())?;
     }
-    Ok(Outcome::of(Answer::Done(text)))
+    Outcome::of(Ok(Answer::Done(text)))
 }
 
 /// Lists types.

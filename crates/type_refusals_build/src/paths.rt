@@ -11,7 +11,7 @@ fn made(rt: &HostRuntime, ident: &'static str, module_path: &'static str) -> Res
     begin(rt);
     let returned = Path::new(rt.alloc(), ident, module_path);
     end(rt);
-    Ok(Outcome::of(registered(rt.alloc(), returned)?))
+    Outcome::of(registered(rt.alloc(), returned))
 }
 
 /// Makes the path of this name.
@@ -33,7 +33,7 @@ fn made_with_replace(
     begin(rt);
     let returned = Path::new_with_replace(rt.alloc(), ident, module_path, pairs);
     end(rt);
-    Ok(Outcome::of(registered(rt.alloc(), returned)?))
+    Outcome::of(registered(rt.alloc(), returned))
 }
 
 /// Makes the path of this name, with segments replaced.
@@ -56,7 +56,7 @@ fn checked(rt: &HostRuntime, segments: Vec<&'static str>) -> Result<Outcome, Fai
     begin(rt);
     let returned = Path::from_segments(rt.alloc(), segments);
     end(rt);
-    Ok(Outcome::of(registered(rt.alloc(), returned)?))
+    Outcome::of(registered(rt.alloc(), returned))
 }
 
 /// Makes the path of this name out of its segments.
@@ -74,7 +74,7 @@ pub fn from_segments_unchecked(rt: &HostRuntime) -> Result<Outcome, Fail> {
     begin(rt);
     let returned = Path::from_segments_unchecked(rt.alloc(), segments);
     end(rt);
-    Ok(Outcome::of(encoded(rt.alloc(), returned)?))
+    Outcome::of(encoded(rt.alloc(), returned))
 }
 
 /// Asks a portable path for its last segment.
@@ -83,5 +83,5 @@ pub fn ident(rt: &HostRuntime) -> Result<Outcome, Fail> {
     begin(rt);
     let returned = path.ident(rt.alloc());
     end(rt);
-    Ok(Outcome::of(shown(rt.alloc(), returned)?))
+    Outcome::of(shown(rt.alloc(), returned))
 }

@@ -4,7 +4,7 @@ use scale_info::form::{MetaForm, PortableForm};
 use scale_info::{Items, TypeDefComposite, TypeDefVariant};
 use std::alloc::AllocError;
 use std::test::Fail;
-use type_refusals_common::answers::{Answer, digits, registered};
+use type_refusals_common::answers::{digits, done, registered};
 use type_refusals_common::marks::{begin, end};
 use type_refusals_common::outcomes::Outcome;
 use type_vectors_common::parts::text;
@@ -30,7 +30,7 @@ pub fn variant(rt: &HostRuntime) -> Result<Outcome, Fail> {
         )
     });
     end(rt);
-    Ok(Outcome::of(registered(alloc, enumeration(returned))?))
+    Outcome::of(registered(alloc, enumeration(returned)))
 }
 
 /// Adds a variant without fields.
@@ -39,7 +39,7 @@ pub fn variant_unit(rt: &HostRuntime) -> Result<Outcome, Fail> {
     begin(rt);
     let returned = variants.variant_unit(rt.alloc(), "None", 0);
     end(rt);
-    Ok(Outcome::of(registered(rt.alloc(), enumeration(returned))?))
+    Outcome::of(registered(rt.alloc(), enumeration(returned)))
 }
 
 /// Gives a variant its index and its fields.
@@ -54,11 +54,8 @@ pub fn moved(rt: &HostRuntime) -> Result<Outcome, Fail> {
     begin(rt);
     let built = builder.index(7).fields(fields);
     end(rt);
-    let fields = digits(
-        rt.alloc(),
-        &TypeDefComposite::<PortableForm> {
-            fields: built.fields,
-        },
-    )?;
-    Ok(Outcome::of(Answer::Done(fields)))
+    let fields = TypeDefComposite::<PortableForm> {
+        fields: built.fields,
+    };
+    Outcome::of(done(digits(rt.alloc(), &fields)))
 }

@@ -1,9 +1,8 @@
 //! What a call returned, as a text.
 use crate::types::catalogue;
 use scale_info::{IntoPortable, Registry, Scale};
-use std::alloc::Global;
+use std::alloc::{AllocError, Global};
 use std::fmt::Debug;
-use std::test::Fail;
 
 /// What a call returned.
 #[derive(Drop)]
@@ -14,8 +13,13 @@ pub enum Answer {
     Failed(String),
 }
 
+/// The answer that this text shows.
+pub fn done(text: Result<String, AllocError>) -> Result<Answer, AllocError> {
+    Ok(Answer::Done(text?))
+}
+
 /// The answer of this error.
-pub fn failed<E: Debug>(alloc: Global, error: &E) -> Result<Answer, Fail> {
+pub fn failed<E: Debug>(alloc: Global, error: &E) -> Result<Answer, AllocError> {
     Ok(Answer::Failed(format!(in alloc; "{error:?}")?))
 }
 
@@ -23,46 +27,57 @@ pub fn failed<E: Debug>(alloc: Global, error: &E) -> Result<Answer, Fail> {
 pub fn shown<T: Debug + Drop, E: Debug + Drop>(
     alloc: Global,
     returned: Result<T, E>,
-) -> Result<Answer, Fail> {
+) -> Result<Answer, AllocError> {
     match returned {
-        Ok(value) => Ok(Answer::Done(format!(in alloc; "{value:?}")?)),
+        Ok(value) => done(format!(in alloc; "{value:?}")),
         Err(error) => failed(alloc, &error),
     }
 }
 
-/// The encoding of a value in hexadecimal.
-pub fn digits<T: Scale>(alloc: Global, value: &T) -> Result<String, Fail> {
+/// The encoding of a value in hexadecimal; of a value without an encoding the error.
+pub fn digits<T: Scale>(alloc: Global, value: &T) -> Result<String, AllocError> {
     let mut bytes = Vec::new(alloc);
-    value.encode_to(&mut bytes)?;
-    Ok(hex::encode(alloc, bytes.as_slice())?)
+    match value.encode_to(&mut bytes) {
+        Ok(()) => hex::encode(alloc, bytes.as_slice()),
+        Err(error) => format!(in alloc; "{error:?}"),
+    }
 }
 
 /// The answer of a portable value, which is shown by its encoding, or of an error.
 pub fn encoded<T: Scale, E: Debug + Drop>(
     alloc: Global,
     returned: Result<T, E>,
-) -> Result<Answer, Fail> {
+) -> Result<Answer, AllocError> {
     match returned {
-        Ok(value) => Ok(Answer::Done(digits(alloc, &value)?)),
+        Ok(value) => done(digits(alloc, &value)),
         Err(error) => failed(alloc, &error),
     }
 }
 
-/// The answer of a value that holds types, which is shown by the encoding of its portable form, or
-/// of an error.
+/// The answer of a value that holds types, which is shown by the encoding of its portable form.
+fn converted<T: IntoPortable + Drop>(alloc: Global, value: T) -> Result<Answer, AllocError>
+where
+    T::Output: Scale,
+{
+    match catalogue(alloc) {
+        Ok(known) => {
+            let mut registry = Registry::new(alloc);
+            encoded(alloc, value.into_portable(&mut registry, &known))
+        }
+        Err(error) => failed(alloc, &error),
+    }
+}
+
+/// The answer of a value that holds types, or of an error.
 pub fn registered<T: IntoPortable + Drop, E: Debug + Drop>(
     alloc: Global,
     returned: Result<T, E>,
-) -> Result<Answer, Fail>
+) -> Result<Answer, AllocError>
 where
     T::Output: Scale,
 {
     match returned {
-        Ok(value) => {
-            let mut registry = Registry::new(alloc);
-            let portable = value.into_portable(&mut registry, &catalogue(alloc)?)?;
-            Ok(Answer::Done(digits(alloc, &portable)?))
-        }
+        Ok(value) => converted(alloc, value),
         Err(error) => failed(alloc, &error),
     }
 }

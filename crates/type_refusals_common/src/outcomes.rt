@@ -1,6 +1,8 @@
 //! What a call did, as lines.
 use crate::answers::Answer;
+use std::alloc::AllocError;
 use std::io;
+use std::test::Fail;
 
 /// What a call did.
 #[derive(Drop)]
@@ -15,21 +17,32 @@ pub struct Outcome {
 
 impl Outcome {
     /// The outcome of a call to which nothing is lent for writing.
-    pub fn of(answer: Answer) -> Outcome {
-        Outcome {
+    pub fn of(answer: Result<Answer, AllocError>) -> Result<Outcome, Fail> {
+        Ok(Outcome {
             lent: None,
             asked: None,
-            answer,
-        }
+            answer: answer?,
+        })
     }
 
     /// The outcome of a call to which something is lent.
-    pub fn lending(before: String, after: String, answer: Answer) -> Outcome {
-        Outcome {
-            lent: Some((before, after)),
+    pub fn lending(
+        before: Result<String, AllocError>,
+        after: Result<String, AllocError>,
+        answer: Result<Answer, AllocError>,
+    ) -> Result<Outcome, Fail> {
+        Ok(Outcome {
+            lent: Some((before?, after?)),
             asked: None,
-            answer,
-        }
+            answer: answer?,
+        })
+    }
+
+    /// The outcome of a call whose filter was asked so often.
+    pub fn asking(outcome: Result<Outcome, Fail>, asked: usize) -> Result<Outcome, Fail> {
+        let mut outcome = outcome?;
+        outcome.asked = Some(asked);
+        Ok(outcome)
     }
 }
 

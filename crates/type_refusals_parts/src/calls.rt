@@ -4,57 +4,57 @@ use std::test::Fail;
 use type_refusals_common::outcomes::Outcome;
 
 /// Makes the call of this name; None if there is none.
-pub fn call(rt: &HostRuntime, name: &str, input: &str) -> Result<Option<Outcome>, Fail> {
+pub fn call(rt: &HostRuntime, name: &str, input: &str) -> Option<Result<Outcome, Fail>> {
     let outcome = match name {
-        "type_id" => identities::type_id(rt, input)?,
-        "type_info" => identities::type_info(rt, input)?,
-        "MetaType::new" => identities::new(rt, input)?,
-        "meta_type" => identities::meta_type_of(rt, input)?,
-        "TypeDefSequence::of" => identities::sequence_of(rt, input)?,
-        "Catalogue::add" => catalogues::add(rt, input)?,
-        "add_described" => catalogues::add_described(rt, input)?,
-        "add_first_described" => catalogues::add_first_described(rt, input)?,
-        "add_described_again" => catalogues::add_described_again(rt, input)?,
-        "look_at_catalogue" => catalogues::look(rt, input)?,
+        "type_id" => identities::type_id(rt, input),
+        "type_info" => identities::type_info(rt, input),
+        "MetaType::new" => identities::new(rt, input),
+        "meta_type" => identities::meta_type_of(rt, input),
+        "TypeDefSequence::of" => identities::sequence_of(rt, input),
+        "Catalogue::add" => catalogues::add(rt, input),
+        "add_described" => catalogues::add_described(rt, input),
+        "add_first_described" => catalogues::add_first_described(rt, input),
+        "add_described_again" => catalogues::add_described_again(rt, input),
+        "look_at_catalogue" => catalogues::look(rt, input),
         _ => return call_of_copies(rt, name, input),
     };
-    Ok(Some(outcome))
+    Some(outcome)
 }
 
 /// Makes the call of this name that copies; None if there is none.
-fn call_of_copies(rt: &HostRuntime, name: &str, input: &str) -> Result<Option<Outcome>, Fail> {
+fn call_of_copies(rt: &HostRuntime, name: &str, input: &str) -> Option<Result<Outcome, Fail>> {
     let outcome = match name {
-        "try_clone_portable" => copies::portable_part(rt, input)?,
-        "try_clone_meta" => copies::meta_part(rt, input)?,
-        "MetaType::try_clone" => copies::meta_type(rt, input)?,
-        "TypeId::try_clone" => copies::identity(rt, input)?,
-        "Type::try_clone" => copies::meta_description(rt, input)?,
-        "TypeDef::try_clone" => copies::meta_definition(rt, input)?,
-        "try_clone_description" => copies::description(rt, input)?,
-        "try_clone_definition" => copies::definition(rt, input)?,
-        "Items::try_clone" => copies::list(rt, input)?,
-        "Form::copy" => copies::by_form(rt, input)?,
+        "try_clone_portable" => copies::portable_part(rt, input),
+        "try_clone_meta" => copies::meta_part(rt, input),
+        "MetaType::try_clone" => copies::meta_type(rt, input),
+        "TypeId::try_clone" => copies::identity(rt, input),
+        "Type::try_clone" => copies::meta_description(rt, input),
+        "TypeDef::try_clone" => copies::meta_definition(rt, input),
+        "try_clone_description" => copies::description(rt, input),
+        "try_clone_definition" => copies::definition(rt, input),
+        "Items::try_clone" => copies::list(rt, input),
+        "Form::copy" => copies::by_form(rt, input),
         _ => return call_of_looks(rt, name, input),
     };
-    Ok(Some(outcome))
+    Some(outcome)
 }
 
 /// Makes the call of this name on an interner, or that does not allocate; None if there is none.
-fn call_of_looks(rt: &HostRuntime, name: &str, input: &str) -> Result<Option<Outcome>, Fail> {
+fn call_of_looks(rt: &HostRuntime, name: &str, input: &str) -> Option<Result<Outcome, Fail>> {
     let outcome = match name {
-        "intern_or_get" => interners::intern_or_get(rt, input)?,
-        "intern_or_get_known" => interners::intern_or_get(rt, input)?,
-        "look_at_interner" => interners::look(rt, input)?,
-        "truncate_interner" => interners::truncate(rt)?,
-        "look_at_description" => looks::description(rt, input)?,
-        "compare_descriptions" => looks::compare(rt, input)?,
-        "compare_types" => looks::types(rt, input)?,
-        "is_rust_identifier" => looks::identifier(rt, input)?,
-        "look_at" => look_at(rt, input)?,
-        "move_into" => move_into(rt, input)?,
-        _ => return Ok(None),
+        "intern_or_get" => interners::intern_or_get(rt, input),
+        "intern_or_get_known" => interners::intern_or_get(rt, input),
+        "look_at_interner" => interners::look(rt, input),
+        "truncate_interner" => interners::truncate(rt),
+        "look_at_description" => looks::description(rt, input),
+        "compare_descriptions" => looks::compare(rt, input),
+        "compare_types" => looks::types(rt, input),
+        "is_rust_identifier" => looks::identifier(rt, input),
+        "look_at" => look_at(rt, input),
+        "move_into" => move_into(rt, input),
+        _ => return None,
     };
-    Ok(Some(outcome))
+    Some(outcome)
 }
 
 /// Asks a part of a description for its parts.

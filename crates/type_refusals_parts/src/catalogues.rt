@@ -5,7 +5,7 @@ use scale_info::{TypeId, TypeInfo};
 use std::alloc::{AllocError, Global};
 use std::ops::Range;
 use std::test::Fail;
-use type_refusals_common::answers::{Answer, shown};
+use type_refusals_common::answers::{Answer, done, shown};
 use type_refusals_common::marks::{begin, end};
 use type_refusals_common::outcomes::Outcome;
 use type_refusals_common::own::Missing;
@@ -27,7 +27,7 @@ fn fifteen(alloc: Global) -> Result<Catalogue, Fail> {
 
 /// How many descriptions a catalogue has, whether it has one of this identity, and how many of the
 /// fifteen it has.
-fn state(alloc: Global, known: &Catalogue, identity: &TypeId) -> Result<String, Fail> {
+fn state(alloc: Global, known: &Catalogue, identity: &TypeId) -> Result<String, AllocError> {
     let (len, new) = (known.len(), known.get(identity).is_some());
     let mut kept = 0u32;
     for number in 0..15 {
@@ -35,19 +35,19 @@ fn state(alloc: Global, known: &Catalogue, identity: &TypeId) -> Result<String, 
             kept = kept.saturating_add(1);
         }
     }
-    Ok(format!(in alloc; "{len} {new} {kept}")?)
+    format!(in alloc; "{len} {new} {kept}")
 }
 
 /// Adds a type.
 fn add_of<T: TypeInfo>(rt: &HostRuntime) -> Result<Outcome, Fail> {
     let mut known = fifteen(rt.alloc())?;
     let identity = T::Identity::type_id(rt.alloc())?;
-    let before = state(rt.alloc(), &known, &identity)?;
+    let before = state(rt.alloc(), &known, &identity);
     begin(rt);
     let returned = known.add::<T>();
     end(rt);
-    let after = state(rt.alloc(), &known, &identity)?;
-    Ok(Outcome::lending(before, after, shown(rt.alloc(), returned)?))
+    let after = state(rt.alloc(), &known, &identity);
+    Outcome::lending(before, after, shown(rt.alloc(), returned))
 }
 
 /// Adds the type of this name.
@@ -71,16 +71,16 @@ fn added(rt: &HostRuntime, known: &mut Catalogue, name: &str) -> Result<Answer, 
     begin(rt);
     let returned = known.add_described(identity, description);
     end(rt);
-    shown(rt.alloc(), returned)
+    Ok(shown(rt.alloc(), returned)?)
 }
 
 /// Adds the description of this name under an identity, and says what is lent and returned.
 fn add_to(rt: &HostRuntime, mut known: Catalogue, name: &str) -> Result<Outcome, Fail> {
     let identity = Missing::type_id(rt.alloc())?;
-    let before = state(rt.alloc(), &known, &identity)?;
+    let before = state(rt.alloc(), &known, &identity);
     let answer = added(rt, &mut known, name)?;
-    let after = state(rt.alloc(), &known, &identity)?;
-    Ok(Outcome::lending(before, after, answer))
+    let after = state(rt.alloc(), &known, &identity);
+    Outcome::lending(before, after, Ok(answer))
 }
 
 /// Adds the description of this name under a new identity.
@@ -110,5 +110,5 @@ pub fn look(rt: &HostRuntime, name: &str) -> Result<Outcome, Fail> {
     let found = ty.type_info(&known).is_some();
     let (same, len) = (known.get(ty.type_id()).is_some(), known.len());
     end(rt);
-    Ok(Outcome::of(Answer::Done(format!(in rt.alloc(); "{found} {same} {len}")?)))
+    Outcome::of(done(format!(in rt.alloc(); "{found} {same} {len}")))
 }

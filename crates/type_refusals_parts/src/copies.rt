@@ -8,7 +8,7 @@ use type_refusals_common::inputs::table_of;
 use type_refusals_common::marks::{begin, end};
 use type_refusals_common::outcomes::Outcome;
 use type_refusals_common::types::{
-    demo_path, description_named, documented_field, documented_variant, parameters, type_named,
+    demo_path, description_named, documented_field, documented_variant, given_parameter, type_named,
 };
 use type_vectors_common::parts;
 
@@ -17,7 +17,7 @@ fn copy<T: TryClone + Scale>(rt: &HostRuntime, value: &T) -> Result<Outcome, Fai
     begin(rt);
     let returned = value.try_clone(rt.alloc());
     end(rt);
-    Ok(Outcome::of(encoded(rt.alloc(), returned)?))
+    Outcome::of(encoded(rt.alloc(), returned))
 }
 
 /// Copies a value that holds types of the program.
@@ -31,7 +31,7 @@ where
     begin(rt);
     let returned = value.try_clone(rt.alloc());
     end(rt);
-    Ok(Outcome::of(registered(rt.alloc(), returned)?))
+    Outcome::of(registered(rt.alloc(), returned))
 }
 
 /// Copies a value that is shown by its `Debug`.
@@ -39,7 +39,7 @@ fn copy_shown<T: TryClone + Debug + Drop>(rt: &HostRuntime, value: &T) -> Result
     begin(rt);
     let returned = value.try_clone(rt.alloc());
     end(rt);
-    Ok(Outcome::of(shown(rt.alloc(), returned)?))
+    Outcome::of(shown(rt.alloc(), returned))
 }
 
 /// Copies a portable part of a description.
@@ -66,16 +66,8 @@ pub fn meta_part(rt: &HostRuntime, kind: &str) -> Result<Outcome, Fail> {
         "field" => copy_meta(rt, &documented_field(rt.alloc())?),
         "variant" => copy_meta(rt, &documented_variant(rt.alloc())?),
         "path" => copy_meta(rt, &demo_path(rt.alloc())?),
-        "parameter" => parameter(rt),
+        "parameter" => copy_meta(rt, &given_parameter(rt.alloc())?),
         _ => Err(Fail::new("no kind has this name")),
-    }
-}
-
-/// Copies a parameter in the form of the program.
-fn parameter(rt: &HostRuntime) -> Result<Outcome, Fail> {
-    match parameters(rt.alloc())?.pop() {
-        Some(parameter) => copy_meta(rt, &parameter),
-        None => Err(Fail::new("there is no parameter")),
     }
 }
 
@@ -144,7 +136,7 @@ fn type_of_program(rt: &HostRuntime) -> Result<Outcome, Fail> {
     begin(rt);
     let returned = MetaForm::copy_type(rt.alloc(), &ty);
     end(rt);
-    Ok(Outcome::of(registered(rt.alloc(), returned)?))
+    Outcome::of(registered(rt.alloc(), returned))
 }
 
 /// Copies an id.
@@ -153,7 +145,7 @@ fn portable_type(rt: &HostRuntime) -> Result<Outcome, Fail> {
     begin(rt);
     let returned = PortableForm::copy_type(rt.alloc(), &id);
     end(rt);
-    Ok(Outcome::of(encoded(rt.alloc(), returned)?))
+    Outcome::of(encoded(rt.alloc(), returned))
 }
 
 /// Copies a text of the program.
@@ -161,7 +153,7 @@ fn text_of_program(rt: &HostRuntime) -> Result<Outcome, Fail> {
     begin(rt);
     let returned = MetaForm::copy_string(rt.alloc(), &"a text");
     end(rt);
-    Ok(Outcome::of(shown(rt.alloc(), returned)?))
+    Outcome::of(shown(rt.alloc(), returned))
 }
 
 /// Copies a text of a table.
@@ -170,5 +162,5 @@ fn portable_text(rt: &HostRuntime) -> Result<Outcome, Fail> {
     begin(rt);
     let returned = PortableForm::copy_string(rt.alloc(), &text);
     end(rt);
-    Ok(Outcome::of(encoded(rt.alloc(), returned)?))
+    Outcome::of(encoded(rt.alloc(), returned))
 }

@@ -14,7 +14,7 @@ fn identity<T: Identified>(rt: &HostRuntime) -> Result<Outcome, Fail> {
     begin(rt);
     let returned = T::type_id(rt.alloc());
     end(rt);
-    Ok(Outcome::of(shown(rt.alloc(), returned)?))
+    Outcome::of(shown(rt.alloc(), returned))
 }
 
 /// Makes the description of a type.
@@ -22,7 +22,7 @@ fn description<T: TypeInfo>(rt: &HostRuntime) -> Result<Outcome, Fail> {
     begin(rt);
     let returned = T::type_info(rt.alloc());
     end(rt);
-    Ok(Outcome::of(registered(rt.alloc(), returned)?))
+    Outcome::of(registered(rt.alloc(), returned))
 }
 
 /// Makes a type by its identity.
@@ -30,7 +30,7 @@ fn by_identity<T: HasIdentity>(rt: &HostRuntime) -> Result<Outcome, Fail> {
     begin(rt);
     let returned = MetaType::new::<T>(rt.alloc());
     end(rt);
-    Ok(Outcome::of(registered(rt.alloc(), returned)?))
+    Outcome::of(registered(rt.alloc(), returned))
 }
 
 /// Makes a type by the function of that name.
@@ -38,7 +38,7 @@ fn by_function<T: HasIdentity>(rt: &HostRuntime) -> Result<Outcome, Fail> {
     begin(rt);
     let returned = meta_type::<T>(rt.alloc());
     end(rt);
-    Ok(Outcome::of(registered(rt.alloc(), returned)?))
+    Outcome::of(registered(rt.alloc(), returned))
 }
 
 /// Makes the definition of a sequence.
@@ -46,7 +46,7 @@ fn sequence<T: HasIdentity>(rt: &HostRuntime) -> Result<Outcome, Fail> {
     begin(rt);
     let returned = TypeDefSequence::of::<T>(rt.alloc());
     end(rt);
-    Ok(Outcome::of(registered(rt.alloc(), returned)?))
+    Outcome::of(registered(rt.alloc(), returned))
 }
 
 /// Makes the identity of the type of this name.

@@ -1,9 +1,9 @@
 //! Interners of texts.
 use scale_info::Text;
 use scale_info::interner::{InternError, Interner, UntrackedSymbol};
-use std::alloc::Global;
+use std::alloc::{AllocError, Global};
 use std::test::Fail;
-use type_refusals_common::answers::{Answer, shown};
+use type_refusals_common::answers::{done, shown};
 use type_refusals_common::marks::{begin, end};
 use type_refusals_common::outcomes::Outcome;
 use type_vectors_common::parts::text;
@@ -18,9 +18,9 @@ fn interner(alloc: Global) -> Result<Interner<Text>, Fail> {
 }
 
 /// The elements of an interner.
-fn state(alloc: Global, texts: &Interner<Text>) -> Result<String, Fail> {
+fn state(alloc: Global, texts: &Interner<Text>) -> Result<String, AllocError> {
     let elements = texts.elements();
-    Ok(format!(in alloc; "{elements:?}")?)
+    format!(in alloc; "{elements:?}")
 }
 
 /// Whether the element is new, and its number.
@@ -37,12 +37,12 @@ fn numbered(
 pub fn intern_or_get(rt: &HostRuntime, chars: &str) -> Result<Outcome, Fail> {
     let mut texts = interner(rt.alloc())?;
     let value = text(rt.alloc(), chars)?;
-    let before = state(rt.alloc(), &texts)?;
+    let before = state(rt.alloc(), &texts);
     begin(rt);
     let returned = texts.intern_or_get(value);
     end(rt);
-    let after = state(rt.alloc(), &texts)?;
-    Ok(Outcome::lending(before, after, shown(rt.alloc(), numbered(returned))?))
+    let after = state(rt.alloc(), &texts);
+    Outcome::lending(before, after, shown(rt.alloc(), numbered(returned)))
 }
 
 /// Looks a text up, and what its symbol stands for.
@@ -57,17 +57,16 @@ pub fn look(rt: &HostRuntime, chars: &str) -> Result<Outcome, Fail> {
     };
     let (len, same) = (texts.elements().len(), texts == other);
     end(rt);
-    Ok(Outcome::of(Answer::Done(format!(in rt.alloc(); "{id:?} {found} {len} {same}")?)))
+    Outcome::of(done(format!(in rt.alloc(); "{id:?} {found} {len} {same}")))
 }
 
 /// Keeps the first two texts.
 pub fn truncate(rt: &HostRuntime) -> Result<Outcome, Fail> {
     let mut texts = interner(rt.alloc())?;
-    let before = state(rt.alloc(), &texts)?;
+    let before = state(rt.alloc(), &texts);
     begin(rt);
     texts.truncate(2);
     end(rt);
-    let after = state(rt.alloc(), &texts)?;
-    let answer = Answer::Done(format!(in rt.alloc(); "truncated")?);
-    Ok(Outcome::lending(before, after, answer))
+    let after = state(rt.alloc(), &texts);
+    Outcome::lending(before, after, done(format!(in rt.alloc(); "truncated")))
 }

@@ -5,16 +5,11 @@ use scale_info::{Type, TypeDefArray, TypeDefBitSequence, TypeDefMap};
 use std::alloc::Global;
 use std::hash::{FoldHasher, Hash, Hasher};
 use std::test::Fail;
-use type_refusals_common::answers::Answer;
+use type_refusals_common::answers::done;
 use type_refusals_common::marks::{begin, end};
 use type_refusals_common::outcomes::Outcome;
 use type_refusals_common::types::{description_named, type_named};
 use type_vectors_common::parts;
-
-/// The outcome that this text shows.
-fn seen(text: String) -> Outcome {
-    Outcome::of(Answer::Done(text))
-}
 
 /// Asks a field for its parts.
 pub fn field(rt: &HostRuntime) -> Result<Outcome, Fail> {
@@ -23,7 +18,7 @@ pub fn field(rt: &HostRuntime) -> Result<Outcome, Fail> {
     let names = (field.name().is_some(), field.type_name().is_some());
     let (id, lines) = (field.ty().id(), field.docs().len());
     end(rt);
-    Ok(seen(format!(in rt.alloc(); "{names:?} {id} {lines}")?))
+    Outcome::of(done(format!(in rt.alloc(); "{names:?} {id} {lines}")))
 }
 
 /// Asks a variant for its parts.
@@ -33,7 +28,7 @@ pub fn variant(rt: &HostRuntime) -> Result<Outcome, Fail> {
     let (len, index) = (variant.name().len(), variant.index());
     let (fields, lines) = (variant.fields().len(), variant.docs().len());
     end(rt);
-    Ok(seen(format!(in rt.alloc(); "{len} {index} {fields} {lines}")?))
+    Outcome::of(done(format!(in rt.alloc(); "{len} {index} {fields} {lines}")))
 }
 
 /// Asks definitions for their parts.
@@ -46,7 +41,7 @@ pub fn definitions(rt: &HostRuntime) -> Result<Outcome, Fail> {
     let (key, value) = (map.key().id(), map.value().id());
     let (store, order) = (bits.bit_store_type().id(), bits.bit_order_type().id());
     end(rt);
-    Ok(seen(format!(in rt.alloc(); "{len} {item} {key} {value} {store} {order}")?))
+    Outcome::of(done(format!(in rt.alloc(); "{len} {item} {key} {value} {store} {order}")))
 }
 
 /// Asks a path for its parts.
@@ -56,7 +51,7 @@ pub fn path(rt: &HostRuntime) -> Result<Outcome, Fail> {
     let (segments, modules) = (path.segments().len(), path.namespace().len());
     let is_empty = path.is_empty();
     end(rt);
-    Ok(seen(format!(in rt.alloc(); "{segments} {modules} {is_empty}")?))
+    Outcome::of(done(format!(in rt.alloc(); "{segments} {modules} {is_empty}")))
 }
 
 /// Asks the description of this name for its parts.
@@ -66,7 +61,7 @@ pub fn description(rt: &HostRuntime, name: &str) -> Result<Outcome, Fail> {
     let (is_empty, params) = (ty.path().is_empty(), ty.type_params().len());
     let lines = ty.docs().len();
     end(rt);
-    Ok(seen(format!(in rt.alloc(); "{is_empty} {params} {lines}")?))
+    Outcome::of(done(format!(in rt.alloc(); "{is_empty} {params} {lines}")))
 }
 
 /// Descriptions of the types of these names, in order.
@@ -87,7 +82,7 @@ pub fn compare(rt: &HostRuntime, name: &str) -> Result<Outcome, Fail> {
     begin(rt);
     let (same, order) = (left == right, left.cmp(other));
     end(rt);
-    Ok(seen(format!(in rt.alloc(); "{same} {order:?}")?))
+    Outcome::of(done(format!(in rt.alloc(); "{same} {order:?}")))
 }
 
 /// Compares and hashes types.
@@ -102,7 +97,7 @@ pub fn types(rt: &HostRuntime, name: &str) -> Result<Outcome, Fail> {
     left.hash(&mut hasher);
     let hash = hasher.finish();
     end(rt);
-    Ok(seen(format!(in rt.alloc(); "{same} {order:?} {hash}")?))
+    Outcome::of(done(format!(in rt.alloc(); "{same} {order:?} {hash}")))
 }
 
 /// Asks whether a text is an identifier.
@@ -110,5 +105,5 @@ pub fn identifier(rt: &HostRuntime, text: &str) -> Result<Outcome, Fail> {
     begin(rt);
     let is_identifier = is_rust_identifier(text);
     end(rt);
-    Ok(seen(format!(in rt.alloc(); "{is_identifier}")?))
+    Outcome::of(done(format!(in rt.alloc(); "{is_identifier}")))
 }

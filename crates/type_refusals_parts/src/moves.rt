@@ -7,17 +7,12 @@ use scale_info::{
     Field, Items, Path, PortableRegistryBuilder, PortableType, Registry, Text, Type, TypeDef,
     TypeDefArray, TypeDefCompact, TypeDefMap, TypeDefPrimitive, TypeId, TypeParameter, Variant,
 };
-use std::alloc::Global;
+use std::alloc::{AllocError, Global};
 use std::test::Fail;
-use type_refusals_common::answers::{Answer, digits};
+use type_refusals_common::answers::{digits, done};
 use type_refusals_common::marks::{begin, end};
 use type_refusals_common::outcomes::Outcome;
 use type_vectors_common::parts;
-
-/// The outcome that this text shows.
-fn seen(text: String) -> Outcome {
-    Outcome::of(Answer::Done(text))
-}
 
 /// Makes a field.
 pub fn field(rt: &HostRuntime) -> Result<Outcome, Fail> {
@@ -28,7 +23,7 @@ pub fn field(rt: &HostRuntime) -> Result<Outcome, Fail> {
     begin(rt);
     let made = Field::<PortableForm>::new(Some(name), parts::id(3), None, docs);
     end(rt);
-    Ok(seen(digits(rt.alloc(), &made)?))
+    Outcome::of(done(digits(rt.alloc(), &made)))
 }
 
 /// Makes a variant.
@@ -41,7 +36,7 @@ pub fn variant(rt: &HostRuntime) -> Result<Outcome, Fail> {
     begin(rt);
     let made = Variant::<PortableForm>::new(name, fields, 7, docs);
     end(rt);
-    Ok(seen(digits(rt.alloc(), &made)?))
+    Outcome::of(done(digits(rt.alloc(), &made)))
 }
 
 /// Makes a parameter and an entry.
@@ -50,7 +45,7 @@ pub fn parameter(rt: &HostRuntime) -> Result<Outcome, Fail> {
     begin(rt);
     let made = TypeParameter::new_portable(name, Some(parts::id(7)));
     end(rt);
-    Ok(seen(digits(rt.alloc(), &made)?))
+    Outcome::of(done(digits(rt.alloc(), &made)))
 }
 
 /// Makes an entry whose description has a definition alone.
@@ -58,7 +53,7 @@ pub fn entry(rt: &HostRuntime) -> Result<Outcome, Fail> {
     begin(rt);
     let made = PortableType::new(9, Type::from_def(rt.alloc(), parts::sequence(2)));
     end(rt);
-    Ok(seen(digits(rt.alloc(), &made)?))
+    Outcome::of(done(digits(rt.alloc(), &made)))
 }
 
 /// Definitions of four kinds that hold no list.
@@ -72,7 +67,7 @@ fn four_definitions() -> [TypeDef<PortableForm>; 4] {
 }
 
 /// The encodings of definitions, in order, with a space between two.
-fn all_digits(alloc: Global, definitions: &[TypeDef<PortableForm>]) -> Result<String, Fail> {
+fn all_digits(alloc: Global, definitions: &[TypeDef<PortableForm>]) -> Result<String, AllocError> {
     let mut text = String::new(alloc);
     for definition in definitions {
         if !text.is_empty() {
@@ -88,7 +83,7 @@ pub fn definitions(rt: &HostRuntime) -> Result<Outcome, Fail> {
     begin(rt);
     let made = four_definitions();
     end(rt);
-    Ok(seen(all_digits(rt.alloc(), &made)?))
+    Outcome::of(done(all_digits(rt.alloc(), &made)))
 }
 
 /// Turns a list and a text into those of this library, and back.
@@ -101,7 +96,7 @@ pub fn lists(rt: &HostRuntime) -> Result<Outcome, Fail> {
     let list = Items::from(list).into_vec();
     let text = Text::from(text).into_string();
     end(rt);
-    Ok(seen(format!(in rt.alloc(); "{list:?} {text}")?))
+    Outcome::of(done(format!(in rt.alloc(); "{list:?} {text}")))
 }
 
 /// Makes an identity.
@@ -110,7 +105,7 @@ pub fn identity(rt: &HostRuntime) -> Result<Outcome, Fail> {
     begin(rt);
     let made = TypeId::new("array", nums, Vec::new(rt.alloc()));
     end(rt);
-    Ok(seen(format!(in rt.alloc(); "{made:?}")?))
+    Outcome::of(done(format!(in rt.alloc(); "{made:?}")))
 }
 
 /// Makes empty lists, an empty path and a list of references.
@@ -123,7 +118,7 @@ pub fn empty_parts(rt: &HostRuntime) -> Result<Outcome, Fail> {
     let first = refs.next(&mut steps);
     end(rt);
     let (is_empty, len) = (path.is_empty(), items.len());
-    Ok(seen(format!(in rt.alloc(); "{is_empty} {len} {first:?}")?))
+    Outcome::of(done(format!(in rt.alloc(); "{is_empty} {len} {first:?}")))
 }
 
 /// Makes an empty registry, catalogue, interner and builder of a table.
@@ -136,5 +131,5 @@ pub fn empty_collections(rt: &HostRuntime) -> Result<Outcome, Fail> {
     end(rt);
     let (types, described) = (registry.types().size_hint().0, catalogue.len());
     let (elements, next) = (interner.elements().len(), builder.next_type_id());
-    Ok(seen(format!(in rt.alloc(); "{types} {described} {elements} {next}")?))
+    Outcome::of(done(format!(in rt.alloc(); "{types} {described} {elements} {next}")))
 }

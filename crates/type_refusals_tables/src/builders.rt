@@ -1,9 +1,9 @@
 //! Tables that are built at run time.
 use scale_info::form::PortableForm;
 use scale_info::{PortableRegistry, PortableRegistryBuilder, Type};
-use std::alloc::Global;
+use std::alloc::{AllocError, Global};
 use std::test::Fail;
-use type_refusals_common::answers::{Answer, digits, encoded, shown};
+use type_refusals_common::answers::{digits, done, encoded, shown};
 use type_refusals_common::inputs::table_of;
 use type_refusals_common::marks::{begin, end};
 use type_refusals_common::outcomes::Outcome;
@@ -37,7 +37,7 @@ fn last_of(alloc: Global, row: &str) -> Result<Type<PortableForm>, Fail> {
 }
 
 /// The encodings of a builder's descriptions, in order.
-fn state(alloc: Global, builder: &PortableRegistryBuilder) -> Result<String, Fail> {
+fn state(alloc: Global, builder: &PortableRegistryBuilder) -> Result<String, AllocError> {
     let mut text = String::new(alloc);
     for id in 0..builder.next_type_id() {
         if let Some(ty) = builder.get(id) {
@@ -54,12 +54,12 @@ fn register(
     mut builder: PortableRegistryBuilder,
     ty: Type<PortableForm>,
 ) -> Result<Outcome, Fail> {
-    let before = state(rt.alloc(), &builder)?;
+    let before = state(rt.alloc(), &builder);
     begin(rt);
     let returned = builder.register_type(ty);
     end(rt);
-    let after = state(rt.alloc(), &builder)?;
-    Ok(Outcome::lending(before, after, shown(rt.alloc(), returned)?))
+    let after = state(rt.alloc(), &builder);
+    Outcome::lending(before, after, shown(rt.alloc(), returned))
 }
 
 /// Registers the last description of a table after fifteen others.
@@ -86,7 +86,7 @@ pub fn look(rt: &HostRuntime, row: &str) -> Result<Outcome, Fail> {
     begin(rt);
     let (next, first) = (builder.next_type_id(), builder.get(0).is_some());
     end(rt);
-    Ok(Outcome::of(Answer::Done(format!(in rt.alloc(); "{next} {first}")?)))
+    Outcome::of(done(format!(in rt.alloc(); "{next} {first}")))
 }
 
 /// Makes the table of what was registered.
@@ -95,5 +95,5 @@ pub fn finish(rt: &HostRuntime, row: &str) -> Result<Outcome, Fail> {
     begin(rt);
     let returned = builder.finish(rt.alloc());
     end(rt);
-    Ok(Outcome::of(encoded(rt.alloc(), returned)?))
+    Outcome::of(encoded(rt.alloc(), returned))
 }

@@ -4,69 +4,69 @@ use std::test::Fail;
 use type_refusals_common::outcomes::Outcome;
 
 /// Makes the call of this name; None if there is none.
-pub fn call(rt: &HostRuntime, name: &str, input: &str) -> Result<Option<Outcome>, Fail> {
+pub fn call(rt: &HostRuntime, name: &str, input: &str) -> Option<Result<Outcome, Fail>> {
     let outcome = match name {
-        "decode" => bytes::decode(rt, input)?,
-        "encode" => bytes::encode(rt, input)?,
-        "try_clone_table" => bytes::try_clone(rt, input)?,
-        "try_clone_entries" => bytes::try_clone_entries(rt, input)?,
-        "to_json" => json::tree_of(rt, input)?,
-        "from_json" => json::table_from(rt, input)?,
-        "append_json" => json::text_of(rt, input)?,
-        "append_json_of" => json::text_of_bytes(rt, input)?,
-        "decode_value" => values::decode(rt, input)?,
+        "decode" => bytes::decode(rt, input),
+        "encode" => bytes::encode(rt, input),
+        "try_clone_table" => bytes::try_clone(rt, input),
+        "try_clone_entries" => bytes::try_clone_entries(rt, input),
+        "to_json" => json::tree_of(rt, input),
+        "from_json" => json::table_from(rt, input),
+        "append_json" => json::text_of(rt, input),
+        "append_json_of" => json::text_of_bytes(rt, input),
+        "decode_value" => values::decode(rt, input),
         _ => return call_of_walks(rt, name, input),
     };
-    Ok(Some(outcome))
+    Some(outcome)
 }
 
 /// Makes the call of this name over references, or of a builder; None if there is none.
-fn call_of_walks(rt: &HostRuntime, name: &str, input: &str) -> Result<Option<Outcome>, Fail> {
+fn call_of_walks(rt: &HostRuntime, name: &str, input: &str) -> Option<Result<Outcome, Fail>> {
     let outcome = match name {
-        "retain" => prunings::retain(rt, input)?,
-        "prune" => prunings::prune_bytes(rt, input)?,
-        "append_pruned" => prunings::append_pruned_bytes(rt, input)?,
-        "number" => prunings::number_table(rt, input)?,
-        "number_recursive" => prunings::number_table_recursively(rt, input)?,
-        "Refs::of" => prunings::refs_of(rt, input)?,
-        "Refs::prepend_of" => prunings::prepend(rt, input)?,
-        "PortableRegistryBuilder::register_type" => builders::register_type(rt, input)?,
-        "PortableRegistryBuilder::register_first_type" => builders::register_first_type(rt, input)?,
-        "PortableRegistryBuilder::finish" => builders::finish(rt, input)?,
+        "retain" => prunings::retain(rt, input),
+        "prune" => prunings::prune_bytes(rt, input),
+        "append_pruned" => prunings::append_pruned_bytes(rt, input),
+        "number" => prunings::number_table(rt, input),
+        "number_recursive" => prunings::number_table_recursively(rt, input),
+        "Refs::of" => prunings::refs_of(rt, input),
+        "Refs::prepend_of" => prunings::prepend(rt, input),
+        "PortableRegistryBuilder::register_type" => builders::register_type(rt, input),
+        "PortableRegistryBuilder::register_first_type" => builders::register_first_type(rt, input),
+        "PortableRegistryBuilder::finish" => builders::finish(rt, input),
         _ => return call_of_registries(rt, name, input),
     };
-    Ok(Some(outcome))
+    Some(outcome)
 }
 
 /// Makes the call of this name over registries; None if there is none.
-fn call_of_registries(rt: &HostRuntime, name: &str, input: &str) -> Result<Option<Outcome>, Fail> {
+fn call_of_registries(rt: &HostRuntime, name: &str, input: &str) -> Option<Result<Outcome, Fail>> {
     let outcome = match name {
-        "register_type" => registrations::register_type(rt, input)?,
-        "register_types" => registrations::register_types(rt, input)?,
-        "map_into_portable" => registrations::map_into_portable(rt)?,
-        "from_registry" => registrations::from_registry(rt, input)?,
-        "export" => registrations::export_types(rt, input)?,
-        "into_portable" => conversions::part(rt, input)?,
-        "MetaType::into_portable" => conversions::meta_type(rt, input)?,
-        "Type::into_portable" => conversions::description(rt, input)?,
-        "TypeDef::into_portable" => conversions::definition(rt, input)?,
+        "register_type" => registrations::register_type(rt, input),
+        "register_types" => registrations::register_types(rt, input),
+        "map_into_portable" => registrations::map_into_portable(rt),
+        "from_registry" => registrations::from_registry(rt, input),
+        "export" => registrations::export_types(rt, input),
+        "into_portable" => conversions::part(rt, input),
+        "MetaType::into_portable" => conversions::meta_type(rt, input),
+        "Type::into_portable" => conversions::description(rt, input),
+        "TypeDef::into_portable" => conversions::definition(rt, input),
         _ => return call_of_looks(rt, name, input),
     };
-    Ok(Some(outcome))
+    Some(outcome)
 }
 
 /// Makes the call of this name that does not allocate; None if there is none.
-fn call_of_looks(rt: &HostRuntime, name: &str, input: &str) -> Result<Option<Outcome>, Fail> {
+fn call_of_looks(rt: &HostRuntime, name: &str, input: &str) -> Option<Result<Outcome, Fail>> {
     let outcome = match name {
-        "register_known_type" => registrations::register_known_type(rt, input)?,
-        "PortableRegistryBuilder::register_known_type" => builders::register_known_type(rt, input)?,
-        "look_at_builder" => builders::look(rt, input)?,
-        "look_at_table" => looks::look(rt, input)?,
-        "compare_tables" => looks::compare(rt, input)?,
-        "order_descriptions" => looks::order(rt, input)?,
-        "Refs::next" => looks::next_refs(rt, input)?,
-        "look_at_registry" => looks::registry(rt, input)?,
-        _ => return Ok(None),
+        "register_known_type" => registrations::register_known_type(rt, input),
+        "PortableRegistryBuilder::register_known_type" => builders::register_known_type(rt, input),
+        "look_at_builder" => builders::look(rt, input),
+        "look_at_table" => looks::look(rt, input),
+        "compare_tables" => looks::compare(rt, input),
+        "order_descriptions" => looks::order(rt, input),
+        "Refs::next" => looks::next_refs(rt, input),
+        "look_at_registry" => looks::registry(rt, input),
+        _ => return None,
     };
-    Ok(Some(outcome))
+    Some(outcome)
 }

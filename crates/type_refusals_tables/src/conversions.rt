@@ -4,8 +4,9 @@ use scale_info::{TypeDefComposite, TypeDefVariant};
 use std::test::Fail;
 use type_refusals_common::outcomes::Outcome;
 use type_refusals_common::types::{
-    demo_path, description_named, documented_field, documented_variant, parameters, type_named,
+    demo_path, description_named, documented_field, documented_variant, given_parameter, type_named,
 };
+use type_vectors_common::lists::list_of;
 
 /// Converts a value of this kind: a part of a description.
 pub fn part(rt: &HostRuntime, kind: &str) -> Result<Outcome, Fail> {
@@ -14,30 +15,22 @@ pub fn part(rt: &HostRuntime, kind: &str) -> Result<Outcome, Fail> {
         "path" => into_portable(rt, demo_path(rt.alloc())?),
         "field" => into_portable(rt, documented_field(rt.alloc())?),
         "variant" => into_portable(rt, documented_variant(rt.alloc())?),
-        "parameter" => parameter(rt),
+        "parameter" => into_portable(rt, given_parameter(rt.alloc())?),
         "composite" => composite(rt),
         "variants" => variants(rt),
         _ => Err(Fail::new("no kind has this name")),
     }
 }
 
-/// Converts a parameter.
-fn parameter(rt: &HostRuntime) -> Result<Outcome, Fail> {
-    match parameters(rt.alloc())?.pop() {
-        Some(parameter) => into_portable(rt, parameter),
-        None => Err(Fail::new("there is no parameter")),
-    }
-}
-
 /// Converts the definition of a composite.
 fn composite(rt: &HostRuntime) -> Result<Outcome, Fail> {
-    let fields = vec![in rt.alloc(); documented_field(rt.alloc())?]?;
+    let fields = list_of(rt.alloc(), documented_field(rt.alloc())?)?;
     into_portable(rt, TypeDefComposite::from(fields))
 }
 
 /// Converts the definition of an enum.
 fn variants(rt: &HostRuntime) -> Result<Outcome, Fail> {
-    let variants = vec![in rt.alloc(); documented_variant(rt.alloc())?]?;
+    let variants = list_of(rt.alloc(), documented_variant(rt.alloc())?)?;
     into_portable(rt, TypeDefVariant::from(variants))
 }
 

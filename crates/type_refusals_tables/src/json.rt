@@ -3,7 +3,7 @@ use scale_info::{append_json, append_json_of, from_json, to_json};
 use std::alloc::Global;
 use std::fmt::Debug;
 use std::test::Fail;
-use type_refusals_common::answers::{Answer, encoded, failed};
+use type_refusals_common::answers::{done, encoded, failed};
 use type_refusals_common::inputs::{bytes_of, output, table_of};
 use type_refusals_common::marks::{begin, end};
 use type_refusals_common::outcomes::Outcome;
@@ -15,10 +15,10 @@ pub fn tree_of(rt: &HostRuntime, row: &str) -> Result<Outcome, Fail> {
     let returned = to_json(rt.alloc(), &table);
     end(rt);
     let answer = match returned {
-        Ok(tree) => Answer::Done(tree.to_string(rt.alloc())?),
-        Err(error) => failed(rt.alloc(), &error)?,
+        Ok(tree) => done(tree.to_string(rt.alloc())),
+        Err(error) => failed(rt.alloc(), &error),
     };
-    Ok(Outcome::of(answer))
+    Outcome::of(answer)
 }
 
 /// The table of a tree.
@@ -27,16 +27,16 @@ pub fn table_from(rt: &HostRuntime, row: &str) -> Result<Outcome, Fail> {
     begin(rt);
     let returned = from_json(rt.alloc(), &tree);
     end(rt);
-    Ok(Outcome::of(encoded(rt.alloc(), returned)?))
+    Outcome::of(encoded(rt.alloc(), returned))
 }
 
 /// The answer of written bytes, or of an error.
 fn written<E: Debug + Drop>(alloc: Global, returned: Result<Vec<u8>, E>) -> Result<Outcome, Fail> {
     let answer = match returned {
-        Ok(bytes) => Answer::Done(hex::encode(alloc, bytes.as_slice())?),
-        Err(error) => failed(alloc, &error)?,
+        Ok(bytes) => done(hex::encode(alloc, bytes.as_slice())),
+        Err(error) => failed(alloc, &error),
     };
-    Ok(Outcome::of(answer))
+    Outcome::of(answer)
 }
 
 /// The text of a table.

@@ -1,18 +1,12 @@
 //! Calls over tables that do not allocate.
-
 use crate::registries::{registry_of, registry_of_u8};
 use scale_info::walk::Refs;
 use std::test::Fail;
-use type_refusals_common::answers::Answer;
+use type_refusals_common::answers::done;
 use type_refusals_common::inputs::table_of;
 use type_refusals_common::marks::{begin, end};
 use type_refusals_common::outcomes::Outcome;
 use type_refusals_common::types::catalogue;
-
-/// The outcome that this text shows.
-fn seen(text: String) -> Outcome {
-    Outcome::of(Answer::Done(text))
-}
 
 /// Asks a table for what it has.
 pub fn look(rt: &HostRuntime, row: &str) -> Result<Outcome, Fail> {
@@ -25,7 +19,9 @@ pub fn look(rt: &HostRuntime, row: &str) -> Result<Outcome, Fail> {
         entries = entries.saturating_add(1);
     }
     end(rt);
-    Ok(seen(format!(in rt.alloc(); "{len} {is_empty} {is_closed} {first} {entries} {types}")?))
+    Outcome::of(done(format!(in rt.alloc();
+        "{len} {is_empty} {is_closed} {first} {entries} {types}"
+    )))
 }
 
 /// Compares a table with an equal one, and with the empty one.
@@ -35,7 +31,7 @@ pub fn compare(rt: &HostRuntime, row: &str) -> Result<Outcome, Fail> {
     begin(rt);
     let (same, other) = (left == right, left == empty);
     end(rt);
-    Ok(seen(format!(in rt.alloc(); "{same} {other}")?))
+    Outcome::of(done(format!(in rt.alloc(); "{same} {other}")))
 }
 
 /// How the first descriptions of two tables compare.
@@ -50,7 +46,7 @@ pub fn order(rt: &HostRuntime, row: &str) -> Result<Outcome, Fail> {
     begin(rt);
     let order = left.cmp(right);
     end(rt);
-    Ok(seen(format!(in rt.alloc(); "{order:?}")?))
+    Outcome::of(done(format!(in rt.alloc(); "{order:?}")))
 }
 
 /// The references of the entry at index 0.
@@ -64,7 +60,7 @@ pub fn next_refs(rt: &HostRuntime, row: &str) -> Result<Outcome, Fail> {
     begin(rt);
     let first = refs.next(&mut steps);
     end(rt);
-    Ok(seen(format!(in rt.alloc(); "{first:?} {steps}")?))
+    Outcome::of(done(format!(in rt.alloc(); "{first:?} {steps}")))
 }
 
 /// Goes over the descriptions of a registry, and compares it with another.
@@ -79,5 +75,5 @@ pub fn registry(rt: &HostRuntime, name: &str) -> Result<Outcome, Fail> {
         count = count.saturating_add(1);
     }
     end(rt);
-    Ok(seen(format!(in rt.alloc(); "{count} {same}")?))
+    Outcome::of(done(format!(in rt.alloc(); "{count} {same}")))
 }

@@ -1,9 +1,9 @@
 //! Walks over tables, and what is kept of them.
 use scale_info::walk::{Numbering, Refs, number, number_recursive};
 use scale_info::{PortableRegistry, RetainError, append_pruned, prune};
-use std::alloc::Global;
+use std::alloc::{AllocError, Global};
 use std::test::Fail;
-use type_refusals_common::answers::{Answer, digits, failed, shown};
+use type_refusals_common::answers::{digits, done, failed, shown};
 use type_refusals_common::inputs::{bytes_of, output, table_of};
 use type_refusals_common::marks::{begin, end};
 use type_refusals_common::outcomes::Outcome;
@@ -22,7 +22,7 @@ fn chosen(alloc: Global, table: &PortableRegistry) -> Result<Vec<u32>, Fail> {
 /// Keeps what every second entry reaches.
 pub fn retain(rt: &HostRuntime, row: &str) -> Result<Outcome, Fail> {
     let mut table = table_of(rt.alloc(), row)?;
-    let before = digits(rt.alloc(), &table)?;
+    let before = digits(rt.alloc(), &table);
     let mut asked = 0usize;
     begin(rt);
     let returned = table.retain(rt.alloc(), |id| {
@@ -30,10 +30,9 @@ pub fn retain(rt: &HostRuntime, row: &str) -> Result<Outcome, Fail> {
         id % 2 == 0
     });
     end(rt);
-    let after = digits(rt.alloc(), &table)?;
-    let mut outcome = Outcome::lending(before, after, shown(rt.alloc(), returned)?);
-    outcome.asked = Some(asked);
-    Ok(outcome)
+    let after = digits(rt.alloc(), &table);
+    let outcome = Outcome::lending(before, after, shown(rt.alloc(), returned));
+    Outcome::asking(outcome, asked)
 }
 
 /// Appends the table of what every second entry reaches, with the new ids.
@@ -41,12 +40,12 @@ pub fn prune_bytes(rt: &HostRuntime, row: &str) -> Result<Outcome, Fail> {
     let bytes = bytes_of(rt.alloc(), row)?;
     let ids = chosen(rt.alloc(), &table_of(rt.alloc(), row)?)?;
     let mut out = output(rt.alloc())?;
-    let before = hex::encode(rt.alloc(), out.as_slice())?;
+    let before = hex::encode(rt.alloc(), out.as_slice());
     begin(rt);
     let returned = prune(rt.alloc(), &bytes, &ids, &mut out);
     end(rt);
-    let after = hex::encode(rt.alloc(), out.as_slice())?;
-    Ok(Outcome::lending(before, after, shown(rt.alloc(), returned)?))
+    let after = hex::encode(rt.alloc(), out.as_slice());
+    Outcome::lending(before, after, shown(rt.alloc(), returned))
 }
 
 /// Appends the table of what every second entry reaches.
@@ -54,12 +53,12 @@ pub fn append_pruned_bytes(rt: &HostRuntime, row: &str) -> Result<Outcome, Fail>
     let bytes = bytes_of(rt.alloc(), row)?;
     let ids = chosen(rt.alloc(), &table_of(rt.alloc(), row)?)?;
     let mut out = output(rt.alloc())?;
-    let before = hex::encode(rt.alloc(), out.as_slice())?;
+    let before = hex::encode(rt.alloc(), out.as_slice());
     begin(rt);
     let returned = append_pruned(rt.alloc(), &bytes, &ids, &mut out);
     end(rt);
-    let after = hex::encode(rt.alloc(), out.as_slice())?;
-    Ok(Outcome::lending(before, after, shown(rt.alloc(), returned)?))
+    let after = hex::encode(rt.alloc(), out.as_slice());
+    Outcome::lending(before, after, shown(rt.alloc(), returned))
 }
 
 /// The outcome of a walk.
@@ -67,11 +66,11 @@ fn walked(alloc: Global, returned: Result<Numbering, RetainError>) -> Result<Out
     let answer = match returned {
         Ok(found) => {
             let (order, steps) = (found.order, found.steps);
-            Answer::Done(format!(in alloc; "{order:?} in {steps} steps")?)
+            done(format!(in alloc; "{order:?} in {steps} steps"))
         }
-        Err(error) => failed(alloc, &error)?,
+        Err(error) => failed(alloc, &error),
     };
-    Ok(Outcome::of(answer))
+    Outcome::of(answer)
 }
 
 /// Numbers what every second entry reaches.
@@ -95,7 +94,7 @@ pub fn number_table_recursively(rt: &HostRuntime, row: &str) -> Result<Outcome, 
 }
 
 /// The references of the first description.
-fn all_of(alloc: Global, mut refs: Refs) -> Result<Vec<u32>, Fail> {
+fn all_of(alloc: Global, mut refs: Refs) -> Result<Vec<u32>, AllocError> {
     let mut ids = Vec::new(alloc);
     for _ in 0..64 {
         let mut steps = 0;
@@ -107,6 +106,12 @@ fn all_of(alloc: Global, mut refs: Refs) -> Result<Vec<u32>, Fail> {
     Ok(ids)
 }
 
+/// The references of the first description, as a text.
+fn listed(alloc: Global, refs: Refs) -> Result<String, AllocError> {
+    let ids = all_of(alloc, refs)?;
+    format!(in alloc; "{ids:?}")
+}
+
 /// Lists the references of the entry at index 0.
 pub fn refs_of(rt: &HostRuntime, row: &str) -> Result<Outcome, Fail> {
     let table = table_of(rt.alloc(), row)?;
@@ -116,11 +121,11 @@ pub fn refs_of(rt: &HostRuntime, row: &str) -> Result<Outcome, Fail> {
     begin(rt);
     let returned = Refs::of(rt.alloc(), ty);
     end(rt);
-    let ids = match returned {
-        Ok(refs) => Ok(all_of(rt.alloc(), refs)?),
-        Err(error) => Err(error),
+    let answer = match returned {
+        Ok(refs) => done(listed(rt.alloc(), refs)),
+        Err(error) => failed(rt.alloc(), &error),
     };
-    Ok(Outcome::of(shown(rt.alloc(), ids)?))
+    Outcome::of(answer)
 }
 
 /// Puts the references of the entry at index 0 before one that is left.
@@ -134,8 +139,7 @@ pub fn prepend(rt: &HostRuntime, row: &str) -> Result<Outcome, Fail> {
     begin(rt);
     let returned = refs.prepend_of(rt.alloc(), ty);
     end(rt);
-    let before = format!(in rt.alloc(); "[9]")?;
-    let left = all_of(rt.alloc(), refs)?;
-    let after = format!(in rt.alloc(); "{left:?}")?;
-    Ok(Outcome::lending(before, after, shown(rt.alloc(), returned)?))
+    let before = String::from_str(rt.alloc(), "[9]");
+    let after = listed(rt.alloc(), refs);
+    Outcome::lending(before, after, shown(rt.alloc(), returned))
 }

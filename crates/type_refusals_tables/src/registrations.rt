@@ -3,45 +3,45 @@ use crate::registries::{descriptions, listed, registry_of, registry_of_u8, state
 use scale_info::export::{Exported, export};
 use scale_info::meta_type::Catalogue;
 use scale_info::{IntoPortable, MetaType, PortableRegistry, Scale, tuple_meta_type};
-use std::alloc::Global;
+use std::alloc::{AllocError, Global};
 use std::test::Fail;
-use type_refusals_common::answers::{Answer, encoded, failed};
+use type_refusals_common::answers::{Answer, done, encoded, failed};
 use type_refusals_common::inputs::output;
 use type_refusals_common::marks::{begin, end};
 use type_refusals_common::outcomes::Outcome;
 use type_refusals_common::types::{catalogue, documented_field, type_named};
+use type_vectors_common::lists::{list_of, with};
 
 /// Registers a type.
 pub fn register_type(rt: &HostRuntime, name: &str) -> Result<Outcome, Fail> {
     let known = catalogue(rt.alloc())?;
     let mut registry = registry_of_u8(rt.alloc(), &known)?;
     let ty = type_named(rt.alloc(), name)?;
-    let before = state(rt.alloc(), &registry, &known)?;
+    let before = state(rt.alloc(), &registry, &known);
     begin(rt);
     let returned = registry.register_type(&ty, &known);
     end(rt);
-    let after = state(rt.alloc(), &registry, &known)?;
-    Ok(Outcome::lending(before, after, encoded(rt.alloc(), returned)?))
+    let after = state(rt.alloc(), &registry, &known);
+    Outcome::lending(before, after, encoded(rt.alloc(), returned))
 }
 
 /// Registers a type that the registry has, under a catalogue without descriptions.
 pub fn register_known_type(rt: &HostRuntime, name: &str) -> Result<Outcome, Fail> {
     let mut registry = registry_of(rt.alloc(), &catalogue(rt.alloc())?, name)?;
     let (ty, nothing) = (type_named(rt.alloc(), name)?, Catalogue::new(rt.alloc()));
-    let before = descriptions(rt.alloc(), &registry)?;
+    let before = descriptions(rt.alloc(), &registry);
     begin(rt);
     let returned = registry.register_type(&ty, &nothing);
     end(rt);
-    let after = descriptions(rt.alloc(), &registry)?;
-    Ok(Outcome::lending(before, after, encoded(rt.alloc(), returned)?))
+    let after = descriptions(rt.alloc(), &registry);
+    Outcome::lending(before, after, encoded(rt.alloc(), returned))
 }
 
 /// `bool`, the type of this name, and `String`.
 fn three(alloc: Global, name: &str) -> Result<Vec<MetaType>, Fail> {
-    let mut types = tuple_meta_type!(alloc; bool)?;
-    types.push(type_named(alloc, name)?)?;
-    types.push(MetaType::new::<String>(alloc)?)?;
-    Ok(types)
+    let named = type_named(alloc, name)?;
+    let two = with(tuple_meta_type!(alloc; bool), Ok(named));
+    Ok(with(two, MetaType::new::<String>(alloc))?)
 }
 
 /// Registers three types.
@@ -49,28 +49,26 @@ pub fn register_types(rt: &HostRuntime, name: &str) -> Result<Outcome, Fail> {
     let known = catalogue(rt.alloc())?;
     let mut registry = registry_of_u8(rt.alloc(), &known)?;
     let types = three(rt.alloc(), name)?;
-    let before = state(rt.alloc(), &registry, &known)?;
+    let before = state(rt.alloc(), &registry, &known);
     begin(rt);
     let returned = registry.register_types(types, &known);
     end(rt);
-    let after = state(rt.alloc(), &registry, &known)?;
-    Ok(Outcome::lending(before, after, encoded(rt.alloc(), listed(returned))?))
+    let after = state(rt.alloc(), &registry, &known);
+    Outcome::lending(before, after, encoded(rt.alloc(), listed(returned)))
 }
 
 /// Converts two fields.
 pub fn map_into_portable(rt: &HostRuntime) -> Result<Outcome, Fail> {
     let known = catalogue(rt.alloc())?;
     let mut registry = registry_of_u8(rt.alloc(), &known)?;
-    let fields = vec![in rt.alloc();
-        documented_field(rt.alloc())?,
-        documented_field(rt.alloc())?,
-    ]?;
-    let before = state(rt.alloc(), &registry, &known)?;
+    let first = list_of(rt.alloc(), documented_field(rt.alloc())?);
+    let fields = with(first, documented_field(rt.alloc()))?;
+    let before = state(rt.alloc(), &registry, &known);
     begin(rt);
     let returned = registry.map_into_portable(fields, &known);
     end(rt);
-    let after = state(rt.alloc(), &registry, &known)?;
-    Ok(Outcome::lending(before, after, encoded(rt.alloc(), listed(returned))?))
+    let after = state(rt.alloc(), &registry, &known);
+    Outcome::lending(before, after, encoded(rt.alloc(), listed(returned)))
 }
 
 /// Converts a value.
@@ -80,12 +78,12 @@ where
 {
     let known = catalogue(rt.alloc())?;
     let mut registry = registry_of_u8(rt.alloc(), &known)?;
-    let before = descriptions(rt.alloc(), &registry)?;
+    let before = descriptions(rt.alloc(), &registry);
     begin(rt);
     let returned = value.into_portable(&mut registry, &known);
     end(rt);
-    let after = descriptions(rt.alloc(), &registry)?;
-    Ok(Outcome::lending(before, after, encoded(rt.alloc(), returned)?))
+    let after = descriptions(rt.alloc(), &registry);
+    Outcome::lending(before, after, encoded(rt.alloc(), returned))
 }
 
 /// Makes the table of a registry.
@@ -94,13 +92,13 @@ pub fn from_registry(rt: &HostRuntime, name: &str) -> Result<Outcome, Fail> {
     begin(rt);
     let returned = PortableRegistry::from_registry(rt.alloc(), &registry);
     end(rt);
-    Ok(Outcome::of(encoded(rt.alloc(), returned)?))
+    Outcome::of(encoded(rt.alloc(), returned))
 }
 
 /// The ids and the map of what was written.
-fn written(alloc: Global, exported: Exported) -> Result<Answer, Fail> {
+fn written(alloc: Global, exported: Exported) -> Result<Answer, AllocError> {
     let (ids, map) = (exported.ids, exported.map);
-    Ok(Answer::Done(format!(in alloc; "{ids:?} {map:?}")?))
+    done(format!(in alloc; "{ids:?} {map:?}"))
 }
 
 /// Writes what the second of three types reaches.
@@ -108,7 +106,7 @@ pub fn export_types(rt: &HostRuntime, name: &str) -> Result<Outcome, Fail> {
     let known = catalogue(rt.alloc())?;
     let types = three(rt.alloc(), name)?;
     let mut out = output(rt.alloc())?;
-    let before = hex::encode(rt.alloc(), out.as_slice())?;
+    let before = hex::encode(rt.alloc(), out.as_slice());
     let mut asked = 0usize;
     begin(rt);
     let returned = export(
@@ -121,12 +119,10 @@ pub fn export_types(rt: &HostRuntime, name: &str) -> Result<Outcome, Fail> {
         &mut out,
     );
     end(rt);
-    let after = hex::encode(rt.alloc(), out.as_slice())?;
+    let after = hex::encode(rt.alloc(), out.as_slice());
     let answer = match returned {
-        Ok(exported) => written(rt.alloc(), exported)?,
-        Err(error) => failed(rt.alloc(), &error)?,
+        Ok(exported) => written(rt.alloc(), exported),
+        Err(error) => failed(rt.alloc(), &error),
     };
-    let mut outcome = Outcome::lending(before, after, answer);
-    outcome.asked = Some(asked);
-    Ok(outcome)
+    Outcome::asking(Outcome::lending(before, after, answer), asked)
 }

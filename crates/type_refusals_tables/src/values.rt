@@ -4,7 +4,7 @@ use scale_info::value::{Dyn, decode_value};
 use scale_info_value_callers::print::print_decoded;
 use std::alloc::Global;
 use std::test::Fail;
-use type_refusals_common::answers::{Answer, failed};
+use type_refusals_common::answers::{Answer, done, failed};
 use type_refusals_common::marks::{begin, end};
 use type_refusals_common::outcomes::Outcome;
 use type_vectors_common::rows::row_bytes;
@@ -50,7 +50,7 @@ fn printed(
     let (again, _) = decode_value(alloc, table, 0, input)?;
     let digits = hex::encode(alloc, text.as_slice())?;
     let is_same = again == *value;
-    Ok(Answer::Done(format!(in alloc; "{digits} {rest:?} {is_same}")?))
+    Ok(done(format!(in alloc; "{digits} {rest:?} {is_same}"))?)
 }
 
 /// Decodes the value of a row.
@@ -60,8 +60,8 @@ pub fn decode(rt: &HostRuntime, name: &str) -> Result<Outcome, Fail> {
     let returned = decode_value(rt.alloc(), &table, 0, &input);
     end(rt);
     let answer = match returned {
-        Ok((value, _)) => printed(rt.alloc(), &table, &input, &value)?,
-        Err(error) => failed(rt.alloc(), &error)?,
+        Ok((value, _)) => Ok(printed(rt.alloc(), &table, &input, &value)?),
+        Err(error) => failed(rt.alloc(), &error),
     };
-    Ok(Outcome::of(answer))
+    Outcome::of(answer)
 }

@@ -1,6 +1,5 @@
 //! Fields and tuples, with types that are left out and types that only look like them.
 use crate::asserts::holds;
-use crate::parts::{list_of, with};
 use crate::phantom::{Nothing, Phantom};
 use scale_info::build::{Fields, FieldsBuilder, NamedFields, UnnamedFields};
 use scale_info::form::{Form, MetaForm};
@@ -9,6 +8,7 @@ use scale_info::meta_type::HasIdentity;
 use scale_info::{Field, MetaType, TypeDef, TypeDefComposite, TypeDefTuple};
 use std::alloc::{AllocError, Global};
 use std::test::Fail;
+use type_vectors_common::lists::{list_of, with};
 
 /// A case: the type of the second field, and whether the field stays.
 type Case = (&'static str, bool);

@@ -8,8 +8,6 @@ mod fields;
 #[cfg(test)]
 mod lists;
 #[cfg(test)]
-mod parts;
-#[cfg(test)]
 mod phantom;
 #[cfg(test)]
 mod structs;

@@ -1,11 +1,11 @@
 //! The macros that list types and parameters.
 use crate::asserts::holds;
-use crate::parts::{list_of, with};
 use scale_info::impls::meta_type;
 use scale_info::meta_type::HasIdentity;
 use scale_info::{MetaType, TypeParameter, named_type_params, tuple_meta_type, type_params};
 use std::alloc::{AllocError, Global};
 use std::test::Fail;
+use type_vectors_common::lists::{list_of, with};
 
 /// Three types, by their own calls.
 fn types(alloc: Global) -> Result<Vec<MetaType>, AllocError> {

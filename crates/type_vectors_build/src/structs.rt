@@ -3,7 +3,6 @@ ghost use Rattle.std.specs.Prelude.{codes};
 ghost use Rattle.scale_info_type_ids.specs.StandardTerms.{applied};
 
 use crate::asserts::{holds, is};
-use crate::parts::{list_of, with};
 use scale_info::build::{Fields, FieldsBuilder, NamedFields, PathNotAssigned, TypeBuilder};
 use scale_info::form::MetaForm;
 use scale_info::impls::meta_type;
@@ -15,6 +14,7 @@ use std::alloc::{AllocError, Global};
 use std::marker::PhantomData;
 use std::process::Abort;
 use std::test::Fail;
+use type_vectors_common::lists::{list_of, with};
 
 /// A struct with the field `data` of type `T`.
 pub struct MyStruct<T>(PhantomData<T>);

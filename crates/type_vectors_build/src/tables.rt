@@ -1,6 +1,5 @@
 //! A table whose last type, made by portable builders, refers to itself.
 use crate::asserts::{holds, is};
-use crate::parts::{list_of, with};
 use scale_info::build::{Fields, FieldsBuilder, NamedFields};
 use scale_info::form::PortableForm;
 use scale_info::{
@@ -10,6 +9,7 @@ use scale_info::{
 use std::alloc::{AllocError, Global};
 use std::process::Abort;
 use std::test::Fail;
+use type_vectors_common::lists::{list_of, with};
 
 /// The names of the fields; the field at an index has the type with that id.
 const NAMES: [&str; 3] = ["primitive", "vec_of_u32", "self_referential"];

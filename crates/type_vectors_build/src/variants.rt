@@ -1,6 +1,5 @@
 //! Enums: variants out of the order of their indices, and with equal indices.
 use crate::asserts::{holds, is};
-use crate::parts::{list_of, with};
 use scale_info::build::{Fields, FieldsBuilder, NamedFields, UnnamedFields, Variants};
 use scale_info::form::MetaForm;
 use scale_info::impls::meta_type;
@@ -9,6 +8,7 @@ use scale_info::{Field, Items, Path, Type, TypeDef, TypeDefVariant, Variant};
 use std::alloc::{AllocError, Global};
 use std::process::Abort;
 use std::test::Fail;
+use type_vectors_common::lists::{list_of, with};
 
 /// The names of the variants with their indices: `A(bool)`, `B { b: u8 }`, `C(u16, u32)` and `D`.
 const VARIANTS: [(&str, u8); 4] = [("A", 3), ("B", 0), ("C", 2), ("D", 3)];

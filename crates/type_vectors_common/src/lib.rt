@@ -2,6 +2,7 @@
 #![tactic(auto)]
 
 pub mod chains;
+pub mod lists;
 pub mod parts;
 pub mod rows;
 pub mod streams;

@@ -110,6 +110,24 @@ pub fn row_bytes(alloc: Global, digits: &str) -> Result<Vec<u8>, Fail> {
     Ok(bytes)
 }
 
+/// The numbers that spaces separate.
+pub fn numbers(alloc: Global, words: &str) -> Result<Vec<u32>, Fail> {
+    let mut all = Vec::new(alloc);
+    for word in words.split_whitespace() {
+        let number: u32 = word.parse()?;
+        all.push(number)?;
+    }
+    Ok(all)
+}
+
+/// The text before a mark, and the text after it.
+pub fn parted<'a>(text: &'a str, mark: char) -> Result<(&'a str, &'a str), Fail> {
+    match text.split_once(mark) {
+        Some(parts) => Ok(parts),
+        None => Err(Fail::new("a row lacks a part")),
+    }
+}
+
 /// The row of a line.
 fn read_row(alloc: Global, line: &str) -> Result<Row<'_>, Fail> {
     let Some((name, digits)) = line.split_once(':') else {

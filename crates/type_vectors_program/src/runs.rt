@@ -5,6 +5,7 @@ use std::io::{Read, Write};
 use std::test::Fail;
 use type_vectors_common::chains::encoding;
 use type_vectors_common::parts::text;
+use type_vectors_common::rows::numbers;
 
 /// What a run ends with.
 #[derive(Debug, PartialEq, Drop)]
@@ -73,16 +74,6 @@ fn by_tree(alloc: Global, table: &PortableRegistry) -> Result<Run, Fail> {
     let mut line = to_json(alloc, table)?.to_string(alloc)?;
     line.push('\n')?;
     wrote(alloc, line.as_bytes())
-}
-
-/// The numbers that spaces separate.
-fn numbers(alloc: Global, words: &str) -> Result<Vec<u32>, Fail> {
-    let mut all = Vec::new(alloc);
-    for word in words.split_whitespace() {
-        let number: u32 = word.parse()?;
-        all.push(number)?;
-    }
-    Ok(all)
 }
 
 /// The first of these ids that is no index of a table of so many entries.

@@ -3,7 +3,7 @@ use crate::own::{
     A, B, C, Choice, D, Documented, I256, Named, OptionOfPair, Recursive, References, Skipping,
     Triple, U256,
 };
-use crate::parts::{begun, composite, enumeration, given, list_of, named, variant, with};
+use crate::parts::{begun, composite, enumeration, given, named, variant};
 use scale_info::impls::{Compact, meta_type};
 use scale_info::meta_type::{Catalogue, CatalogueError, HasIdentity, Identified};
 use scale_info::{
@@ -14,6 +14,7 @@ use std::marker::PhantomData;
 use std::ops::Range;
 use std::test::Fail;
 use std::time::Duration;
+use type_vectors_common::lists::{list_of, with};
 
 /// A skipped parameter `S`, and `T` given `bool`.
 fn skipped_and_given(alloc: Global) -> Result<Vec<TypeParameter>, AllocError> {

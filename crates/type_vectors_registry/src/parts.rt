@@ -5,26 +5,10 @@ use scale_info::impls::meta_type;
 use scale_info::meta_type::HasIdentity;
 use scale_info::{Field, Items, Path, Type, TypeDef, TypeDefTuple, TypeParameter, Variant};
 use std::alloc::{AllocError, Global};
+use type_vectors_common::lists::list_of;
 
 /// A description in the making that has its path.
 pub type Begun = TypeBuilder<MetaForm, PathAssigned<MetaForm>>;
-
-/// A list of one item.
-pub fn list_of<T: Drop>(alloc: Global, item: T) -> Result<Vec<T>, AllocError> {
-    let mut list = Vec::new(alloc);
-    list.push(item)?;
-    Ok(list)
-}
-
-/// The list with the item at its end; an Err stays as it is.
-pub fn with<T: Drop>(
-    so_far: Result<Vec<T>, AllocError>,
-    item: Result<T, AllocError>,
-) -> Result<Vec<T>, AllocError> {
-    let mut list = so_far?;
-    list.push(item?)?;
-    Ok(list)
-}
 
 /// A field of this type, without docs.
 pub fn field<T: HasIdentity>(

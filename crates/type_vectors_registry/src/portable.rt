@@ -1,7 +1,7 @@
 //! Values that hold types, with ids in their place.
 use crate::asserts::{holds, is};
 use crate::described::catalogue;
-use crate::parts::{field, given, list_of, named, tuple, variant, with};
+use crate::parts::{field, given, named, tuple, variant};
 use crate::registered::{count, is_written};
 use scale_info::form::{Form, MetaForm, PortableForm};
 use scale_info::impls::meta_type;
@@ -14,6 +14,7 @@ use scale_info_registry_callers::call::{Call, PortableCall};
 use std::alloc::{AllocError, Global};
 use std::process::Abort;
 use std::test::Fail;
+use type_vectors_common::lists::{list_of, with};
 use type_vectors_common::parts;
 use type_vectors_common::rows::{TABLES, row_named};
 

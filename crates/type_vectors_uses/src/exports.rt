@@ -1,9 +1,8 @@
 //! What is written for some types, which the filter chooses by their ids.
 use crate::asserts::{holds, is};
-use scale_info::export::{ExportError, export};
+use scale_info::export::export;
 use scale_info::impls::meta_type;
-use scale_info::meta_type::{Catalogue, Identified};
-use scale_info::registry::RegisterError;
+use scale_info::meta_type::Catalogue;
 use scale_info::{MetaType, PortableRegistry, Registry};
 use std::alloc::Global;
 use std::test::Fail;
@@ -90,19 +89,5 @@ fn what_is_written_is_decoded_before_other_bytes(rt: HostRuntime) -> Result<(), 
     let (table, rest) = PortableRegistry::decode(alloc, &bytes)?;
     is(&rt, "rest", rest, [0xffu8].as_slice());
     holds(&rt, "table", table == afresh(alloc, &known)?);
-    Ok(())
-}
-
-#[test]
-fn an_error_leaves_the_output(rt: HostRuntime) -> Result<(), Fail> {
-    let alloc = rt.alloc();
-    let mut known = Catalogue::new(alloc);
-    known.add::<Vec<u32>>()?;
-    let mut out = vec![in alloc; 0xaa]?;
-    let types = vec![in alloc; meta_type::<Vec<u32>>(alloc)?]?;
-    let refused = export(&known, &types, |_| true, &mut out).err();
-    let missing = RegisterError::Undescribed(u32::type_id(alloc)?);
-    is(&rt, "u32", refused, Some(ExportError::Register(missing)));
-    is(&rt, "output", out, vec![in alloc; 0xaa]?);
     Ok(())
 }

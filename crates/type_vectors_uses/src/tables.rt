@@ -5,7 +5,7 @@ use std::alloc::Global;
 use std::collections::BTreeMap;
 use std::process::Abort;
 use std::test::Fail;
-use type_vectors_common::rows::row_bytes;
+use type_vectors_common::rows::{numbers, parted, row_bytes};
 
 /// A row is the chosen ids, a colon, a table, an arrow, the pruned table, another arrow, and each
 /// old id that is kept with its new one. The tables that `type_vectors_registry` registers are
@@ -60,16 +60,6 @@ const PRUNED: &str = "\
     > 0 2 1 0 2 1
 ";
 
-/// The numbers that spaces separate.
-fn numbers(alloc: Global, words: &str) -> Result<Vec<u32>, Fail> {
-    let mut all = Vec::new(alloc);
-    for word in words.split_whitespace() {
-        let number: u32 = word.parse()?;
-        all.push(number)?;
-    }
-    Ok(all)
-}
-
 /// A row, read.
 #[derive(Drop)]
 struct Pruning {
@@ -81,15 +71,9 @@ struct Pruning {
 
 /// The row of a line.
 fn read_row(alloc: Global, line: &str) -> Result<Pruning, Fail> {
-    let Some((chosen, rest)) = line.split_once(':') else {
-        return Err(Fail::new("a row has no colon"));
-    };
-    let Some((input, rest)) = rest.split_once('>') else {
-        return Err(Fail::new("a row has no arrow"));
-    };
-    let Some((output, ids)) = rest.split_once('>') else {
-        return Err(Fail::new("a row has one arrow"));
-    };
+    let (chosen, rest) = parted(line, ':')?;
+    let (input, rest) = parted(rest, '>')?;
+    let (output, ids) = parted(rest, '>')?;
     Ok(Pruning {
         chosen: numbers(alloc, chosen)?,
         input: row_bytes(alloc, input)?,
@@ -132,28 +116,6 @@ fn prune_appends_what_the_given_ids_reach(rt: HostRuntime) -> Result<(), Fail> {
         is(&rt, line, &output[1..], row.output.as_slice());
         maps_so(&rt, line, &new_ids, &row.ids);
     }
-    Ok(())
-}
-
-/// The filter is asked for each id before the walk finds that one is missing.
-#[test]
-fn a_dangling_id_leaves_the_table(rt: HostRuntime) -> Result<(), Fail> {
-    let bytes = row_bytes(rt.alloc(), "08 000000050000 040000021c00")?;
-    let (mut table, _) = PortableRegistry::decode(rt.alloc(), &bytes)?;
-    let mut asked = 0u32;
-    let new_ids = table.retain(rt.alloc(), |id| {
-        asked = asked.saturating_add(1);
-        id == 1
-    });
-    holds(
-        &rt,
-        "retain",
-        new_ids == Err(RetainError::Dangling { id: 7 }),
-    );
-    is(&rt, "asked", asked, 2);
-    let mut output = Vec::new(rt.alloc());
-    table.encode(&mut output)?;
-    is(&rt, "as before", output, bytes);
     Ok(())
 }
 

@@ -2,9 +2,8 @@
 use crate::asserts::{holds, is};
 use scale_info::walk::{number, number_recursive};
 use scale_info::{PortableRegistry, RetainError};
-use std::alloc::Global;
 use std::test::Fail;
-use type_vectors_common::rows::{TABLES, row_bytes, rows};
+use type_vectors_common::rows::{TABLES, numbers, parted, row_bytes, rows};
 
 /// A row is the roots, a colon, a table, an arrow, the order, another arrow and the steps.
 const NUMBERINGS: &str = "\
@@ -21,24 +20,6 @@ const NUMBERINGS: &str = "\
 2: 0c 000000020400 040000020800 080000020000 > 2 0 1 > 3
 1: 0c 000000050000 04000008080000 080000050500 > 1 2 0 > 2
 ";
-
-/// The numbers that spaces separate.
-fn numbers(alloc: Global, words: &str) -> Result<Vec<u32>, Fail> {
-    let mut all = Vec::new(alloc);
-    for word in words.split_whitespace() {
-        let number: u32 = word.parse()?;
-        all.push(number)?;
-    }
-    Ok(all)
-}
-
-/// The text before a mark, and the text after it.
-fn parted<'a>(text: &'a str, mark: char) -> Result<(&'a str, &'a str), Fail> {
-    match text.split_once(mark) {
-        Some(parts) => Ok(parts),
-        None => Err(Fail::new("a row lacks a part")),
-    }
-}
 
 #[test]
 fn tables_are_numbered_so(rt: HostRuntime) -> Result<(), Fail> {

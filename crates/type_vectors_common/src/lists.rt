@@ -1,4 +1,4 @@
-//! Lists, grown item by item.
+//! Lists that are made an item at a time.
 use std::alloc::{AllocError, Global};
 
 /// A list of one item.
