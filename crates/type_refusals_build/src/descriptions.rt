@@ -17,11 +17,11 @@ fn done<T>(value: T) -> Result<T, AllocError> {
 
 /// Gives a description docs.
 pub fn docs(rt: &HostRuntime) -> Result<Outcome, Fail> {
+    let path = demo_path(rt.alloc())?;
     let builder = Type::builder(rt.alloc());
     begin(rt);
     let returned = builder.docs(rt.alloc(), &["a struct", ""]);
     end(rt);
-    let path = demo_path(rt.alloc())?;
     let unit = Fields::unit::<MetaForm>(rt.alloc());
     let ty = match returned {
         Ok(builder) => Ok(builder.path(path).composite(unit)),

@@ -4,25 +4,40 @@ use scale_info::meta_type::HasIdentity;
 use scale_info::{MetaType, TypeParameter, named_type_params, tuple_meta_type, type_params};
 use std::alloc::{AllocError, Global};
 use std::test::Fail;
-use type_refusals_common::answers::{Answer, failed};
+use type_refusals_common::answers::{done, failed};
 use type_refusals_common::marks::{begin, end};
 use type_refusals_common::outcomes::Outcome;
+
+/// The identities of types.
+fn text_of_types(alloc: Global, types: &[MetaType]) -> Result<String, AllocError> {
+    let mut text = String::new(alloc);
+    for ty in types {
+        let id = ty.type_id();
+        text.push_str(format!(in alloc; "{id:?} ")?.as_str())?;
+    }
+    Ok(text)
+}
 
 /// The identities of types, or the error.
 fn shown_types(
     alloc: Global,
     returned: Result<Vec<MetaType>, AllocError>,
 ) -> Result<Outcome, Fail> {
-    let types = match returned {
-        Ok(types) => types,
-        Err(error) => return Outcome::of(failed(alloc, &error)),
+    let answer = match returned {
+        Ok(types) => done(text_of_types(alloc, &types)),
+        Err(error) => failed(alloc, &error),
     };
+    Outcome::of(answer)
+}
+
+/// The names and the identities of parameters.
+fn text_of_parameters(alloc: Global, params: &[TypeParameter]) -> Result<String, AllocError> {
     let mut text = String::new(alloc);
-    for ty in &types {
-        let id = ty.type_id();
-        text.push_str(format!(in alloc; "{id:?} ")?.as_str())?;
+    for param in params {
+        let (name, id) = (*param.name(), param.ty().map(|ty| ty.type_id()));
+        text.push_str(format!(in alloc; "{name} {id:?} ")?.as_str())?;
     }
-    Outcome::of(Ok(Answer::Done(text)))
+    Ok(text)
 }
 
 /// The names and the identities of parameters, or the error.
@@ -30,16 +45,11 @@ fn shown_parameters(
     alloc: Global,
     returned: Result<Vec<TypeParameter>, AllocError>,
 ) -> Result<Outcome, Fail> {
-    let params = match returned {
-        Ok(params) => params,
-        Err(error) => return Outcome::of(failed(alloc, &error)),
+    let answer = match returned {
+        Ok(params) => done(text_of_parameters(alloc, &params)),
+        Err(error) => failed(alloc, &error),
     };
-    let mut text = String::new(alloc);
-    for param in &params {
-        let (name, id) = (*param.name(), param.ty().map(|ty| ty.type_id()));
-        text.push_str(format!(in alloc; "{name} {id:?} ")?.as_str())?;
-    }
-    Outcome::of(Ok(Answer::Done(text)))
+    Outcome::of(answer)
 }
 
 /// Lists types.

@@ -10,6 +10,7 @@ use scale_info::{
 use std::alloc::{AllocError, Global};
 use std::ops::Range;
 use std::test::Fail;
+use type_vectors_common::catalogues::add_own;
 use type_vectors_common::lists::{list_of, with};
 
 /// A pair of `u32` and `bool`.
@@ -145,23 +146,13 @@ fn add_generic(catalogue: &mut Catalogue) -> Result<(), CatalogueError> {
     Ok(())
 }
 
-/// Adds what a type of the program's own is described as.
-fn add_own<T: Identified>(
-    alloc: Global,
-    catalogue: &mut Catalogue,
-    description: Result<Type, AllocError>,
-) -> Result<(), CatalogueError> {
-    catalogue.add_described(T::type_id(alloc)?, description?)?;
-    Ok(())
-}
-
 /// The catalogue of all types here.
 pub fn catalogue(alloc: Global) -> Result<Catalogue, CatalogueError> {
     let mut all = Catalogue::new(alloc);
     add_plain(&mut all)?;
     add_generic(&mut all)?;
-    add_own::<Recursive>(alloc, &mut all, recursive(alloc))?;
-    add_own::<Bits>(alloc, &mut all, bits(alloc))?;
-    add_own::<Mapping>(alloc, &mut all, mapping(alloc))?;
+    add_own(&mut all, Recursive::type_id(alloc)?, recursive(alloc))?;
+    add_own(&mut all, Bits::type_id(alloc)?, bits(alloc))?;
+    add_own(&mut all, Mapping::type_id(alloc)?, mapping(alloc))?;
     Ok(all)
 }

@@ -1,7 +1,7 @@
 //! Catalogues, to which descriptions are added.
 use scale_info::impls::Compact;
-use scale_info::meta_type::{Catalogue, Identified};
-use scale_info::{TypeId, TypeInfo};
+use scale_info::meta_type::{Catalogue, CatalogueError, Identified};
+use scale_info::{Type, TypeDefPrimitive, TypeId, TypeInfo};
 use std::alloc::{AllocError, Global};
 use std::ops::Range;
 use std::test::Fail;
@@ -10,31 +10,42 @@ use type_refusals_common::marks::{begin, end};
 use type_refusals_common::outcomes::Outcome;
 use type_refusals_common::own::Missing;
 use type_refusals_common::types::{Pair, catalogue, description_named, type_named};
+use type_vectors_common::catalogues::add_own;
 
 /// The identity of this number.
 fn numbered(alloc: Global, number: usize) -> Result<TypeId, AllocError> {
     Ok(TypeId::new("demo::Numbered", vec![in alloc; number]?, Vec::new(alloc)))
 }
 
+/// The description of `u32`.
+fn plain(alloc: Global) -> Type {
+    Type::from_def(alloc, TypeDefPrimitive::U32.into())
+}
+
 /// A catalogue of fifteen descriptions, whose map needs room for one more.
-fn fifteen(alloc: Global) -> Result<Catalogue, Fail> {
+fn fifteen(alloc: Global) -> Result<Catalogue, CatalogueError> {
     let mut known = Catalogue::new(alloc);
     for number in 0..15 {
-        known.add_described(numbered(alloc, number)?, description_named(alloc, "u32")?)?;
+        add_own(&mut known, numbered(alloc, number)?, Ok(plain(alloc)))?;
     }
     Ok(known)
+}
+
+/// How many of the fifteen a catalogue has.
+fn kept(alloc: Global, known: &Catalogue) -> Result<u32, AllocError> {
+    let mut kept = 0u32;
+    for number in 0..15 {
+        let id = numbered(alloc, number)?;
+        kept = kept.saturating_add(known.get(&id).is_some() as u32);
+    }
+    Ok(kept)
 }
 
 /// How many descriptions a catalogue has, whether it has one of this identity, and how many of the
 /// fifteen it has.
 fn state(alloc: Global, known: &Catalogue, identity: &TypeId) -> Result<String, AllocError> {
     let (len, new) = (known.len(), known.get(identity).is_some());
-    let mut kept = 0u32;
-    for number in 0..15 {
-        if known.get(&numbered(alloc, number)?).is_some() {
-            kept = kept.saturating_add(1);
-        }
-    }
+    let kept = kept(alloc, known)?;
     format!(in alloc; "{len} {new} {kept}")
 }
 
@@ -66,8 +77,8 @@ pub fn add(rt: &HostRuntime, name: &str) -> Result<Outcome, Fail> {
 
 /// Adds the description of this name under an identity, and says what is returned.
 fn added(rt: &HostRuntime, known: &mut Catalogue, name: &str) -> Result<Answer, Fail> {
-    let description = description_named(rt.alloc(), name)?;
     let identity = Missing::type_id(rt.alloc())?;
+    let description = description_named(rt.alloc(), name)?;
     begin(rt);
     let returned = known.add_described(identity, description);
     end(rt);

@@ -1,8 +1,8 @@
 //! Registrations of types of a program.
-use crate::registries::{descriptions, listed, registry_of, registry_of_u8, state};
+use crate::registries::{described_registry_of, descriptions, listed, registry_of_u8, state};
 use scale_info::export::{Exported, export};
 use scale_info::meta_type::Catalogue;
-use scale_info::{IntoPortable, MetaType, PortableRegistry, Scale, tuple_meta_type};
+use scale_info::{Field, IntoPortable, MetaType, PortableRegistry, Scale, tuple_meta_type};
 use std::alloc::{AllocError, Global};
 use std::test::Fail;
 use type_refusals_common::answers::{Answer, done, encoded, failed};
@@ -27,8 +27,9 @@ pub fn register_type(rt: &HostRuntime, name: &str) -> Result<Outcome, Fail> {
 
 /// Registers a type that the registry has, under a catalogue without descriptions.
 pub fn register_known_type(rt: &HostRuntime, name: &str) -> Result<Outcome, Fail> {
-    let mut registry = registry_of(rt.alloc(), &catalogue(rt.alloc())?, name)?;
-    let (ty, nothing) = (type_named(rt.alloc(), name)?, Catalogue::new(rt.alloc()));
+    let ty = type_named(rt.alloc(), name)?;
+    let mut registry = described_registry_of(rt.alloc(), name)?;
+    let nothing = Catalogue::new(rt.alloc());
     let before = descriptions(rt.alloc(), &registry);
     begin(rt);
     let returned = registry.register_type(&ty, &nothing);
@@ -57,12 +58,17 @@ pub fn register_types(rt: &HostRuntime, name: &str) -> Result<Outcome, Fail> {
     Outcome::lending(before, after, encoded(rt.alloc(), listed(returned)))
 }
 
+/// Two fields.
+fn two_fields(alloc: Global) -> Result<Vec<Field>, AllocError> {
+    let first = list_of(alloc, documented_field(alloc)?);
+    with(first, documented_field(alloc))
+}
+
 /// Converts two fields.
 pub fn map_into_portable(rt: &HostRuntime) -> Result<Outcome, Fail> {
+    let fields = two_fields(rt.alloc())?;
     let known = catalogue(rt.alloc())?;
     let mut registry = registry_of_u8(rt.alloc(), &known)?;
-    let first = list_of(rt.alloc(), documented_field(rt.alloc())?);
-    let fields = with(first, documented_field(rt.alloc()))?;
     let before = state(rt.alloc(), &registry, &known);
     begin(rt);
     let returned = registry.map_into_portable(fields, &known);
@@ -88,7 +94,7 @@ where
 
 /// Makes the table of a registry.
 pub fn from_registry(rt: &HostRuntime, name: &str) -> Result<Outcome, Fail> {
-    let registry = registry_of(rt.alloc(), &catalogue(rt.alloc())?, name)?;
+    let registry = described_registry_of(rt.alloc(), name)?;
     begin(rt);
     let returned = PortableRegistry::from_registry(rt.alloc(), &registry);
     end(rt);

@@ -5,13 +5,19 @@ use scale_info::{Items, MetaType, Registry};
 use std::alloc::{AllocError, Global};
 use std::test::Fail;
 use type_refusals_common::answers::digits;
-use type_refusals_common::types::type_named;
+use type_refusals_common::types::{catalogue, type_named};
 
 /// The registry of `u8` and of the type of this name.
 pub fn registry_of(alloc: Global, known: &Catalogue, name: &str) -> Result<Registry, Fail> {
     let mut registry = registry_of_u8(alloc, known)?;
     registry.register_type(&type_named(alloc, name)?, known)?;
     Ok(registry)
+}
+
+/// The registry of `u8` and of the type of this name, under the catalogue of all types.
+pub fn described_registry_of(alloc: Global, name: &str) -> Result<Registry, Fail> {
+    let known = catalogue(alloc)?;
+    registry_of(alloc, &known, name)
 }
 
 /// The registry of `u8`.

@@ -1,6 +1,6 @@
 //! Values that are decoded by a table.
 use scale_info::PortableRegistry;
-use scale_info::value::{Dyn, decode_value};
+use scale_info::value::{Dyn, ValueError, decode_value};
 use scale_info_value_callers::print::print_decoded;
 use std::alloc::Global;
 use std::test::Fail;
@@ -38,6 +38,17 @@ fn row(alloc: Global, name: &str) -> Result<(PortableRegistry, Vec<u8>), Fail> {
     Err(Fail::new("no value has this name"))
 }
 
+/// Whether another decoding gives this value too.
+fn is_decoded_again(
+    alloc: Global,
+    table: &PortableRegistry,
+    input: &[u8],
+    value: &Dyn,
+) -> Result<bool, Fail> {
+    let (again, _) = decode_value(alloc, table, 0, input)?;
+    Ok(again == *value)
+}
+
 /// How a value that was decoded is printed, and whether another decoding gives it too.
 fn printed(
     alloc: Global,
@@ -45,12 +56,24 @@ fn printed(
     input: &[u8],
     value: &Dyn,
 ) -> Result<Answer, Fail> {
+    let is_same = is_decoded_again(alloc, table, input, value)?;
     let mut text = Vec::new(alloc);
     let rest = print_decoded(alloc, table, 0, input, &mut text)?;
-    let (again, _) = decode_value(alloc, table, 0, input)?;
     let digits = hex::encode(alloc, text.as_slice())?;
-    let is_same = again == *value;
     Ok(done(format!(in alloc; "{digits} {rest:?} {is_same}"))?)
+}
+
+/// The answer of a decoding.
+fn answer(
+    alloc: Global,
+    table: &PortableRegistry,
+    input: &[u8],
+    returned: Result<(Dyn, &[u8]), ValueError>,
+) -> Result<Answer, Fail> {
+    match returned {
+        Ok((value, _)) => printed(alloc, table, input, &value),
+        Err(error) => Ok(failed(alloc, &error)?),
+    }
 }
 
 /// Decodes the value of a row.
@@ -59,9 +82,6 @@ pub fn decode(rt: &HostRuntime, name: &str) -> Result<Outcome, Fail> {
     begin(rt);
     let returned = decode_value(rt.alloc(), &table, 0, &input);
     end(rt);
-    let answer = match returned {
-        Ok((value, _)) => Ok(printed(rt.alloc(), &table, &input, &value)?),
-        Err(error) => failed(rt.alloc(), &error),
-    };
-    Outcome::of(answer)
+    let answer = answer(rt.alloc(), &table, &input, returned)?;
+    Outcome::of(Ok(answer))
 }

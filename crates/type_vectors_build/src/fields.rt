@@ -5,9 +5,10 @@ use scale_info::build::{Fields, FieldsBuilder, NamedFields, UnnamedFields};
 use scale_info::form::{Form, MetaForm};
 use scale_info::impls::meta_type;
 use scale_info::meta_type::HasIdentity;
-use scale_info::{Field, MetaType, TypeDef, TypeDefComposite, TypeDefTuple};
+use scale_info::{Field, Items, MetaType, TypeDef, TypeDefComposite, TypeDefTuple};
 use std::alloc::{AllocError, Global};
 use std::test::Fail;
+use type_vectors_common::compare::are_equal;
 use type_vectors_common::lists::{list_of, with};
 
 /// A case: the type of the second field, and whether the field stays.
@@ -154,8 +155,8 @@ fn wanted_field(alloc: Global) -> Result<Field, AllocError> {
 
 #[test]
 fn one_field_by_its_builder(rt: HostRuntime) -> Result<(), Fail> {
-    let alloc = rt.alloc();
-    holds(&rt, "field", built_field(alloc)? == wanted_field(alloc)?);
+    let is_wanted = are_equal(built_field(rt.alloc()), wanted_field(rt.alloc()))?;
+    holds(&rt, "field", is_wanted);
     Ok(())
 }
 
@@ -175,23 +176,16 @@ fn wanted_members(alloc: Global, case: Case) -> Result<Vec<MetaType>, AllocError
     }
 }
 
-/// Whether a definition is the tuple of these members.
-fn is_tuple_of<F: Form>(definition: &TypeDef<F>, members: &[F::Ty]) -> bool {
-    match definition {
-        TypeDef::Tuple(tuple) => tuple.fields() == members,
-        _ => false,
-    }
-}
-
-/// Whether a definition is the tuple that the case is to have.
-fn is_wanted(alloc: Global, case: Case, tuple: &TypeDef) -> Result<bool, AllocError> {
-    Ok(is_tuple_of(tuple, &wanted_members(alloc, case)?))
+/// The tuple of these members.
+fn tuple_of<F: Form>(members: Result<Vec<F::Ty>, AllocError>) -> Result<TypeDef<F>, AllocError> {
+    let fields = Items::from(members?);
+    Ok(TypeDef::Tuple(TypeDefTuple { fields }))
 }
 
 /// Whether the tuple of the case has the members that are wanted.
 fn has_members(alloc: Global, case: Case) -> Result<bool, AllocError> {
-    let tuple = tuple(alloc, case.0)?;
-    is_wanted(alloc, case, &tuple)
+    let wanted = tuple_of::<MetaForm>(wanted_members(alloc, case));
+    are_equal(tuple(alloc, case.0), wanted)
 }
 
 #[test]
@@ -207,21 +201,21 @@ fn single<T: HasIdentity>(alloc: Global) -> Result<TypeDef, AllocError> {
     TypeDefTuple::new(alloc, list_of(alloc, meta_type::<T>(alloc)?)?)
 }
 
-/// The tuple of nothing.
-fn nothing(alloc: Global) -> TypeDef {
-    TypeDefTuple::unit(alloc)
+/// Whether the tuple of this type alone is the tuple of nothing.
+fn single_is_unit<T: HasIdentity>(alloc: Global) -> Result<bool, AllocError> {
+    are_equal(single::<T>(alloc), Ok(TypeDefTuple::unit(alloc)))
 }
 
 #[test]
 fn a_tuple_of_a_phantom_is_that_of_nothing(rt: HostRuntime) -> Result<(), Fail> {
-    let phantoms = single::<Phantom<u8>>(rt.alloc())?;
-    holds(&rt, "a phantom alone", phantoms == nothing(rt.alloc()));
+    let is_unit = single_is_unit::<Phantom<u8>>(rt.alloc())?;
+    holds(&rt, "a phantom alone", is_unit);
     Ok(())
 }
 
 #[test]
 fn a_tuple_of_a_number_is_another(rt: HostRuntime) -> Result<(), Fail> {
-    let other = single::<u8>(rt.alloc())?;
-    holds(&rt, "a member", other != nothing(rt.alloc()));
+    let is_unit = single_is_unit::<u8>(rt.alloc())?;
+    holds(&rt, "a member", !is_unit);
     Ok(())
 }

@@ -14,6 +14,7 @@ use std::alloc::{AllocError, Global};
 use std::marker::PhantomData;
 use std::process::Abort;
 use std::test::Fail;
+use type_vectors_common::compare::equals;
 use type_vectors_common::lists::{list_of, with};
 
 /// A struct with the field `data` of type `T`.
@@ -65,7 +66,7 @@ fn built<T: HasIdentity>(alloc: Global) -> Result<Type, AllocError> {
 
 /// Whether a description has the struct's path.
 fn has_path(alloc: Global, ty: &Type) -> Result<bool, AllocError> {
-    Ok(ty.path == path(alloc)?)
+    equals(&ty.path, path(alloc))
 }
 
 /// The struct's parameter, by its constructor.
@@ -88,7 +89,7 @@ fn fields<T: HasIdentity>(alloc: Global) -> Result<TypeDef, AllocError> {
 
 /// Whether a description has the field of this type.
 fn has_field<T: HasIdentity>(alloc: Global, ty: &Type) -> Result<bool, AllocError> {
-    Ok(ty.type_def == fields::<T>(alloc)?)
+    equals(&ty.type_def, fields::<T>(alloc))
 }
 
 /// Asserts that a description is the struct's with the parameter `P` and a field of type `D`.
@@ -104,14 +105,18 @@ fn is_struct_of<P: HasIdentity, D: HasIdentity>(
     Ok(())
 }
 
+/// Asserts that the struct that is built of `D` is the one with the parameter `P`.
+fn is_built<P: HasIdentity, D: HasIdentity>(rt: &impl Abort, alloc: Global) -> Result<(), Fail> {
+    let built = built::<D>(alloc)?;
+    is_struct_of::<P, D>(rt, alloc, &built)
+}
+
 #[test]
 fn a_struct_of_bool(rt: HostRuntime) -> Result<(), Fail> {
-    let built = built::<bool>(rt.alloc())?;
-    is_struct_of::<bool, bool>(&rt, rt.alloc(), &built)
+    is_built::<bool, bool>(&rt, rt.alloc())
 }
 
 #[test]
 fn a_struct_of_itself(rt: HostRuntime) -> Result<(), Fail> {
-    let built = built::<Box<MyStruct<bool>>>(rt.alloc())?;
-    is_struct_of::<MyStruct<bool>, Box<MyStruct<bool>>>(&rt, rt.alloc(), &built)
+    is_built::<MyStruct<bool>, Box<MyStruct<bool>>>(&rt, rt.alloc())
 }

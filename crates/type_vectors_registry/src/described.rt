@@ -7,13 +7,14 @@ use crate::parts::{begun, composite, enumeration, given, named, variant};
 use scale_info::impls::{Compact, meta_type};
 use scale_info::meta_type::{Catalogue, CatalogueError, HasIdentity, Identified};
 use scale_info::{
-    Field, Type, TypeDefComposite, TypeDefPrimitive, TypeDefVariant, TypeParameter, Variant,
+    Field, Type, TypeDefComposite, TypeDefPrimitive, TypeDefVariant, TypeId, TypeParameter, Variant,
 };
 use std::alloc::{AllocError, Global};
 use std::marker::PhantomData;
 use std::ops::Range;
 use std::test::Fail;
 use std::time::Duration;
+use type_vectors_common::catalogues::add_own;
 use type_vectors_common::lists::{list_of, with};
 
 /// A skipped parameter `S`, and `T` given `bool`.
@@ -75,34 +76,37 @@ fn choice(alloc: Global) -> Result<Type, AllocError> {
     Ok(Type::from_def(alloc, TypeDefVariant::from(both).into()))
 }
 
-/// Adds a description of a program's own type.
-fn add_own<T: Identified>(
-    alloc: Global,
-    known: &mut Catalogue,
-    description: Result<Type, AllocError>,
-) -> Result<bool, CatalogueError> {
-    let id = T::type_id(alloc)?;
-    known.add_described(id, description?)
-}
-
 /// Adds a composite without parameters.
-fn add_composite<T: Identified>(
+fn add_composite(
     alloc: Global,
     known: &mut Catalogue,
+    id: TypeId,
     name: &'static str,
     fields: Result<Vec<Field>, AllocError>,
 ) -> Result<bool, CatalogueError> {
-    let description = composite(alloc, name, Ok(Vec::new(alloc)), fields);
-    add_own::<T>(alloc, known, description)
+    add_own(
+        known,
+        id,
+        composite(alloc, name, Ok(Vec::new(alloc)), fields),
+    )
 }
 
 /// Adds `C {}`, `A { b: B, c: C }`, `B { d: D }` and `D { a: A }`.
 fn add_composites(alloc: Global, known: &mut Catalogue) -> Result<bool, CatalogueError> {
-    add_composite::<C>(alloc, known, "C", Ok(Vec::new(alloc)))?;
-    add_composite::<B>(alloc, known, "B", one_field::<D>(alloc, "d"))?;
-    add_composite::<D>(alloc, known, "D", one_field::<A>(alloc, "a"))?;
+    let id = C::type_id(alloc)?;
+    add_composite(alloc, known, id, "C", Ok(Vec::new(alloc)))?;
+    let id = B::type_id(alloc)?;
+    add_composite(alloc, known, id, "B", one_field::<D>(alloc, "d"))?;
+    let id = D::type_id(alloc)?;
+    add_composite(alloc, known, id, "D", one_field::<A>(alloc, "a"))?;
+    let id = A::type_id(alloc)?;
     let fields = with(one_field::<B>(alloc, "b"), named::<C>(alloc, "c"));
-    add_composite::<A>(alloc, known, "A", fields)
+    add_composite(alloc, known, id, "A", fields)
+}
+
+/// The description of a primitive.
+fn number(alloc: Global, primitive: TypeDefPrimitive) -> Type {
+    Type::from_def(alloc, primitive.into())
 }
 
 /// Adds `bool`, `char`, `String` and the numbers of 256 bits.
@@ -110,10 +114,10 @@ fn add_primitives(alloc: Global, known: &mut Catalogue) -> Result<bool, Catalogu
     known.add::<bool>()?;
     known.add::<char>()?;
     known.add::<String>()?;
-    let unsigned = Type::from_def(alloc, TypeDefPrimitive::U256.into());
-    add_own::<U256>(alloc, known, Ok(unsigned))?;
-    let signed = Type::from_def(alloc, TypeDefPrimitive::I256.into());
-    add_own::<I256>(alloc, known, Ok(signed))
+    let id = U256::type_id(alloc)?;
+    add_own(known, id, Ok(number(alloc, TypeDefPrimitive::U256)))?;
+    let id = I256::type_id(alloc)?;
+    add_own(known, id, Ok(number(alloc, TypeDefPrimitive::I256)))
 }
 
 /// Adds numbers.
@@ -150,18 +154,23 @@ fn add_tuples(known: &mut Catalogue) -> Result<bool, CatalogueError> {
 
 /// Adds a struct of itself, and `P { a: u8, b: bool }` with a skipped parameter.
 fn add_structs(alloc: Global, known: &mut Catalogue) -> Result<bool, CatalogueError> {
-    add_composite::<References>(alloc, known, "RecursiveRefs", references(alloc))?;
+    let id = References::type_id(alloc)?;
+    add_composite(alloc, known, id, "RecursiveRefs", references(alloc))?;
+    let id = Skipping::type_id(alloc)?;
     let fields = with(one_field::<u8>(alloc, "a"), named::<bool>(alloc, "b"));
-    let skipping = composite(alloc, "P", skipped_and_given(alloc), fields);
-    add_own::<Skipping>(alloc, known, skipping)
+    add_own(
+        known,
+        id,
+        composite(alloc, "P", skipped_and_given(alloc), fields),
+    )
 }
 
 /// Adds an enum of itself, an enum with docs, and types without a path.
 fn add_others(alloc: Global, known: &mut Catalogue) -> Result<bool, CatalogueError> {
-    add_own::<Named>(alloc, known, fielded(alloc))?;
-    add_own::<Choice>(alloc, known, choice(alloc))?;
-    add_own::<Recursive>(alloc, known, recursive(alloc))?;
-    add_own::<Documented>(alloc, known, documented(alloc))
+    add_own(known, Named::type_id(alloc)?, fielded(alloc))?;
+    add_own(known, Choice::type_id(alloc)?, choice(alloc))?;
+    add_own(known, Recursive::type_id(alloc)?, recursive(alloc))?;
+    add_own(known, Documented::type_id(alloc)?, documented(alloc))
 }
 
 /// Adds all types here.

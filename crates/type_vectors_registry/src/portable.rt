@@ -179,14 +179,20 @@ fn portable_calls(alloc: Global, registry: &mut Registry) -> Result<Vec<Portable
     Ok(registry.map_into_portable(calls, &known)?)
 }
 
+/// Asserts that the calls `a` and `b` leave with the ids 0 and 1.
+fn are_calls(rt: &impl Abort, alloc: Global, registry: &mut Registry) -> Result<(), Fail> {
+    let portable = portable_calls(alloc, registry)?;
+    is(rt, "the calls", portable.len(), 2);
+    is_call(rt, "a", portable.first(), 0);
+    is_call(rt, "b", portable.get(1), 1);
+    Ok(())
+}
+
 #[test]
 fn calls_leave_with_their_types(rt: HostRuntime) -> Result<(), Fail> {
     let alloc = rt.alloc();
-    let mut registry = Registry::new(alloc);
-    let portable = portable_calls(alloc, &mut registry)?;
-    is(&rt, "the calls", portable.len(), 2);
-    is_call(&rt, "a", portable.first(), 0);
-    is_call(&rt, "b", portable.get(1), 1);
     let row = row_named(alloc, TABLES, "Vec<u32>")?;
+    let mut registry = Registry::new(alloc);
+    are_calls(&rt, alloc, &mut registry)?;
     is_written(&rt, alloc, row.name, &registry, &row.bytes)
 }

@@ -85,16 +85,21 @@ fn a_refused_list_leaves_what_was_there(rt: HostRuntime) -> Result<(), Fail> {
     Ok(())
 }
 
+/// Asserts that under a catalogue of nothing `u8` is found by a box of it, and `bool` is refused.
+fn u8_alone_is_known(rt: &impl Abort, alloc: Global, registry: &mut Registry) -> Result<(), Fail> {
+    let nothing = Catalogue::new(alloc);
+    let refused = register::<bool>(alloc, registry, &nothing);
+    holds(rt, "bool", refused.is_err());
+    let found = ids(alloc, registry, &nothing, tuple_meta_type!(alloc; Box<u8>)?)?;
+    is(rt, "Box<u8>", found.as_slice(), [0].as_slice());
+    Ok(())
+}
+
 #[test]
 fn a_known_type_needs_no_description(rt: HostRuntime) -> Result<(), Fail> {
-    let alloc = rt.alloc();
-    let mut registry = registry_of_u8(alloc)?;
-    let nothing = Catalogue::new(alloc);
-    let symbol = register::<Box<u8>>(alloc, &mut registry, &nothing)?;
-    is(&rt, "Box<u8>", symbol.id, 0);
-    let refused = register::<bool>(alloc, &mut registry, &nothing);
-    holds(&rt, "bool", refused.is_err());
-    holds(&rt, "u8 is there alone", is_of_u8(alloc, &registry)?);
+    let mut registry = registry_of_u8(rt.alloc())?;
+    u8_alone_is_known(&rt, rt.alloc(), &mut registry)?;
+    holds(&rt, "u8 is there alone", is_of_u8(rt.alloc(), &registry)?);
     Ok(())
 }
 

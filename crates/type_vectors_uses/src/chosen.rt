@@ -2,12 +2,13 @@
 use crate::asserts::{holds, is};
 use crate::own::Own;
 use scale_info::export::export;
-use scale_info::meta_type::{Catalogue, HasIdentity, Identified};
+use scale_info::meta_type::{Catalogue, CatalogueError, HasIdentity, Identified};
 use scale_info::{MetaType, Type, TypeDefSequence, tuple_meta_type};
-use std::alloc::Global;
+use std::alloc::{AllocError, Global};
 use std::collections::BTreeMap;
 use std::process::Abort;
 use std::test::Fail;
+use type_vectors_common::catalogues::add_own;
 use type_vectors_common::rows::row_bytes;
 
 /// Asserts that the map takes each old id to its new one, and has no other.
@@ -51,14 +52,17 @@ fn a_reached_type_may_be_chosen_too(rt: HostRuntime) -> Result<(), Fail> {
     Ok(())
 }
 
+/// The description of a sequence of this type.
+fn sequence_of<T: HasIdentity>(alloc: Global) -> Result<Type, AllocError> {
+    Ok(Type::from_def(alloc, TypeDefSequence::of::<T>(alloc)?))
+}
+
 /// Adds a type that is a sequence of another.
 fn add_sequence<T: Identified, U: HasIdentity>(
     alloc: Global,
     known: &mut Catalogue,
-) -> Result<(), Fail> {
-    let description = Type::from_def(alloc, TypeDefSequence::of::<U>(alloc)?);
-    known.add_described(T::type_id(alloc)?, description)?;
-    Ok(())
+) -> Result<bool, CatalogueError> {
+    add_own(known, T::type_id(alloc)?, sequence_of::<U>(alloc))
 }
 
 /// Three sequences, each of the next and the last of the first.

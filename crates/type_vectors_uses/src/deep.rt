@@ -1,4 +1,5 @@
 //! Values as deep as a value may be, and deeper.
+use crate::asserts::is;
 use crate::rows::print_outcome;
 use scale_info::impls::Compact;
 use scale_info::{PortableRegistry, Scale};
@@ -42,14 +43,18 @@ fn printed(alloc: Global, lists: u32) -> Result<Vec<u8>, Fail> {
     Ok(text)
 }
 
+/// What is printed of so many lists in one another.
+fn outcome(alloc: Global, lists: u8) -> Result<Vec<u8>, Fail> {
+    let input = nested(alloc, lists as u32)?;
+    print_outcome(alloc, &chain(alloc, lists)?, 0, &input)
+}
+
 #[test]
 fn a_value_is_at_most_128_deep(rt: HostRuntime) -> Result<(), Fail> {
-    let alloc = rt.alloc();
-    let deepest = print_outcome(alloc, &chain(alloc, 127)?, 0, &nested(alloc, 127)?)?;
-    assert_eq!(rt; deepest.as_slice(), printed(alloc, 127)?.as_slice());
-    let deeper = chain(alloc, 128)?;
-    let too_deep = print_outcome(alloc, &deeper, 0, &nested(alloc, 128)?)?;
-    assert_eq!(rt; too_deep.as_slice(), b"TooDeep".as_slice());
+    let deepest = outcome(rt.alloc(), 127)?;
+    is(&rt, "127 lists", deepest, printed(rt.alloc(), 127)?);
+    let too_deep = outcome(rt.alloc(), 128)?;
+    is(&rt, "128 lists", too_deep.as_slice(), b"TooDeep".as_slice());
     Ok(())
 }
 

@@ -4,8 +4,9 @@ use scale_info::export::export;
 use scale_info::impls::meta_type;
 use scale_info::meta_type::Catalogue;
 use scale_info::{MetaType, PortableRegistry, Registry};
-use std::alloc::Global;
+use std::alloc::{AllocError, Global};
 use std::test::Fail;
+use type_vectors_common::lists::{list_of, with};
 
 /// A catalogue of `bool`, `u8`, `u32`, `String` and `Vec<u32>`.
 fn catalogue(alloc: Global) -> Result<Catalogue, Fail> {
@@ -30,28 +31,40 @@ fn what_the_chosen_types_reach_is_appended(rt: HostRuntime) -> Result<(), Fail> 
     let alloc = rt.alloc();
     let mut out = vec![in alloc; 0xaa]?;
     let exported = export(&catalogue(alloc)?, &three(alloc)?, |id| id == 1, &mut out)?;
-    is(&rt, "ids", exported.ids, vec![in alloc; 0, 1, 3]?);
+    is(&rt, "ids", exported.ids.as_slice(), [0, 1, 3].as_slice());
     is(&rt, "kept", exported.map.len(), 2);
     is(&rt, "Vec<u32>", exported.map.get(&1).copied(), Some(0));
     is(&rt, "u32", exported.map.get(&2).copied(), Some(1));
     is(
         &rt,
         "bytes",
-        out,
-        vec![in alloc; 0xaa, 8, 0, 0, 0, 2, 4, 0, 4, 0, 0, 5, 5, 0]?,
+        out.as_slice(),
+        [0xaa, 8, 0, 0, 0, 2, 4, 0, 4, 0, 0, 5, 5, 0].as_slice(),
     );
     Ok(())
+}
+
+/// `u8` and a box of it, which are one type.
+fn u8_twice(alloc: Global) -> Result<Vec<MetaType>, AllocError> {
+    let first = list_of(alloc, meta_type::<u8>(alloc)?);
+    with(first, meta_type::<Box<u8>>(alloc))
 }
 
 #[test]
 fn a_type_that_is_given_twice_is_written_once(rt: HostRuntime) -> Result<(), Fail> {
     let alloc = rt.alloc();
-    let types = vec![in alloc; meta_type::<u8>(alloc)?, meta_type::<Box<u8>>(alloc)?]?;
+    let types = u8_twice(alloc)?;
+    let known = catalogue(alloc)?;
     let mut out = Vec::new(alloc);
-    let exported = export(&catalogue(alloc)?, &types, |_| true, &mut out)?;
-    is(&rt, "ids", exported.ids, vec![in alloc; 0, 0]?);
+    let exported = export(&known, &types, |_| true, &mut out)?;
+    is(&rt, "ids", exported.ids.as_slice(), [0, 0].as_slice());
     is(&rt, "u8", exported.map.get(&0).copied(), Some(0));
-    is(&rt, "bytes", out, vec![in alloc; 4, 0, 0, 0, 5, 3, 0]?);
+    is(
+        &rt,
+        "bytes",
+        out.as_slice(),
+        [4, 0, 0, 0, 5, 3, 0].as_slice(),
+    );
     Ok(())
 }
 
@@ -62,7 +75,7 @@ fn no_types_are_the_empty_table(rt: HostRuntime) -> Result<(), Fail> {
     let exported = export(&Catalogue::new(alloc), &[], |_| true, &mut out)?;
     is(&rt, "ids", exported.ids.len(), 0);
     is(&rt, "kept", exported.map.len(), 0);
-    is(&rt, "bytes", out, vec![in alloc; 0]?);
+    is(&rt, "bytes", out.as_slice(), [0].as_slice());
     Ok(())
 }
 

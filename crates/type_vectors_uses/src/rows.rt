@@ -1,4 +1,5 @@
 //! Rows of tables, inputs and what is decoded from them.
+use crate::asserts::is;
 use scale_info::PortableRegistry;
 use scale_info::value::decode_value;
 use scale_info_value_callers::print::print_decoded;
@@ -6,6 +7,7 @@ use std::alloc::Global;
 use std::io::Write;
 use std::process::Abort;
 use std::test::Fail;
+use type_vectors_common::rows::row_bytes;
 
 /// Values of primitives. A row is a name, a colon, and in hexadecimal a table, an id and an input,
 /// and then the printed value with the bytes of the rest in decimal, or the error.
@@ -114,15 +116,6 @@ Compact<u32>: 10 000000050000 040000050200 080000060c00 0c0000050500; 02; 1501; 
 pruned Compact<u32>: 08 000000060400 040000050500; 00; 1501; 69
 ";
 
-/// The bytes of digits; spaces between them do not count.
-pub fn bytes(alloc: Global, digits: &str) -> Result<Vec<u8>, Fail> {
-    let mut text = String::new(alloc);
-    for group in digits.split_whitespace() {
-        text.push_str(group)?;
-    }
-    Ok(hex::decode(alloc, text.as_str())?)
-}
-
 /// Prints what is decoded at an id, with the bytes of the rest, or the error.
 pub fn print_outcome(
     alloc: Global,
@@ -131,13 +124,12 @@ pub fn print_outcome(
     input: &[u8],
 ) -> Result<Vec<u8>, Fail> {
     let mut printed = Vec::new(alloc);
-    match decode_value(alloc, table, id, input) {
-        Ok(_) => {
-            for byte in print_decoded(alloc, table, id, input, &mut printed)? {
-                write!(printed, " {byte}")?;
-            }
-        }
-        Err(error) => write!(printed, "{error}")?,
+    if let Some(error) = decode_value(alloc, table, id, input).err() {
+        write!(printed, "{error}")?;
+        return Ok(printed);
+    }
+    for byte in print_decoded(alloc, table, id, input, &mut printed)? {
+        write!(printed, " {byte}")?;
     }
     Ok(printed)
 }
@@ -151,18 +143,37 @@ fn row(line: &str) -> Option<(&str, &str, &str, &str, &str)> {
     Some((name, table, id, input, printed.trim()))
 }
 
+/// The table of these digits.
+fn table_of(alloc: Global, digits: &str) -> Result<PortableRegistry, Fail> {
+    let (table, _) = PortableRegistry::decode(alloc, &row_bytes(alloc, digits)?)?;
+    Ok(table)
+}
+
+/// Asserts what is printed of an input at an id.
+fn is_printed(
+    rt: &impl Abort,
+    alloc: Global,
+    name: &str,
+    table: &PortableRegistry,
+    id: u32,
+    input: &[u8],
+    wanted: &str,
+) -> Result<(), Fail> {
+    let printed = print_outcome(alloc, table, id, input)?;
+    is(rt, name, printed.as_slice(), wanted.as_bytes());
+    Ok(())
+}
+
 /// Asserts what is decoded by the table of a row.
 fn is_decoded(rt: &impl Abort, alloc: Global, line: &str) -> Result<(), Fail> {
     let Some((name, table, id, input, wanted)) = row(line) else {
         return Err(Fail::new("a row is cut"));
     };
-    let table_bytes = bytes(alloc, table)?;
-    let (table, _) = PortableRegistry::decode(alloc, &table_bytes)?;
-    let ids = bytes(alloc, id)?;
-    let input = bytes(alloc, input)?;
+    let ids = row_bytes(alloc, id)?;
+    let input = row_bytes(alloc, input)?;
+    let table = table_of(alloc, table)?;
     for id in &ids {
-        let printed = print_outcome(alloc, &table, *id as u32, &input)?;
-        assert_eq!(rt; printed.as_slice(), wanted.as_bytes(), "{name}");
+        is_printed(rt, alloc, name, &table, *id as u32, &input, wanted)?;
     }
     Ok(())
 }

@@ -1,9 +1,10 @@
 //! Values compared with values made in the test.
-use crate::rows::bytes;
 use scale_info::value::{Dyn, ValueError, decode_value};
 use scale_info::{Items, PortableRegistry, Text};
-use std::alloc::Global;
+use std::alloc::{AllocError, Global};
 use std::test::Fail;
+use type_vectors_common::compare::equals;
+use type_vectors_common::rows::row_bytes;
 
 /// `u32`, `bool`, `Option<(u32, bool)>` and `(u32, bool)`.
 const OPTION: &str = "\
@@ -12,12 +13,12 @@ const OPTION: &str = "\
 
 /// The table of these types.
 fn options(alloc: Global) -> Result<PortableRegistry, Fail> {
-    let (table, _) = PortableRegistry::decode(alloc, &bytes(alloc, OPTION)?)?;
+    let (table, _) = PortableRegistry::decode(alloc, &row_bytes(alloc, OPTION)?)?;
     Ok(table)
 }
 
 /// `Some((5, true))`.
-fn some_pair(alloc: Global) -> Result<Dyn, Fail> {
+fn some_pair(alloc: Global) -> Result<Dyn, AllocError> {
     let pair = Items::from(vec![in alloc; Dyn::Unsigned(5), Dyn::Bool(true)]?);
     let fields = Items::from(vec![in alloc; (None, Dyn::List(pair))]?);
     Ok(Dyn::Variant {
@@ -32,7 +33,7 @@ fn a_variant_has_its_name_its_index_and_its_fields(rt: HostRuntime) -> Result<()
     let alloc = rt.alloc();
     let table = options(alloc)?;
     let (value, rest) = decode_value(alloc, &table, 2, &[1, 5, 0, 0, 0, 1, 9])?;
-    assert!(rt; value == some_pair(alloc)?);
+    assert!(rt; equals(&value, some_pair(alloc))?);
     assert_eq!(rt; rest, [9u8].as_slice());
     Ok(())
 }

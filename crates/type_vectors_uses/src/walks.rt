@@ -1,7 +1,8 @@
 //! Both walks over the tables of the rows.
 use crate::asserts::{holds, is};
-use scale_info::walk::{number, number_recursive};
+use scale_info::walk::{Numbering, number, number_recursive};
 use scale_info::{PortableRegistry, RetainError};
+use std::alloc::Global;
 use std::test::Fail;
 use type_vectors_common::rows::{TABLES, numbers, parted, row_bytes, rows};
 
@@ -21,18 +22,24 @@ const NUMBERINGS: &str = "\
 1: 0c 000000050000 04000008080000 080000050500 > 1 2 0 > 2
 ";
 
+/// The walk over a table from these roots.
+fn walked(alloc: Global, input: &str, roots: &str) -> Result<Numbering, Fail> {
+    let roots = numbers(alloc, roots)?;
+    let bytes = row_bytes(alloc, input)?;
+    let (table, _) = PortableRegistry::decode(alloc, &bytes)?;
+    Ok(number(alloc, table.types(), &roots)?)
+}
+
 #[test]
 fn tables_are_numbered_so(rt: HostRuntime) -> Result<(), Fail> {
-    let alloc = rt.alloc();
     for row in NUMBERINGS.lines() {
         let (roots, rest) = parted(row, ':')?;
         let (input, rest) = parted(rest, '>')?;
         let (order, steps) = parted(rest, '>')?;
-        let bytes = row_bytes(alloc, input)?;
-        let (table, _) = PortableRegistry::decode(alloc, &bytes)?;
-        let found = number(alloc, table.types(), &numbers(alloc, roots)?)?;
-        is(&rt, row, found.order, numbers(alloc, order)?);
-        is(&rt, row, found.steps, steps.trim_start().parse::<u128>()?);
+        let steps: u128 = steps.trim_start().parse()?;
+        let order = numbers(rt.alloc(), order)?;
+        let found = walked(rt.alloc(), input, roots)?;
+        is(&rt, row, (found.order, found.steps), (order, steps));
     }
     Ok(())
 }
