@@ -16,9 +16,9 @@ use type_vectors_common::parts;
 /// Makes a description of the kind of this name.
 pub fn description(rt: &HostRuntime, name: &str) -> Result<Outcome, Fail> {
     let alloc = rt.alloc();
-    let def = description_named(alloc, name)?.type_def;
-    let (path, params) = (demo_path(alloc)?, parameters(alloc)?);
     let docs = list_of(alloc, "d")?;
+    let (path, params) = (demo_path(alloc)?, parameters(alloc)?);
+    let def = description_named(alloc, name)?.type_def;
     begin(rt);
     let returned = Type::new(alloc, path, params, def, docs);
     end(rt);

@@ -13,18 +13,20 @@ use type_refusals_common::types::{
 use type_vectors_common::parts;
 
 /// Copies a portable value.
-fn copy<T: TryClone + Scale>(rt: &HostRuntime, value: &T) -> Result<Outcome, Fail> {
+fn copy_of<T: TryClone + Scale>(rt: &HostRuntime, value: &T) -> Result<Outcome, Fail> {
     begin(rt);
     let returned = value.try_clone(rt.alloc());
     end(rt);
     Outcome::of(encoded(rt.alloc(), returned))
 }
 
+/// Copies a portable value that is made for it.
+fn copy<T: TryClone + Scale + Drop>(rt: &HostRuntime, value: T) -> Result<Outcome, Fail> {
+    copy_of(rt, &value)
+}
+
 /// Copies a value that holds types of the program.
-fn copy_meta<T: TryClone + IntoPortable + Drop>(
-    rt: &HostRuntime,
-    value: &T,
-) -> Result<Outcome, Fail>
+fn copy_meta<T: TryClone + IntoPortable + Drop>(rt: &HostRuntime, value: T) -> Result<Outcome, Fail>
 where
     T::Output: Scale,
 {
@@ -48,14 +50,14 @@ pub fn portable_part(rt: &HostRuntime, kind: &str) -> Result<Outcome, Fail> {
     match kind {
         "field" => copy(
             rt,
-            &parts::field(alloc, Some("n"), 3, Some("N"), &["d", ""])?,
+            parts::field(alloc, Some("n"), 3, Some("N"), &["d", ""])?,
         ),
-        "variant" => copy(rt, &parts::variant(alloc, "V", &[1, 2], 255, &["v"])?),
-        "path" => copy(rt, &parts::path(alloc, &["hello", "world", "Planet"])?),
-        "given parameter" => copy(rt, &parts::parameter(alloc, "T", Some(7))?),
-        "skipped parameter" => copy(rt, &parts::parameter(alloc, "S", None)?),
-        "text" => copy(rt, &parts::text(alloc, "a text")?),
-        "symbol" => copy(rt, &parts::id(7)),
+        "variant" => copy(rt, parts::variant(alloc, "V", &[1, 2], 255, &["v"])?),
+        "path" => copy(rt, parts::path(alloc, &["hello", "world", "Planet"])?),
+        "given parameter" => copy(rt, parts::parameter(alloc, "T", Some(7))?),
+        "skipped parameter" => copy(rt, parts::parameter(alloc, "S", None)?),
+        "text" => copy(rt, parts::text(alloc, "a text")?),
+        "symbol" => copy(rt, parts::id(7)),
         _ => Err(Fail::new("no kind has this name")),
     }
 }
@@ -63,17 +65,17 @@ pub fn portable_part(rt: &HostRuntime, kind: &str) -> Result<Outcome, Fail> {
 /// Copies a part of a description in the form of the program.
 pub fn meta_part(rt: &HostRuntime, kind: &str) -> Result<Outcome, Fail> {
     match kind {
-        "field" => copy_meta(rt, &documented_field(rt.alloc())?),
-        "variant" => copy_meta(rt, &documented_variant(rt.alloc())?),
-        "path" => copy_meta(rt, &demo_path(rt.alloc())?),
-        "parameter" => copy_meta(rt, &given_parameter(rt.alloc())?),
+        "field" => copy_meta(rt, documented_field(rt.alloc())?),
+        "variant" => copy_meta(rt, documented_variant(rt.alloc())?),
+        "path" => copy_meta(rt, demo_path(rt.alloc())?),
+        "parameter" => copy_meta(rt, given_parameter(rt.alloc())?),
         _ => Err(Fail::new("no kind has this name")),
     }
 }
 
 /// Copies the type of this name.
 pub fn meta_type(rt: &HostRuntime, name: &str) -> Result<Outcome, Fail> {
-    copy_meta(rt, &type_named(rt.alloc(), name)?)
+    copy_meta(rt, type_named(rt.alloc(), name)?)
 }
 
 /// Copies the identity of the type of this name.
@@ -83,19 +85,19 @@ pub fn identity(rt: &HostRuntime, name: &str) -> Result<Outcome, Fail> {
 
 /// Copies what the type of this name is described as.
 pub fn meta_description(rt: &HostRuntime, name: &str) -> Result<Outcome, Fail> {
-    copy_meta(rt, &description_named(rt.alloc(), name)?)
+    copy_meta(rt, description_named(rt.alloc(), name)?)
 }
 
 /// Copies the definition of the type of this name.
 pub fn meta_definition(rt: &HostRuntime, name: &str) -> Result<Outcome, Fail> {
-    copy_meta(rt, &description_named(rt.alloc(), name)?.type_def)
+    copy_meta(rt, description_named(rt.alloc(), name)?.type_def)
 }
 
 /// Copies the description at index 0.
 pub fn description(rt: &HostRuntime, row: &str) -> Result<Outcome, Fail> {
     let table = table_of(rt.alloc(), row)?;
     match table.resolve(0) {
-        Some(ty) => copy(rt, ty),
+        Some(ty) => copy_of(rt, ty),
         None => Err(Fail::new("the table is empty")),
     }
 }
@@ -104,7 +106,7 @@ pub fn description(rt: &HostRuntime, row: &str) -> Result<Outcome, Fail> {
 pub fn definition(rt: &HostRuntime, row: &str) -> Result<Outcome, Fail> {
     let table = table_of(rt.alloc(), row)?;
     match table.resolve(0) {
-        Some(ty) => copy(rt, ty.type_def()),
+        Some(ty) => copy_of(rt, ty.type_def()),
         None => Err(Fail::new("the table is empty")),
     }
 }
@@ -112,9 +114,9 @@ pub fn definition(rt: &HostRuntime, row: &str) -> Result<Outcome, Fail> {
 /// Copies a list.
 pub fn list(rt: &HostRuntime, kind: &str) -> Result<Outcome, Fail> {
     match kind {
-        "numbers" => copy(rt, &Items::from(vec![in rt.alloc(); 7u32, 8]?)),
-        "texts" => copy(rt, &Items::from(parts::texts(rt.alloc(), &["d", "", "e"])?)),
-        "no texts" => copy(rt, &Items::from(parts::texts(rt.alloc(), &[])?)),
+        "numbers" => copy(rt, Items::from(vec![in rt.alloc(); 7u32, 8]?)),
+        "texts" => copy(rt, Items::from(parts::texts(rt.alloc(), &["d", "", "e"])?)),
+        "no texts" => copy(rt, Items::from(parts::texts(rt.alloc(), &[])?)),
         _ => Err(Fail::new("no list has this name")),
     }
 }
