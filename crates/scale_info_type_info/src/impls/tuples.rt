@@ -12,22 +12,15 @@ use scale_info_types::meta_type::MetaType;
 use scale_info_types::ty::{Type, TypeDefTuple};
 use std::alloc::{AllocError, Global};
 
-/// The description of the tuple with members of these types.
-fn tuple_info(types: Vec<MetaType>) -> Result<Type, AllocError>
-    ensures { IfOk result (λ d. Some (meta_content d)
-        ≡ tuple_description (map type_term types.items)) }
-{
-    let alloc = *types.allocator();
-    Ok(built_in(alloc, TypeDefTuple::new(alloc, types)?))
-}
-
 /// The description of the tuple with members of these types; an Err stays as it is.
 fn tuple_of(types: Result<Vec<MetaType>, AllocError>) -> Result<Type, InfoError>
     ensures ok { (members : List Term) → IfOk types (λ of. map type_term of.items ≡ members)
         → IfOk result (λ d. tuple_description members ≡ Some (meta_content d)) }
     ensures err { IfErr result (λ e. e ≡ info_error.Memory) }
 {
-    Ok(tuple_info(types?)?)
+    let types = types?;
+    let alloc = *types.allocator();
+    Ok(built_in(alloc, TypeDefTuple::new(alloc, types)?))
 }
 
 /// The list of no types.
