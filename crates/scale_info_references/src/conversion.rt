@@ -41,6 +41,89 @@ pub trait Numbers<F: Form> {
         ensures { IfOk result (λ copy. copy ≡ F.text source.now) };
 }
 
+/// A part of a description that becomes a part of a portable one.
+trait Part<N>: Sized {
+    /// The part with ids as its types.
+    type Portable: Drop;
+
+    /// The part with the id of each type, and with copies of its strings.
+    ghost converted: { N → Self → Self.Portable };
+
+    /// Converts the part.
+    ///
+    /// Errors: `AllocError`, if an allocation failed.
+    fn to_portable(&self, alloc: Global, numbers: &N) -> Result<Self::Portable, AllocError>
+        ensures { IfOk result (λ o. o ≡ converted numbers.now self.now) };
+}
+
+impl<F: Form, N: Numbers<F>> Part<N> for Field<F> {
+    type Portable = Field<PortableForm>;
+
+    ghost converted = { λ numbers.
+        map_field (λ t. symbol (N.id_of numbers t)) F.text };
+
+    fn to_portable(&self, alloc: Global, numbers: &N) -> Result<Field<PortableForm>, AllocError> {
+        Ok(Field {
+            name: convert_optional_text(alloc, numbers, &self.name)?,
+            ty: numbers.id(&self.ty),
+            type_name: convert_optional_text(alloc, numbers, &self.type_name)?,
+            docs: convert_texts(alloc, numbers, &self.docs)?,
+        })
+    }
+}
+
+impl<F: Form, N: Numbers<F>> Part<N> for Variant<F> {
+    type Portable = Variant<PortableForm>;
+
+    ghost converted = { λ numbers.
+        map_variant (λ t. symbol (N.id_of numbers t)) F.text };
+
+    fn to_portable(&self, alloc: Global, numbers: &N) -> Result<Variant<PortableForm>, AllocError> {
+        Ok(Variant {
+            name: N::text(alloc, &self.name)?,
+            fields: convert_fields(alloc, numbers, &self.fields)?,
+            index: self.index,
+            docs: convert_texts(alloc, numbers, &self.docs)?,
+        })
+    }
+}
+
+impl<F: Form, N: Numbers<F>> Part<N> for TypeParameter<F> {
+    type Portable = TypeParameter<PortableForm>;
+
+    ghost converted = { λ numbers.
+        map_parameter (λ t. symbol (N.id_of numbers t)) F.text };
+
+    fn to_portable(
+        &self,
+        alloc: Global,
+        numbers: &N,
+    ) -> Result<TypeParameter<PortableForm>, AllocError> {
+        Ok(TypeParameter {
+            name: N::text(alloc, &self.name)?,
+            ty: match &self.ty {
+                None => None,
+                Some(ty) => Some(numbers.id(ty)),
+            },
+        })
+    }
+}
+
+/// The parts with ids as their types, in order.
+fn convert_all<N, P: Part<N>>(
+    alloc: Global,
+    numbers: &N,
+    parts: &Items<P>,
+) -> Result<Items<P::Portable>, AllocError>
+    ensures { IfOk result (λ all. all ≡ map (P.converted numbers.now) parts.now) }
+{
+    let mut all = Items::with_capacity(alloc, parts.len())?;
+    for part in parts.as_slice() {
+        all.push(part.to_portable(alloc, numbers)?)?;
+    }
+    Ok(all)
+}
+
 /// Copies of strings, in order.
 fn convert_texts<F: Form, N: Numbers<F>>(
     alloc: Global,
@@ -98,12 +181,7 @@ pub fn convert_field<F: Form, N: Numbers<F>>(
     ensures { IfOk result
         (λ o. o ≡ map_field (λ t. symbol (N.id_of numbers.now t)) F.text field.now) }
 {
-    Ok(Field {
-        name: convert_optional_text(alloc, numbers, &field.name)?,
-        ty: numbers.id(&field.ty),
-        type_name: convert_optional_text(alloc, numbers, &field.type_name)?,
-        docs: convert_texts(alloc, numbers, &field.docs)?,
-    })
+    field.to_portable(alloc, numbers)
 }
 
 /// The fields with ids as their types, in order.
@@ -117,11 +195,7 @@ pub fn convert_fields<F: Form, N: Numbers<F>>(
     ensures { IfOk result
         (λ all. all ≡ map (map_field (λ t. symbol (N.id_of numbers.now t)) F.text) fields.now) }
 {
-    let mut all = Items::with_capacity(alloc, fields.len())?;
-    for field in fields.as_slice() {
-        all.push(convert_field(alloc, numbers, field)?)?;
-    }
-    Ok(all)
+    convert_all(alloc, numbers, fields)
 }
 
 /// The variant whose fields have ids as their types, with copies of its strings.
@@ -135,12 +209,7 @@ pub fn convert_variant<F: Form, N: Numbers<F>>(
     ensures { IfOk result
         (λ o. o ≡ map_variant (λ t. symbol (N.id_of numbers.now t)) F.text variant.now) }
 {
-    Ok(Variant {
-        name: N::text(alloc, &variant.name)?,
-        fields: convert_fields(alloc, numbers, &variant.fields)?,
-        index: variant.index,
-        docs: convert_texts(alloc, numbers, &variant.docs)?,
-    })
+    variant.to_portable(alloc, numbers)
 }
 
 /// The variants whose fields have ids as their types, in order.
@@ -155,11 +224,7 @@ pub fn convert_variants<F: Form, N: Numbers<F>>(
         (λ all. all
         ≡ map (map_variant (λ t. symbol (N.id_of numbers.now t)) F.text) variants.now) }
 {
-    let mut all = Items::with_capacity(alloc, variants.len())?;
-    for variant in variants.as_slice() {
-        all.push(convert_variant(alloc, numbers, variant)?)?;
-    }
-    Ok(all)
+    convert_all(alloc, numbers, variants)
 }
 
 /// The parameter with a copy of its name, and with an id as its type, if it has one.
@@ -173,13 +238,7 @@ pub fn convert_parameter<F: Form, N: Numbers<F>>(
     ensures { IfOk result
         (λ o. o ≡ map_parameter (λ t. symbol (N.id_of numbers.now t)) F.text param.now) }
 {
-    Ok(TypeParameter {
-        name: N::text(alloc, &param.name)?,
-        ty: match &param.ty {
-            None => None,
-            Some(ty) => Some(numbers.id(ty)),
-        },
-    })
+    param.to_portable(alloc, numbers)
 }
 
 /// The parameters with ids as their types, in order.
@@ -192,11 +251,7 @@ fn convert_parameters<F: Form, N: Numbers<F>>(
         (λ all. all
         ≡ map (map_parameter (λ t. symbol (N.id_of numbers.now t)) F.text) params.now) }
 {
-    let mut all = Items::with_capacity(alloc, params.len())?;
-    for param in params.as_slice() {
-        all.push(convert_parameter(alloc, numbers, param)?)?;
-    }
-    Ok(all)
+    convert_all(alloc, numbers, params)
 }
 
 /// The definition with ids in place of types.
