@@ -5,7 +5,7 @@ ghost use Rattle.scale_info_type_info.specs.StandardTypes.{phantom_data_descript
 ghost use Rattle.scale_info_type_info.specs.StandardTypes.{range_description};
 ghost use Rattle.scale_info_type_info.specs.StandardTypes.{result_description};
 ghost use Rattle.scale_info_type_info.specs.StandardTypes.{kept, meta_variant, unnamed, variant};
-ghost use Rattle.std.specs.Prelude.{◌≡◌, IfOk, Some, codes};
+ghost use Rattle.std.specs.Prelude.{◌≡◌, ◌++◌, ◌∷◌, [], IfOk, Some, codes, map};
 ghost use Rattle.scale_info_types.specs.MetaDescriptions.{meta_content};
 
 use super::parts::{composite, documented, enumeration, with_field, with_parameter};
@@ -20,17 +20,21 @@ use std::collections::{BTreeMap, BTreeSet, BinaryHeap};
 use std::marker::PhantomData;
 use std::ops::{Range, RangeInclusive};
 
-/// A variant with one field of the type `T`, or with none where `T` is a `PhantomData`.
-fn variant_of<T: HasIdentity>(
-    alloc: Global,
+/// These variants and one with one field of the type `T`, or with none where `T` is a
+/// `PhantomData`.
+fn with_variant<T: HasIdentity>(
+    mut variants: Vec<Variant>,
     name: &'static str,
     index: u8,
-) -> Result<Variant, AllocError>
-    ensures { IfOk result (λ v. meta_variant v
-        ≡ variant name.now (kept (unnamed T.Identity.own)) index) }
+) -> Result<Vec<Variant>, AllocError>
+    ensures { IfOk result (λ all. map meta_variant all.items
+        ≡ map meta_variant variants.entry.items
+        ++ variant name.now (kept (unnamed T.Identity.own)) index ∷ []) }
 {
+    let alloc = *variants.allocator();
     let fields = with_field::<T>(Vec::new(alloc), None, None)?;
-    Ok(Variant::new(name, fields, index, Vec::new(alloc)))
+    variants.push(Variant::new(name, fields, index, Vec::new(alloc)))?;
+    Ok(variants)
 }
 
 /// The description of a list with the parameter `T`, as a composite of a sequence.
@@ -60,8 +64,8 @@ impl<T: TypeInfo> TypeInfo for Option<T> {
     fn type_info(alloc: Global) -> Result<Type, InfoError> {
         let parameters = with_parameter::<T>(Vec::new(alloc), "T")?;
         let none = Variant::new("None", Vec::new(alloc), 0, Vec::new(alloc));
-        let some = variant_of::<T>(alloc, "Some", 1)?;
-        Ok(enumeration("Option", parameters, vec![in alloc; none, some]?)?)
+        let variants = with_variant::<T>(vec![in alloc; none]?, "Some", 1)?;
+        Ok(enumeration("Option", parameters, variants)?)
     }
 }
 
@@ -71,9 +75,9 @@ impl<T: TypeInfo, E: TypeInfo> TypeInfo for Result<T, E> {
     fn type_info(alloc: Global) -> Result<Type, InfoError> {
         let parameters = with_parameter::<T>(Vec::new(alloc), "T")?;
         let parameters = with_parameter::<E>(parameters, "E")?;
-        let ok = variant_of::<T>(alloc, "Ok", 0)?;
-        let err = variant_of::<E>(alloc, "Err", 1)?;
-        Ok(enumeration("Result", parameters, vec![in alloc; ok, err]?)?)
+        let variants = with_variant::<T>(Vec::new(alloc), "Ok", 0)?;
+        let variants = with_variant::<E>(variants, "Err", 1)?;
+        Ok(enumeration("Result", parameters, variants)?)
     }
 }
 
@@ -135,8 +139,8 @@ impl<T: TypeInfo> TypeInfo for PhantomData<T> {
 
     fn type_info(alloc: Global) -> Result<Type, InfoError> {
         let line = "PhantomData placeholder, this type should be filtered out";
-        let definition = TypeDef::Composite(TypeDefComposite::from(Vec::new(alloc)));
         let docs = vec![in alloc; line]?;
+        let definition = TypeDef::Composite(TypeDefComposite::from(Vec::new(alloc)));
         Ok(documented("PhantomData", Vec::new(alloc), definition, docs)?)
     }
 }

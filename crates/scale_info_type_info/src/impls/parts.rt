@@ -61,7 +61,7 @@ fn keep(mut fields: Vec<Field>, field: Field) -> Result<Vec<Field>, AllocError>
     Ok(fields)
 }
 
-/// The description of a composite with a path of one segment.
+/// The description of a composite with a path of one segment and without docs.
 pub(super) fn composite(
     name: &'static str,
     parameters: Vec<TypeParameter>,
@@ -71,11 +71,16 @@ pub(super) fn composite(
         ≡ standard name.now (map meta_parameter parameters.entry.items)
         (def.Composite (record { fields = map meta_field fields.entry.items }))) }
 {
-    let definition = TypeDef::Composite(TypeDefComposite::from(fields));
-    described(name, parameters, definition)
+    let docs = Vec::new(*parameters.allocator());
+    documented(
+        name,
+        parameters,
+        TypeDef::Composite(TypeDefComposite::from(fields)),
+        docs,
+    )
 }
 
-/// The description of an enum with a path of one segment.
+/// The description of an enum with a path of one segment and without docs.
 pub(super) fn enumeration(
     name: &'static str,
     parameters: Vec<TypeParameter>,
@@ -85,22 +90,13 @@ pub(super) fn enumeration(
         ≡ standard name.now (map meta_parameter parameters.entry.items)
         (def.Variant (record { variants = map meta_variant variants.entry.items }))) }
 {
-    let definition = TypeDef::Variant(TypeDefVariant::from(variants));
-    described(name, parameters, definition)
-}
-
-/// The description with a path of one segment and without docs.
-fn described(
-    name: &'static str,
-    parameters: Vec<TypeParameter>,
-    definition: TypeDef,
-) -> Result<Type, AllocError>
-    ensures { IfOk result (λ d. meta_content d
-        ≡ standard name.now (map meta_parameter parameters.entry.items)
-        (meta_definition definition.entry)) }
-{
     let docs = Vec::new(*parameters.allocator());
-    documented(name, parameters, definition, docs)
+    documented(
+        name,
+        parameters,
+        TypeDef::Variant(TypeDefVariant::from(variants)),
+        docs,
+    )
 }
 
 /// The description with a path of one segment.
@@ -114,6 +110,17 @@ pub(super) fn documented(
         ≡ whole name.now (map meta_parameter parameters.entry.items)
         (meta_definition definition.entry) (map (λ line. line.now) docs.entry.items)) }
 {
-    let path = Path::from(Items::from(vec![in *parameters.allocator(); name]?));
+    let (path, definition) = with_path(*parameters.allocator(), name, definition)?;
     Ok(Type::from((path, parameters, definition, docs)))
+}
+
+/// The path of one segment, and the value as it is given.
+///
+/// It is generic, since the proof of a function grows with what it drops where it returns early.
+fn with_path<T: Drop>(alloc: Global, name: &'static str, value: T) -> Result<(Path, T), AllocError>
+    ensures path { IfOk result (λ made. made.0.segments ≡ name.entry ∷ []) }
+    ensures value { IfOk result (λ made. made.1 ≡ value) }
+{
+    let path = Path::from(Items::from(vec![in alloc; name]?));
+    Ok((path, value))
 }
