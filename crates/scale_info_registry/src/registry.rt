@@ -10,6 +10,7 @@ ghost use Rattle.std.specs.Prelude.{
   [],
   ℕ,
   List,
+  Ok,
   Some,
   OnOk,
   OnErr,
@@ -240,19 +241,19 @@ impl Registry {
     }
 
     /// Registers the types that a value holds, and puts their ids in place of them.
-    pub(crate) fn convert_value<T: HasTypes>(
+    pub(crate) fn convert_value<T: HasTypes + Drop>(
         &mut self,
-        value: &T,
+        value: T,
         catalogue: &Catalogue,
     ) -> Result<T::Output, RegisterError>
         ensures ok { OnOk result (IsRegistration (catalogue_system catalogue.now) self.old
-            (roots_of (T.types value.now)) self.new) }
+            (roots_of (T.types value)) self.new) }
         ensures output { IfOk result (IsConverted (HasIds T.types T.with_ids)
-            (roots_of (T.types value.now)) self.new value.now) }
+            (roots_of (T.types value)) self.new value) }
         ensures err { OnErr result (self.new ≡ self.old) }
         ensures kept { Keeps self.old self.new }
         ensures cause { IfErr result (IsCause (catalogue_system catalogue.now)
-            (nodes_of self.old.identities) (roots_of (T.types value.now))) }
+            (nodes_of self.old.identities) (roots_of (T.types value))) }
     {
         let alloc = *self.types.allocator();
         let known = self.types.len();
@@ -377,10 +378,22 @@ fn describe(
         let Some(described) = catalogue.get(&ids[types.len()]) else {
             unreachable!()
         };
-        let ty = convert(alloc, &numbers, described)?;
-        if types.push(ty).is_err() {
-            return Err(AllocError);
-        }
+        let ty = convert(alloc, &numbers, described);
+        push_made(types, ty)?;
+    }
+    Ok(())
+}
+
+/// Appends a value that was made, or returns the error of making it. It is generic, since the proof
+/// of a function grows with what it drops where it returns early.
+fn push_made<T: Drop>(list: &mut Vec<T>, made: Result<T, AllocError>) -> Result<(), AllocError>
+    ensures ok { OnOk result ((value : T) × (made ≡ Ok value)
+        × (list.new.items ≡ list.old.items ++ value ∷ [])) }
+    ensures err { OnErr result (list.new.items ≡ list.old.items) }
+{
+    let value = made?;
+    if list.push(value).is_err() {
+        return Err(AllocError);
     }
     Ok(())
 }

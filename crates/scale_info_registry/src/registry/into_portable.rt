@@ -138,7 +138,7 @@ impl IntoPortable for Type {
         registry: &mut Registry,
         catalogue: &Catalogue,
     ) -> Result<Type<PortableForm>, RegisterError> {
-        registry.convert_value(&self, catalogue)
+        registry.convert_value(self, catalogue)
     }
 }
 
@@ -154,7 +154,7 @@ impl IntoPortable for Path {
         registry: &mut Registry,
         catalogue: &Catalogue,
     ) -> Result<Path<PortableForm>, RegisterError> {
-        registry.convert_value(&self, catalogue)
+        registry.convert_value(self, catalogue)
     }
 }
 
@@ -170,7 +170,7 @@ impl IntoPortable for TypeParameter {
         registry: &mut Registry,
         catalogue: &Catalogue,
     ) -> Result<TypeParameter<PortableForm>, RegisterError> {
-        registry.convert_value(&self, catalogue)
+        registry.convert_value(self, catalogue)
     }
 }
 
@@ -186,7 +186,7 @@ impl IntoPortable for TypeDef {
         registry: &mut Registry,
         catalogue: &Catalogue,
     ) -> Result<TypeDef<PortableForm>, RegisterError> {
-        registry.convert_value(&self, catalogue)
+        registry.convert_value(self, catalogue)
     }
 }
 
@@ -202,7 +202,7 @@ impl IntoPortable for Field {
         registry: &mut Registry,
         catalogue: &Catalogue,
     ) -> Result<Field<PortableForm>, RegisterError> {
-        registry.convert_value(&self, catalogue)
+        registry.convert_value(self, catalogue)
     }
 }
 
@@ -218,7 +218,7 @@ impl IntoPortable for Variant {
         registry: &mut Registry,
         catalogue: &Catalogue,
     ) -> Result<Variant<PortableForm>, RegisterError> {
-        registry.convert_value(&self, catalogue)
+        registry.convert_value(self, catalogue)
     }
 }
 
@@ -234,7 +234,7 @@ impl IntoPortable for TypeDefComposite {
         registry: &mut Registry,
         catalogue: &Catalogue,
     ) -> Result<TypeDefComposite<PortableForm>, RegisterError> {
-        registry.convert_value(&self, catalogue)
+        registry.convert_value(self, catalogue)
     }
 }
 
@@ -250,7 +250,7 @@ impl IntoPortable for TypeDefVariant {
         registry: &mut Registry,
         catalogue: &Catalogue,
     ) -> Result<TypeDefVariant<PortableForm>, RegisterError> {
-        registry.convert_value(&self, catalogue)
+        registry.convert_value(self, catalogue)
     }
 }
 
@@ -266,8 +266,7 @@ impl IntoPortable for TypeDefSequence {
         registry: &mut Registry,
         catalogue: &Catalogue,
     ) -> Result<TypeDefSequence<PortableForm>, RegisterError> {
-        let TypeDefSequence { type_param } = self;
-        let id = registry.register_type(&type_param, catalogue)?;
+        let id = self.type_param.into_portable(registry, catalogue)?;
         Ok(TypeDefSequence { type_param: id })
     }
 }
@@ -285,7 +284,7 @@ impl IntoPortable for TypeDefArray {
         catalogue: &Catalogue,
     ) -> Result<TypeDefArray<PortableForm>, RegisterError> {
         let TypeDefArray { len, type_param } = self;
-        let id = registry.register_type(&type_param, catalogue)?;
+        let id = type_param.into_portable(registry, catalogue)?;
         Ok(TypeDefArray {
             len,
             type_param: id,
@@ -305,8 +304,7 @@ impl IntoPortable for TypeDefCompact {
         registry: &mut Registry,
         catalogue: &Catalogue,
     ) -> Result<TypeDefCompact<PortableForm>, RegisterError> {
-        let TypeDefCompact { type_param } = self;
-        let id = registry.register_type(&type_param, catalogue)?;
+        let id = self.type_param.into_portable(registry, catalogue)?;
         Ok(TypeDefCompact { type_param: id })
     }
 }
@@ -324,7 +322,7 @@ impl IntoPortable for TypeDefTuple {
         catalogue: &Catalogue,
     ) -> Result<TypeDefTuple<PortableForm>, RegisterError> {
         let TypeDefTuple { fields } = self;
-        let ids = registry.convert_value(&fields, catalogue)?;
+        let ids = registry.convert_value(fields, catalogue)?;
         Ok(TypeDefTuple { fields: ids })
     }
 }
@@ -349,7 +347,7 @@ impl IntoPortable for TypeDefBitSequence {
             first: bit_store_type,
             second: bit_order_type,
         };
-        let ids = registry.convert_value(&pair, catalogue)?;
+        let ids = registry.convert_value(pair, catalogue)?;
         Ok(TypeDefBitSequence {
             bit_store_type: ids.first,
             bit_order_type: ids.second,
@@ -374,7 +372,7 @@ impl IntoPortable for TypeDefMap {
             first: key,
             second: value,
         };
-        let ids = registry.convert_value(&pair, catalogue)?;
+        let ids = registry.convert_value(pair, catalogue)?;
         Ok(TypeDefMap {
             key: ids.first,
             value: ids.second,

@@ -12,19 +12,19 @@ use Rattle.scale_info_registry.proofs.registry.Registry.convert_value.Goals as g
 pub returns-in_err-register-clause-cause : goal.returns-in_err-register-clause-cause
 returns-in_err-register-clause-cause g c =
     let p = err_from_is_err_and c.from_residual-in_err-register.result c.from_residual-in_err-register.ensures.1 in
-    let types = g.T.HasTypes.types c.args.value.now in
+    let types = g.T.HasTypes.types c.args.value in
     let e = stacked_alone c.in_ok-pending.pending.items c.in_ok-types.field-0.items c.new.result.items types c.in_ok-pending.ensures.ok c.new.ensures.items c.in_ok-types.ensures in
     rw (p.1, p.2) (subst (λ ns. IsCause (catalogue_system c.args.catalogue.now) (nodes_of c.args.self.now.identities) ns c.in_err-register.field-0.0) e c.in_err-register.ensures.cause)
 
 pub returns-in-Ok-clause-ok : goal.returns-in-Ok-clause-ok
 returns-in-Ok-clause-ok g c =
-    let types = g.T.HasTypes.types c.args.value.now in
+    let types = g.T.HasTypes.types c.args.value in
     let e = stacked_alone c.in_ok-pending.pending.items c.in_ok-types.field-0.items c.new.result.items types c.in_ok-pending.ensures.ok c.new.ensures.items c.in_ok-types.ensures in
     subst (λ ns. IsRegistration (catalogue_system c.args.catalogue.now) c.args.self.now ns c.register.new.self) e c.in_ok-register.ensures.ok
 
 pub returns-in-Ok-clause-output : goal.returns-in-Ok-clause-output
 returns-in-Ok-clause-output g c =
-    let types = g.T.HasTypes.types c.args.value.now in
+    let types = g.T.HasTypes.types c.args.value in
     let x =
     root_indices (catalogue_system c.args.catalogue.now) c.args.self.now c.register.new.self types
     (returns-in-Ok-clause-ok g c)
@@ -45,8 +45,8 @@ invariant_of-self g c =
     c.len-known.result c.self.view_is c.self-2.view_is (keeps (catalogue_system c.args.catalogue.now) c.args.self.now c.register.new.self (stacked c.in_ok-pending.pending.items) c.in_ok-register.ensures.ok)
     (search rules) c.self.invariant c.truncate.ensures c.truncate-in-Err.ensures.items
 
-pub returns-in-Err-clause-kept : goal.returns-in-Err-clause-kept
-returns-in-Err-clause-kept g c =
+pub returns-clause-kept : goal.returns-clause-kept
+returns-clause-kept g c =
     cut_keeps c.args.self.now c.register.new.self c.self.inside.identities c.self-2.inside.identities c.truncate.new.self c.self.inside.types.items c.self-2.inside.types.items c.truncate-in-Err.new.self.items
     c.len-known.result c.self.view_is c.self-2.view_is (keeps (catalogue_system c.args.catalogue.now) c.args.self.now c.register.new.self (stacked c.in_ok-pending.pending.items) c.in_ok-register.ensures.ok)
     (search rules) c.self.invariant c.truncate.ensures c.truncate-in-Err.ensures.items
