@@ -96,23 +96,18 @@ pub fn demo_path(alloc: Global) -> Result<Path, AllocError> {
     Path::from_segments_unchecked(alloc, with(list_of(alloc, "demo"), Ok("Recursive"))?)
 }
 
-/// An enum of these parts.
-fn enumeration(
-    alloc: Global,
-    path: Result<Path, AllocError>,
-    params: Result<Vec<TypeParameter>, AllocError>,
-    variant: Result<Variant, AllocError>,
-    docs: Result<Vec<&'static str>, AllocError>,
-) -> Result<Type, AllocError> {
-    let def = TypeDefVariant::from(list_of(alloc, variant?)?);
-    Type::new(alloc, path?, params?, TypeDef::from(def), docs?)
-}
-
 /// An enum of itself, with docs of the type, of a variant and of its field.
 fn recursive(alloc: Global) -> Result<Type, AllocError> {
-    let docs = with(list_of(alloc, "d"), Ok(""));
-    let (path, params) = (demo_path(alloc), parameters(alloc));
-    enumeration(alloc, path, params, documented_variant(alloc), docs)
+    let docs = with(list_of(alloc, "d"), Ok(""))?;
+    let (params, path) = (parameters(alloc)?, demo_path(alloc)?);
+    let variants = list_of(alloc, documented_variant(alloc)?)?;
+    Type::new(
+        alloc,
+        path,
+        params,
+        TypeDef::from(TypeDefVariant::from(variants)),
+        docs,
+    )
 }
 
 /// What the program's own type of this name is described as.

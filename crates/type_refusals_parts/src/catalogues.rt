@@ -1,7 +1,8 @@
 //! Catalogues, to which descriptions are added.
+use crate::asked::{Asked, ask};
 use scale_info::impls::Compact;
 use scale_info::meta_type::{Catalogue, CatalogueError, Identified};
-use scale_info::{Type, TypeDefPrimitive, TypeId, TypeInfo};
+use scale_info::{MetaType, Type, TypeDefPrimitive, TypeId, TypeInfo};
 use std::alloc::{AllocError, Global};
 use std::ops::Range;
 use std::test::Fail;
@@ -113,13 +114,31 @@ pub fn add_described_again(rt: &HostRuntime, name: &str) -> Result<Outcome, Fail
     add_to(rt, known, name)
 }
 
+/// A catalogue, and a type to look up.
+#[derive(Drop)]
+struct Lookup {
+    known: Catalogue,
+    ty: MetaType,
+}
+
+impl Asked for Lookup {
+    type Parts = (bool, bool, usize);
+
+    fn parts(&self) -> (bool, bool, usize) {
+        let found = self.ty.type_info(&self.known).is_some();
+        let same = self.known.get(self.ty.type_id()).is_some();
+        (found, same, self.known.len())
+    }
+}
+
+/// The look-up of the type of this name.
+fn lookup_of(alloc: Global, name: &str) -> Result<Lookup, Fail> {
+    let ty = type_named(alloc, name)?;
+    let known = catalogue(alloc)?;
+    Ok(Lookup { known, ty })
+}
+
 /// Looks a type up.
 pub fn look(rt: &HostRuntime, name: &str) -> Result<Outcome, Fail> {
-    let known = catalogue(rt.alloc())?;
-    let ty = type_named(rt.alloc(), name)?;
-    begin(rt);
-    let found = ty.type_info(&known).is_some();
-    let (same, len) = (known.get(ty.type_id()).is_some(), known.len());
-    end(rt);
-    Outcome::of(done(format!(in rt.alloc(); "{found} {same} {len}")))
+    ask(rt, lookup_of(rt.alloc(), name))
 }

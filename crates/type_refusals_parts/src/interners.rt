@@ -1,4 +1,5 @@
 //! Interners of texts.
+use crate::asked::{Asked, ask};
 use scale_info::Text;
 use scale_info::interner::{InternError, Interner, UntrackedSymbol};
 use std::alloc::{AllocError, Global};
@@ -45,19 +46,50 @@ pub fn intern_or_get(rt: &HostRuntime, chars: &str) -> Result<Outcome, Fail> {
     Outcome::lending(before, after, shown(rt.alloc(), numbered(returned)))
 }
 
+/// An interner with a text to look up, and an equal one.
+#[derive(Drop)]
+struct Lookup {
+    texts: Interner<Text>,
+    other: Interner<Text>,
+    value: Text,
+}
+
+impl Asked for Lookup {
+    type Parts = (Option<u32>, bool, usize, bool);
+
+    fn parts(&self) -> (Option<u32>, bool, usize, bool) {
+        let id = self
+            .texts
+            .get(&self.value)
+            .map(|symbol| symbol.into_untracked().id());
+        let found = match self.texts.get(&self.value) {
+            Some(symbol) => self.other.resolve(symbol).is_some(),
+            None => false,
+        };
+        (
+            id,
+            found,
+            self.texts.elements().len(),
+            self.texts == self.other,
+        )
+    }
+}
+
+/// The look-up of these characters.
+fn lookup_of(alloc: Global, chars: &str) -> Result<Lookup, Fail> {
+    let value = text(alloc, chars)?;
+    let texts = interner(alloc)?;
+    let other = interner(alloc)?;
+    Ok(Lookup {
+        texts,
+        other,
+        value,
+    })
+}
+
 /// Looks a text up, and what its symbol stands for.
 pub fn look(rt: &HostRuntime, chars: &str) -> Result<Outcome, Fail> {
-    let (texts, value) = (interner(rt.alloc())?, text(rt.alloc(), chars)?);
-    let other = interner(rt.alloc())?;
-    begin(rt);
-    let id = texts.get(&value).map(|symbol| symbol.into_untracked().id());
-    let found = match texts.get(&value) {
-        Some(symbol) => other.resolve(symbol).is_some(),
-        None => false,
-    };
-    let (len, same) = (texts.elements().len(), texts == other);
-    end(rt);
-    Outcome::of(done(format!(in rt.alloc(); "{id:?} {found} {len} {same}")))
+    ask(rt, lookup_of(rt.alloc(), chars))
 }
 
 /// Keeps the first two texts.

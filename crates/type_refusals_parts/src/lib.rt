@@ -1,6 +1,7 @@
 //! Calls over types of a program and over parts of descriptions, each made once between marks.
 #![tactic(auto)]
 
+pub mod asked;
 pub mod calls;
 pub mod catalogues;
 pub mod copies;

@@ -1,7 +1,8 @@
 //! Getters, comparisons and hashes, which do not allocate.
+use crate::asked::{Asked, ask};
 use scale_info::form::PortableForm;
 use scale_info::utils::is_rust_identifier;
-use scale_info::{Type, TypeDefArray, TypeDefBitSequence, TypeDefMap};
+use scale_info::{Field, Path, Type, TypeDefArray, TypeDefBitSequence, TypeDefMap, Variant};
 use std::alloc::Global;
 use std::hash::{FoldHasher, Hash, Hasher};
 use std::test::Fail;
@@ -11,24 +12,69 @@ use type_refusals_common::outcomes::Outcome;
 use type_refusals_common::types::{description_named, type_named};
 use type_vectors_common::parts;
 
+impl Asked for Field<PortableForm> {
+    type Parts = (bool, bool, u32, usize);
+
+    fn parts(&self) -> (bool, bool, u32, usize) {
+        let names = (self.name().is_some(), self.type_name().is_some());
+        (names.0, names.1, self.ty().id(), self.docs().len())
+    }
+}
+
+impl Asked for Variant<PortableForm> {
+    type Parts = (usize, u8, usize, usize);
+
+    fn parts(&self) -> (usize, u8, usize, usize) {
+        let (name, fields) = (self.name().len(), self.fields().len());
+        (name, self.index(), fields, self.docs().len())
+    }
+}
+
+impl Asked for Path<PortableForm> {
+    type Parts = (usize, usize, bool);
+
+    fn parts(&self) -> (usize, usize, bool) {
+        let (segments, modules) = (self.segments().len(), self.namespace().len());
+        (segments, modules, self.is_empty())
+    }
+}
+
+impl Asked for Type {
+    type Parts = (bool, usize, usize);
+
+    fn parts(&self) -> (bool, usize, usize) {
+        let (is_empty, params) = (self.path().is_empty(), self.type_params().len());
+        (is_empty, params, self.docs().len())
+    }
+}
+
 /// Asks a field for its parts.
 pub fn field(rt: &HostRuntime) -> Result<Outcome, Fail> {
-    let field = parts::field(rt.alloc(), Some("n"), 3, Some("N"), &["d", ""])?;
-    begin(rt);
-    let names = (field.name().is_some(), field.type_name().is_some());
-    let (id, lines) = (field.ty().id(), field.docs().len());
-    end(rt);
-    Outcome::of(done(format!(in rt.alloc(); "{names:?} {id} {lines}")))
+    ask(
+        rt,
+        Ok(parts::field(rt.alloc(), Some("n"), 3, Some("N"), &["d", ""])?),
+    )
 }
 
 /// Asks a variant for its parts.
 pub fn variant(rt: &HostRuntime) -> Result<Outcome, Fail> {
-    let variant = parts::variant(rt.alloc(), "V", &[1, 2], 255, &["v"])?;
-    begin(rt);
-    let (len, index) = (variant.name().len(), variant.index());
-    let (fields, lines) = (variant.fields().len(), variant.docs().len());
-    end(rt);
-    Outcome::of(done(format!(in rt.alloc(); "{len} {index} {fields} {lines}")))
+    ask(
+        rt,
+        Ok(parts::variant(rt.alloc(), "V", &[1, 2], 255, &["v"])?),
+    )
+}
+
+/// Asks a path for its parts.
+pub fn path(rt: &HostRuntime) -> Result<Outcome, Fail> {
+    ask(
+        rt,
+        Ok(parts::path(rt.alloc(), &["hello", "world", "Planet"])?),
+    )
+}
+
+/// Asks the description of this name for its parts.
+pub fn description(rt: &HostRuntime, name: &str) -> Result<Outcome, Fail> {
+    ask(rt, description_named(rt.alloc(), name))
 }
 
 /// Asks definitions for their parts.
@@ -42,26 +88,6 @@ pub fn definitions(rt: &HostRuntime) -> Result<Outcome, Fail> {
     let (store, order) = (bits.bit_store_type().id(), bits.bit_order_type().id());
     end(rt);
     Outcome::of(done(format!(in rt.alloc(); "{len} {item} {key} {value} {store} {order}")))
-}
-
-/// Asks a path for its parts.
-pub fn path(rt: &HostRuntime) -> Result<Outcome, Fail> {
-    let path = parts::path(rt.alloc(), &["hello", "world", "Planet"])?;
-    begin(rt);
-    let (segments, modules) = (path.segments().len(), path.namespace().len());
-    let is_empty = path.is_empty();
-    end(rt);
-    Outcome::of(done(format!(in rt.alloc(); "{segments} {modules} {is_empty}")))
-}
-
-/// Asks the description of this name for its parts.
-pub fn description(rt: &HostRuntime, name: &str) -> Result<Outcome, Fail> {
-    let ty = description_named(rt.alloc(), name)?;
-    begin(rt);
-    let (is_empty, params) = (ty.path().is_empty(), ty.type_params().len());
-    let lines = ty.docs().len();
-    end(rt);
-    Outcome::of(done(format!(in rt.alloc(); "{is_empty} {params} {lines}")))
 }
 
 /// Descriptions of the types of these names, in order.
