@@ -10,7 +10,7 @@ pub use scale_info_identities::laws::{
 pub use scale_info_json::laws::one_meaning;
 pub use scale_info_laws::equalities::{
     equal_codec_errors, equal_definition_parts, equal_fields, equal_parameters, equal_paths,
-    equal_primitives, equal_variants,
+    equal_variants,
 };
 pub use scale_info_laws::orders::{
     ordered_definition_parts, ordered_descriptions, ordered_fields, ordered_meta_types,
@@ -22,19 +22,20 @@ pub use scale_info_numberings::laws::{
     numbering_extends_nothing, old_entries_stay, one_extension, one_list_of_places, one_numbering,
     one_table, reached_by_path, reached_exactly, reached_inside, unfolds_alike,
 };
+pub use scale_info_primitives::laws::{equal_primitives, ordered_primitives};
 pub use scale_info_references::laws::{ids_of_references, same_shape};
 pub use scale_info_registry::laws::{
     catalogue_grows, equal_registries, registered_afresh, registrations_afresh,
     registrations_compose,
 };
+pub use scale_info_segments::laws::{equal_path_errors, one_list_of_pieces};
 pub use scale_info_tables::laws::{
     equal_tables, old_texts_stay, one_text, registered_tables, spelled_within_limits,
 };
 pub use scale_info_type_ids::laws::{own_identities, own_standard_identities, shared_identities};
 pub use scale_info_types::laws::{
-    equal_contents, equal_definitions, equal_path_errors, equal_portable, one_list_of_pieces,
-    ordered_definitions, ordered_primitives, same_shape_same_counts, shape_and_references,
-    shape_and_references_of,
+    equal_contents, equal_definitions, equal_portable, ordered_definitions, same_shape_same_counts,
+    shape_and_references, shape_and_references_of,
 };
 pub use scale_info_value::laws::{
     counts_as_in_tables, reads_alike, texts_as_in_tables, unfolding_decides,

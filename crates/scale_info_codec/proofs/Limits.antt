@@ -22,8 +22,8 @@ use Rattle.scale_info_types.specs.Portable as portable
 use Rattle.scale_info_types.specs.Portable.{Id, Text}
 use Rattle.scale_info_types.specs.declared.ty.PortableType.{PortableType}
 use Rattle.scale_info_types.specs.declared.ty.TypeDef.TheVariants as def
-use Rattle.scale_info_types.specs.declared.ty.TypeDefPrimitive.{TypeDefPrimitive}
-use Rattle.scale_info_types.specs.declared.ty.TypeDefPrimitive.TheVariants as kind
+use Rattle.scale_info_primitives.specs.declared.primitive.TypeDefPrimitive.{TypeDefPrimitive}
+use Rattle.scale_info_primitives.specs.declared.primitive.TypeDefPrimitive.TheVariants as kind
 use Rattle.scale_info_codec.specs.Ty as described
 use Rattle.scale_info_codec.specs.Ty.{
   EncodesTypeDefWithIndex,

@@ -5,8 +5,8 @@ use Rattle.scale_info_types.specs.Portable.{Id, Text}
 use Rattle.scale_info_type_ids.specs.declared.impls.Compact.{Compact}
 use Rattle.scale_info_types.specs.declared.ty.PortableType.{PortableType}
 use Rattle.scale_info_types.specs.declared.ty.TypeDef.TheVariants as def
-use Rattle.scale_info_types.specs.declared.ty.TypeDefPrimitive.{TypeDefPrimitive}
-use Rattle.scale_info_types.specs.declared.ty.TypeDefPrimitive.TheVariants as kind
+use Rattle.scale_info_primitives.specs.declared.primitive.TypeDefPrimitive.{TypeDefPrimitive}
+use Rattle.scale_info_primitives.specs.declared.primitive.TypeDefPrimitive.TheVariants as kind
 use Rattle.scale_info_bytes.specs.Numbers.{EncodesU8, EncodesU32, EncodesCompact}
 use Rattle.scale_info_bytes.specs.Parts.{HasIndex, EncodesPair, EncodesOption, EncodesList}
 use Rattle.scale_info_bytes.specs.Strings.{EncodesText}

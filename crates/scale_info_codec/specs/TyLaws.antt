@@ -4,7 +4,7 @@ use Rattle.std.proofs.Common.{ap, sym, ◌∙◌, refl, subst, lit<}
 use Rattle.std.specs.List.{AllByRecursion}
 use Rattle.scale_info_types.specs.Portable as portable
 use Rattle.scale_info_types.specs.declared.ty.TypeDef.TheVariants as def
-use Rattle.scale_info_types.specs.declared.ty.TypeDefPrimitive.{TypeDefPrimitive}
+use Rattle.scale_info_primitives.specs.declared.primitive.TypeDefPrimitive.{TypeDefPrimitive}
 use Rattle.scale_info_bytes.specs.Encodings.{IsEncoding, IsByte}
 use Rattle.scale_info_bytes.specs.NumberLaws.{u8_law, u32_law}
 use Rattle.scale_info_bytes.specs.CompactLaws.{compact_law}

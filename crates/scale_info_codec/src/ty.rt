@@ -1,6 +1,6 @@
 //! Descriptions as bytes.
 ghost use Rattle.std.specs.Prelude.{IfOk, IfErr, IfSome, IfNone};
-ghost use Rattle.scale_info_types.specs.declared.ty.TypeDefPrimitive.{TypeDefPrimitive};
+ghost use Rattle.scale_info_primitives.specs.declared.primitive.TypeDefPrimitive.{TypeDefPrimitive};
 ghost use Rattle.scale_info_bytes.specs.Encodings.{HasPrefix, HasNoPrefix, IfMalformed};
 ghost use Rattle.scale_info_bytes.specs.Parts.{EncodesPair, EncodesList};
 ghost use Rattle.scale_info_bytes.specs.Numbers.{EncodesU32};

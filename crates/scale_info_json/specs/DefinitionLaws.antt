@@ -4,9 +4,9 @@ use Rattle.std.proofs.Common.{sym, ◌∙◌, ap, subst}
 use Rattle.serde_json.specs.Data.{Data, string, object, no_members, member}
 use Rattle.scale_info_types.specs.Portable as portable
 use Rattle.scale_info_types.specs.declared.ty.TypeDef.TheVariants as def
-use Rattle.scale_info_types.specs.declared.ty.TypeDefPrimitive.{TypeDefPrimitive}
-use Rattle.scale_info_types.specs.declared.ty.TypeDefPrimitive.TheVariants as kind
-use Rattle.scale_info_types.specs.Primitives.{primitive_name}
+use Rattle.scale_info_primitives.specs.declared.primitive.TypeDefPrimitive.{TypeDefPrimitive}
+use Rattle.scale_info_primitives.specs.declared.primitive.TypeDefPrimitive.TheVariants as kind
+use Rattle.scale_info_primitives.specs.Primitives.{primitive_name}
 use Rattle.scale_info_json.specs.Meaning.{IsMeaning, MeansNumber}
 use Rattle.scale_info_json.specs.Laws.{number_law, list_law, value_unique, list_at_unique}
 use Rattle.scale_info_json.specs.Laws.{no_object}

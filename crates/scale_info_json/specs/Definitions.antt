@@ -3,8 +3,8 @@ use Rattle.std.specs.Prelude.{◌≡◌, ℕ, ◌^◌, List, [], ◌∷◌, Some
 use Rattle.serde_json.specs.Data.{Data, number, unsigned, string, object, no_members, member}
 use Rattle.scale_info_types.specs.Portable as portable
 use Rattle.scale_info_types.specs.declared.ty.TypeDef.TheVariants as def
-use Rattle.scale_info_types.specs.declared.ty.TypeDefPrimitive.{TypeDefPrimitive}
-use Rattle.scale_info_types.specs.Primitives.{primitive_name}
+use Rattle.scale_info_primitives.specs.declared.primitive.TypeDefPrimitive.{TypeDefPrimitive}
+use Rattle.scale_info_primitives.specs.Primitives.{primitive_name}
 use Rattle.scale_info_json.specs.Described.{id_tree, MeansId, field_rows, MeansField, variant_rows}
 use Rattle.scale_info_json.specs.Described.{MeansVariant}
 use Rattle.scale_info_json.specs.Meaning.{MeansNumber, MeansList, IsObject, HasValue, HasList}

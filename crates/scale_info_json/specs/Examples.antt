@@ -1,7 +1,7 @@
 -- A small table.
 use Rattle.std.specs.Prelude.{ℕ, [], ◌∷◌}
 use Rattle.scale_info_types.specs.declared.ty.TypeDef.TheVariants as def
-use Rattle.scale_info_types.specs.declared.ty.TypeDefPrimitive.TheVariants as kind
+use Rattle.scale_info_primitives.specs.declared.primitive.TypeDefPrimitive.TheVariants as kind
 use Rattle.scale_info_types.specs.Portable.{Id, TypeDef}
 use Rattle.scale_info_types.specs.declared.ty.PortableType.{PortableType}
 use Rattle.scale_info_tables.specs.declared.portable.PortableRegistry.{PortableRegistry}

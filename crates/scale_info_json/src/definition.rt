@@ -2,7 +2,7 @@
 ghost use Rattle.std.specs.Prelude.{◌≡◌, refl, List, ℕ, IfSome, IfNone, IfOk, IfErr};
 ghost use Rattle.serde_json.specs.Data.{Data};
 ghost use Rattle.serde_json.specs.View.{view};
-ghost use Rattle.scale_info_types.specs.Primitives.{primitive_name};
+ghost use Rattle.scale_info_primitives.specs.Primitives.{primitive_name};
 ghost use Rattle.scale_info_json.specs.Meaning.{IsMeaningless, IfShape};
 ghost use Rattle.scale_info_json.specs.Definitions.{composite_rows, MeansComposite};
 ghost use Rattle.scale_info_json.specs.Definitions.{variant_type_rows, MeansVariantType};

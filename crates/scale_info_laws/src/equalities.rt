@@ -17,7 +17,6 @@ ghost use Rattle.scale_info_types.specs.declared.ty.TypeDefArray as arrays;
 ghost use Rattle.scale_info_types.specs.declared.ty.TypeDefBitSequence as bit_sequences;
 ghost use Rattle.scale_info_types.specs.declared.ty.TypeDefCompact as compacts;
 ghost use Rattle.scale_info_types.specs.declared.ty.TypeDefMap as maps;
-ghost use Rattle.scale_info_types.specs.declared.ty.TypeDefPrimitive as primitives;
 ghost use Rattle.scale_info_types.specs.declared.ty.TypeDefSequence as sequences;
 ghost use Rattle.scale_info_types.specs.declared.ty.TypeDefTuple as tuples;
 ghost use Rattle.scale_info_types.specs.declared.ty.TypeParameter as parameters;
@@ -34,7 +33,7 @@ use scale_info_types::ty::path::Path;
 use scale_info_types::ty::variant::Variant;
 use scale_info_types::ty::{
     Field, TypeDefArray, TypeDefBitSequence, TypeDefCompact, TypeDefComposite, TypeDefMap,
-    TypeDefPrimitive, TypeDefSequence, TypeDefTuple, TypeDefVariant, TypeParameter,
+    TypeDefSequence, TypeDefTuple, TypeDefVariant, TypeParameter,
 };
 
 /// Paths are equal exactly where their contents are.
@@ -107,12 +106,6 @@ pub fn equal_definition_parts<T: Form>()
 {
     equal_definitions::<T>()
 }
-
-/// Primitives are equal exactly where they are one value.
-pub fn equal_primitives()
-    ensures { (a b : primitives.TypeDefPrimitive)
-        → IsTrue (⟦<TypeDefPrimitive as PartialEq>⟧.eq a b) ↔ (a ≡ b) }
-{}
 
 /// Errors of encoding and of decoding are equal exactly where they are one value.
 pub fn equal_codec_errors()

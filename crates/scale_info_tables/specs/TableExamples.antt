@@ -2,7 +2,7 @@
 use Rattle.std.specs.Prelude.{[], ◌∷◌}
 use Rattle.scale_info_laws.specs.Examples.{key_values, plain}
 use Rattle.scale_info_types.specs.declared.ty.TypeDef.TheVariants as def
-use Rattle.scale_info_types.specs.declared.ty.TypeDefPrimitive.TheVariants as kind
+use Rattle.scale_info_primitives.specs.declared.primitive.TypeDefPrimitive.TheVariants as kind
 use Rattle.scale_info_tables.specs.declared.portable.PortableRegistry.{PortableRegistry}
 
 -- at index 0 a map from the type at index 1 to the map, with the id 7; at index 1 `bool`, with the

@@ -16,8 +16,8 @@ use Rattle.scale_info_types.specs.declared.ty.fields.Field.{Field}
 use Rattle.scale_info_types.specs.declared.ty.variant.Variant.{Variant}
 use Rattle.scale_info_types.specs.declared.ty.TypeDef.{TypeDef}
 use Rattle.scale_info_types.specs.declared.ty.TypeDef.TheVariants as def
-use Rattle.scale_info_types.specs.declared.ty.TypeDefPrimitive.{TypeDefPrimitive}
-use Rattle.scale_info_types.specs.declared.ty.TypeDefPrimitive.TheVariants as kind
+use Rattle.scale_info_primitives.specs.declared.primitive.TypeDefPrimitive.{TypeDefPrimitive}
+use Rattle.scale_info_primitives.specs.declared.primitive.TypeDefPrimitive.TheVariants as kind
 
 -- a description of the definition alone: path, parameters and docs are empty
 abbrev pub defined : TypeDef (Unit {0}) Term (List ℕ) → MetaContent

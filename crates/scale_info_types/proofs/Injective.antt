@@ -1,7 +1,7 @@
 -- Equal definitions of one kind have equal parts.
 use Rattle.std.proofs.Common.{◌≡◌}
 use Rattle.scale_info_types.specs.declared.ty.TypeDef.TheVariants as def
-use Rattle.scale_info_types.specs.declared.ty.TypeDefPrimitive.{TypeDefPrimitive}
+use Rattle.scale_info_primitives.specs.declared.primitive.TypeDefPrimitive.{TypeDefPrimitive}
 use Rattle.scale_info_types.specs.declared.ty.composite.TypeDefComposite.{TypeDefComposite}
 use Rattle.scale_info_types.specs.declared.ty.variant.TypeDefVariant.{TypeDefVariant}
 use Rattle.scale_info_types.specs.declared.ty.TypeDefSequence.{TypeDefSequence}

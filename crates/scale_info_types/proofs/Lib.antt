@@ -3,5 +3,4 @@ pub mod ShapeAndReferences
 pub mod Contents
 pub mod Injective
 pub mod Iterators
-pub mod TypePaths
 pub mod Inverses

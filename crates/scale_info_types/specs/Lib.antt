@@ -1,10 +1,8 @@
 pub mod Iterators
 pub mod MetaDescriptions
 pub mod Orders
-pub mod TypePaths
 pub mod Portable
 pub mod Phantoms
-pub mod Primitives
 pub mod References
 pub mod Shapes
 pub use Rattle.scale_info_identities.specs.Identifiers

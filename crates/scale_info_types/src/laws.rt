@@ -1,9 +1,8 @@
 //! Laws of descriptions. Nothing here does any work when it runs.
-ghost use Rattle.std.specs.Prelude.{◌≡◌, ◌↔◌, IsTrue, length, map, ℕ, List};
+ghost use Rattle.std.specs.Prelude.{◌≡◌, ◌↔◌, IsTrue, length, map};
 ghost use Rattle.scale_info_types.specs.Shapes.{map_definition, content, shape};
 ghost use Rattle.scale_info_types.specs.Portable as portable;
 ghost use Rattle.scale_info_types.specs.References.{references};
-ghost use Rattle.scale_info_types.specs.TypePaths.{IsPieces};
 ghost use Rattle.scale_info_types.specs.declared.ty.TypeDef.{TypeDef};
 ghost use Rattle.scale_info_types.specs.declared.ty.Description.{Description};
 ghost use Rattle.scale_info_types.specs.declared.ty.PortableType.{PortableType};
@@ -13,7 +12,7 @@ use crate::ty::Type;
 
 mod comparisons;
 
-pub use comparisons::{equal_path_errors, ordered_definitions, ordered_primitives};
+pub use comparisons::ordered_definitions;
 
 /// Two definitions are equal, in any form, exactly if their contents are.
 pub fn equal_definitions<T: Form>()
@@ -78,11 +77,3 @@ pub fn equal_portable()
 {
     equal_contents::<PortableForm>()
 }
-
-/// A text has one list of pieces around `::`.
-///
-/// `a:::b` has the pieces `a` and `:b`, since the first `::` counts, and no others.
-pub fn one_list_of_pieces()
-    ensures { (text : List ℕ) (pieces others : List (List ℕ)) → IsPieces text pieces
-        → IsPieces text others → pieces ≡ others }
-{}

@@ -16,8 +16,8 @@ impl Asked for Field<PortableForm> {
     type Parts = (bool, bool, u32, usize);
 
     fn parts(&self) -> (bool, bool, u32, usize) {
-        let names = (self.name().is_some(), self.type_name().is_some());
-        (names.0, names.1, self.ty().id(), self.docs().len())
+        let (is_named, has_type_name) = (self.name().is_some(), self.type_name().is_some());
+        (is_named, has_type_name, self.ty().id(), self.docs().len())
     }
 }
 

@@ -4,7 +4,7 @@ ghost use Rattle.scale_info_tables.specs.TableExamples.{ids_that_are_not_indices
 ghost use Rattle.scale_info_laws.specs.Examples.{key_values, plain};
 ghost use Rattle.scale_info_types.specs.Shapes.{shape};
 ghost use Rattle.scale_info_types.specs.declared.ty.TypeDef.TheVariants as def;
-ghost use Rattle.scale_info_types.specs.declared.ty.TypeDefPrimitive.TheVariants as kind;
+ghost use Rattle.scale_info_primitives.specs.declared.primitive.TypeDefPrimitive.TheVariants as kind;
 ghost use Rattle.std.specs.Prelude.{◌≡◌, ◌∷◌, [], None, Some};
 
 /// Where the entry at index 0 has the id 7 and the entry at index 1 the id 0, the nodes of the

@@ -2,7 +2,7 @@
 ghost use Rattle.std.specs.Prelude.{◌≡◌, Some};
 ghost use Rattle.scale_info_types.specs.MetaDescriptions.{meta_content};
 ghost use Rattle.scale_info_type_info.specs.StandardTypes.{primitive_description};
-ghost use Rattle.scale_info_types.specs.declared.ty.TypeDefPrimitive.TheVariants as kind;
+ghost use Rattle.scale_info_primitives.specs.declared.primitive.TypeDefPrimitive.TheVariants as kind;
 
 use super::built_in;
 use crate::type_info::{InfoError, TypeInfo};

@@ -1,23 +1,20 @@
-//! Orders of definitions and of primitives, and the equality of errors of paths.
-ghost use Rattle.scale_info_types.specs.Orders.{definition_index, primitive_index};
+//! The order of definitions.
+ghost use Rattle.scale_info_types.specs.Orders.{definition_index};
 ghost use Rattle.scale_info_types.specs.declared.ty.TypeDef as definitions;
 ghost use Rattle.scale_info_types.specs.declared.ty.TypeDef.TheVariants as def;
 ghost use Rattle.scale_info_types.specs.declared.ty.TypeDefArray as arrays;
 ghost use Rattle.scale_info_types.specs.declared.ty.TypeDefBitSequence as bit_sequences;
 ghost use Rattle.scale_info_types.specs.declared.ty.TypeDefCompact as compacts;
 ghost use Rattle.scale_info_types.specs.declared.ty.TypeDefMap as maps;
-ghost use Rattle.scale_info_types.specs.declared.ty.TypeDefPrimitive as primitives;
+ghost use Rattle.scale_info_primitives.specs.declared.primitive.TypeDefPrimitive as primitives;
 ghost use Rattle.scale_info_types.specs.declared.ty.TypeDefSequence as sequences;
 ghost use Rattle.scale_info_types.specs.declared.ty.TypeDefTuple as tuples;
 ghost use Rattle.scale_info_types.specs.declared.ty.composite.TypeDefComposite as composites;
-ghost use Rattle.scale_info_types.specs.declared.ty.path.PathError as path_errors;
 ghost use Rattle.scale_info_types.specs.declared.ty.variant.TypeDefVariant as enums;
-ghost use Rattle.std.specs.Ordering.{nat_cmp};
-ghost use Rattle.std.specs.Prelude.{◌≡◌, ◌<◌, ◌↔◌, IsTrue};
+ghost use Rattle.std.specs.Prelude.{◌≡◌, ◌<◌};
 ghost use Rattle.std.specs.declared.cmp.Ordering.TheVariants.{Greater, Less};
 
 use crate::form::Form;
-use crate::ty::path::PathError;
 use crate::ty::{
     TypeDef, TypeDefArray, TypeDefBitSequence, TypeDefCompact, TypeDefComposite, TypeDefMap,
     TypeDefPrimitive, TypeDefSequence, TypeDefTuple, TypeDefVariant,
@@ -57,20 +54,4 @@ pub fn ordered_definitions<T: Form>()
         ≡ ⟦<TypeDefBitSequence<T> as Ord>⟧.cmp a b }
     ensures maps { (a b : maps.TypeDefMap T T.Ty T.String)
         → ⟦<TypeDef<T> as Ord>⟧.cmp (def.Map a) (def.Map b) ≡ ⟦<TypeDefMap<T> as Ord>⟧.cmp a b }
-{}
-
-/// Primitives are ordered as declared: `bool`, `char`, `str`, the unsigned numbers from `u8` to
-/// `u256`, and the signed ones from `i8` to `i256`.
-pub fn ordered_primitives()
-    ensures { (a b : primitives.TypeDefPrimitive)
-        → ⟦<TypeDefPrimitive as Ord>⟧.cmp a b ≡ nat_cmp (primitive_index a) (primitive_index b) }
-{}
-
-/// Errors of paths are equal exactly where they are one value.
-///
-/// So a path whose first bad segment has the index 0 is refused otherwise than one where it has the
-/// index 1.
-pub fn equal_path_errors()
-    ensures { (a b : path_errors.PathError)
-        → IsTrue (⟦<PathError as PartialEq>⟧.eq a b) ↔ (a ≡ b) }
 {}

@@ -1,61 +1,20 @@
 //! Paths: where a type is declared, and its name.
 ghost use Rattle.std.specs.Prelude.{◌≡◌, ◌≢◌, ◌↔◌, ◌-◌, ℕ, List, [], Some, map, length, take};
-ghost use Rattle.std.specs.Prelude.{slice_get, IfOk, IfSome, IsNone, IsTrue};
+ghost use Rattle.std.specs.Prelude.{slice_get, IfOk, IsTrue};
 ghost use Rattle.std.specs.Iterator.{IsFinite};
-ghost use Rattle.std.specs.List.{All};
-ghost use Rattle.scale_info_identities.specs.Identifiers.{IsIdentifier};
+ghost use Rattle.scale_info_segments.specs.TypePaths.{AreDeclared, ArePathSegments, StaticTexts};
+ghost use Rattle.scale_info_segments.specs.TypePaths.{IsFirstInvalidIndex, joined, replaced};
+ghost use Rattle.scale_info_segments.specs.TypePaths.{text_pairs, texts};
 ghost use Rattle.scale_info_types.specs.Iterators.{GivesAll};
-ghost use Rattle.scale_info_types.specs.TypePaths.{AreDeclared, ArePathSegments, StaticTexts};
-ghost use Rattle.scale_info_types.specs.TypePaths.{IsFirstInvalidIndex, IsPieces, joined, replaced};
-ghost use Rattle.scale_info_types.specs.TypePaths.{text_pairs, texts};
-ghost use Rattle.scale_info_types.specs.declared.ty.path.PathError.TheVariants.{Memory as memory};
 
 use crate::form::{Form, MetaForm, PortableForm, copy_strings};
 use scale_info_collections::items::Items;
 use scale_info_collections::marker::Marker;
 use scale_info_collections::try_clone::TryClone;
-use scale_info_identities::utils::is_rust_identifier;
-use std::alloc::{AllocError, AllocFailed, Global};
+pub use scale_info_segments::segments::PathError;
+use scale_info_segments::segments::{declared_segments, path_segments};
+use std::alloc::{AllocError, Global};
 use std::fmt;
-use thiserror::Error;
-
-/// Why no path could be made. It is displayed as the name of the variant alone.
-///
-/// ```text
-/// Path::from_segments(alloc, ["Earth", "::world"])
-///     == Err(PathError::InvalidIdentifier { segment: 1 })
-/// ```
-#[derive(Debug, Drop, PartialEq, Eq, Error)]
-pub enum PathError {
-    /// There is no segment.
-    #[error("MissingSegments")]
-    MissingSegments,
-    /// A segment is not an identifier of Rust.
-    #[error("InvalidIdentifier")]
-    InvalidIdentifier {
-        /// The index of the first such segment.
-        segment: usize,
-    },
-    /// An allocation failed.
-    #[error("Memory")]
-    Memory,
-}
-
-impl From<AllocError> for PathError {
-    ghost from_gives = { λ _ e. e ≡ memory };
-
-    fn from(_e: AllocError) -> PathError {
-        PathError::Memory
-    }
-}
-
-impl<T: Drop> From<AllocFailed<T>> for PathError {
-    ghost from_gives = { λ _ e. e ≡ memory };
-
-    fn from(_e: AllocFailed<T>) -> PathError {
-        PathError::Memory
-    }
-}
 
 /// The modules in which a type is declared, outermost first, and the type's name last.
 #[derive(Drop)]
@@ -196,9 +155,8 @@ impl Path<MetaForm> {
             × IsFirstInvalidIndex (map (replaced (text_pairs pairs.now)) declared) segment }
         ensures never_missing { result ≢ Err PathError.MissingSegments }
     {
-        let mut segments = replaced_pieces(alloc, module_path, pairs)?;
-        segments.push(replacement(ident, pairs))?;
-        checked(segments)
+        let segments = declared_segments(alloc, ident, module_path, pairs)?;
+        Ok(Path::from(Items::from(segments)))
     }
 
     /// The path of these segments, in order.
@@ -228,72 +186,9 @@ impl Path<MetaForm> {
             × GivesAll I.into_iter_gives I.IntoIter.next_gives segments items
             × IsFirstInvalidIndex (texts items) segment }
     {
-        checked(Vec::from_iter(alloc, segments)?)
+        let segments = path_segments(Vec::from_iter(alloc, segments)?)?;
+        Ok(Path::from(Items::from(segments)))
     }
-}
-
-/// The path of these segments, if there is one and all are identifiers.
-fn checked(segments: Vec<&'static str>) -> Result<Path, PathError>
-    ensures ok { IfOk result
-        (λ path. (path.segments ≡ segments.entry.items) × ArePathSegments (texts path.segments)) }
-    ensures missing { result ≡ Err PathError.MissingSegments → segments.entry.items ≡ [] }
-    ensures invalid { (segment : ℕ) → result ≡ Err (PathError.InvalidIdentifier segment)
-        → IsFirstInvalidIndex (texts segments.entry.items) segment }
-    ensures never_memory { result ≢ Err PathError.Memory }
-{
-    if segments.is_empty() {
-        return Err(PathError::MissingSegments);
-    }
-    if let Some(segment) = first_invalid_index(segments.as_slice()) {
-        return Err(PathError::InvalidIdentifier { segment });
-    }
-    Ok(Path::from(Items::from(segments)))
-}
-
-/// The index of the first string that is not an identifier.
-fn first_invalid_index(strings: &[&'static str]) -> Option<usize>
-    ensures good { IsNone result → All IsIdentifier (texts strings.now) }
-    ensures bad { IfSome result (IsFirstInvalidIndex (texts strings.now)) }
-{
-    for (place, text) in strings.iter().enumerate() {
-        if !is_rust_identifier(text) {
-            return Some(place);
-        }
-    }
-    None
-}
-
-/// The pieces of a string around `::`, each after the pairs have replaced it.
-fn replaced_pieces(
-    alloc: Global,
-    text: &'static str,
-    pairs: &[(&'static str, &'static str)],
-) -> Result<Vec<&'static str>, AllocError>
-    ensures { IfOk result (λ all. (pieces : List (List ℕ)) × IsPieces text.now pieces
-        × (texts all.items ≡ map (replaced (text_pairs pairs.now)) pieces)) }
-{
-    // The pieces, and room for the name after them.
-    let mut all = Vec::with_capacity(alloc, text.matches("::").count().saturating_add(2))?;
-    let mut rest = text;
-    'pieces: while let Some((before, after)) = rest.split_once("::") {
-        all.push(replacement(before, pairs))?;
-        rest = after;
-    }
-    all.push(replacement(rest, pairs))?;
-    Ok(all)
-}
-
-/// The second string of the first pair whose first string is this one; without such a pair the
-/// string itself.
-fn replacement(text: &'static str, pairs: &[(&'static str, &'static str)]) -> &'static str
-    ensures { result.now ≡ replaced (text_pairs pairs.now) text.now }
-{
-    for (from, to) in pairs {
-        if *from == text {
-            return to;
-        }
-    }
-    text
 }
 
 /// Prints the segments with `::` between them, and nothing for a path without segments. Width, fill

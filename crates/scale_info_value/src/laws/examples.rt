@@ -2,7 +2,7 @@
 //! nothing when it runs.
 ghost use Rattle.std.specs.Prelude.{◌≡◌, ◌∷◌, [], Some, codes, negsuc, true};
 ghost use Rattle.scale_info_types.specs.declared.ty.TypeDef.TheVariants as def;
-ghost use Rattle.scale_info_types.specs.declared.ty.TypeDefPrimitive.TheVariants as kind;
+ghost use Rattle.scale_info_primitives.specs.declared.primitive.TypeDefPrimitive.TheVariants as kind;
 ghost use Rattle.scale_info_value.specs.declared.value.Dyn.TheVariants as dyn;
 ghost use Rattle.scale_info_value.specs.Examples.{table_of, list_of_u32, own_field, compact_of};
 ghost use Rattle.scale_info_value.specs.Examples.{array_of_missing, map_of_u32_to_bool};

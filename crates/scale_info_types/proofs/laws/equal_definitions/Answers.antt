@@ -1,6 +1,6 @@
 use Rattle.std.proofs.Common.{ap, rules}
 use denote.Enum.Bare.{same_true, true_same}
-use Rattle.scale_info_types.specs.contracts.ty.TypeDefPrimitive.{the_type}
+use Rattle.scale_info_primitives.specs.contracts.primitive.TypeDefPrimitive.{the_type}
 use Rattle.scale_info_types.proofs.Injective.{composite_parts, variant_parts, sequence_parts}
 use Rattle.scale_info_types.proofs.Injective.{array_parts, tuple_parts, primitive_parts}
 use Rattle.scale_info_types.proofs.Injective.{compact_parts, bit_sequence_parts, map_parts}

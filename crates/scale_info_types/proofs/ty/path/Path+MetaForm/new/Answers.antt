@@ -1,7 +1,7 @@
 use Rattle.std.proofs.Common.{List, ℕ, subst, sym, ◌∙◌}
 use Rattle.std.proofs.lemmas.Result.{IfOk-weaker}
-use Rattle.scale_info_types.specs.TypePaths.{AreDeclared, IsFirstInvalidIndex}
-use Rattle.scale_info_types.proofs.TypePaths.{replaced_by_none}
+use Rattle.scale_info_segments.specs.TypePaths.{AreDeclared, IsFirstInvalidIndex}
+use Rattle.scale_info_segments.proofs.TypePaths.{replaced_by_none}
 use Rattle.scale_info_types.proofs.ty.path.Path+MetaForm.new.Goals as goal
 
 pub returns-clause-ok : goal.returns-clause-ok

@@ -1,7 +1,7 @@
 use Rattle.std.proofs.Common.{append-nil, refl, sym, ◌∙◌}
 use Rattle.std.proofs.Output.{has_written_append, has_written_of_eq, has_written_styled_append}
 use Rattle.std.proofs.Output.{has_written_styled_of_eq}
-use Rattle.scale_info_types.proofs.TypePaths.{joined_all, joined_more}
+use Rattle.scale_info_segments.proofs.TypePaths.{joined_all, joined_more}
 use Rattle.scale_info_types.proofs.ty.path.PathPortableFormDisplay.fmt.Goals as goal
 
 pub loop-segment-init : goal.loop-segment-init

@@ -1,6 +1,6 @@
 use Rattle.std.proofs.Common.{◌≡◌, ◌∷◌, ℕ, List, take}
 use Rattle.std.specs.Fmt.{HasWritten, HasWrittenStyled, IsFlush, IsPlainFormatter}
-use Rattle.scale_info_types.specs.TypePaths.{joined}
+use Rattle.scale_info_segments.specs.TypePaths.{joined}
 use Rattle.scale_info_types.proofs.ty.path.PathPortableFormDisplay.fmt.Given as goal
 
 abbrev pub invariant-loop-segment : goal.invariant-loop-segment

@@ -1,0 +1,30 @@
+use Rattle.std.proofs.Common.{rules}
+use Rattle.scale_info_segments.specs.TypePaths.{text_pairs}
+use Rattle.scale_info_segments.proofs.TypePaths.{after_is_shorter, cut_all, cut_more}
+use Rattle.scale_info_segments.proofs.TypePaths.{split_at_separator}
+use Rattle.scale_info_segments.proofs.segments.replaced_pieces.Goals as goal
+
+pub pieces-preserved : goal.pieces-preserved
+pieces-preserved c =
+    let around =
+    rw c.in-Some.is at (split_at_separator c.pieces.rest.now c.split_once.result c.split_once.ensures.cases) in (
+      search rules,
+      cut_more (text_pairs c.args.pairs.now) c.args.text.now c.pieces.rest.now _ _ c.pieces.all.items c.replacement.result _
+          c.pieces.invariant.1 around c.replacement.ensures c.in_ok-push.ensures.items,
+    )
+
+pub pieces-smaller : goal.pieces-smaller
+pieces-smaller c =
+    let around =
+    rw c.in-Some.is at
+    (split_at_separator c.pieces.rest.now c.split_once.result c.split_once.ensures.cases) in
+    after_is_shorter c.pieces.rest.now _ _ around
+
+pub returns : goal.returns
+returns c =
+    let lacks =
+    rw c.in_default.is at
+    (split_at_separator c.pieces.rest.now c.split_once.result c.split_once.ensures.cases) in
+    cut_all
+    (text_pairs c.args.pairs.now) c.args.text.now c.pieces.rest.now c.pieces.all.items c.replacement-2.result _
+    c.pieces.invariant.1 lacks c.replacement-2.ensures c.in_ok-push-2.ensures.items

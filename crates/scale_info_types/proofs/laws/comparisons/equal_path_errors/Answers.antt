@@ -1,5 +1,0 @@
-use Rattle.std.proofs.Common.{rules}
-use Rattle.scale_info_types.proofs.laws.comparisons.equal_path_errors.Goals as goal
-
-pub returns : goal.returns
-returns c = search rules

@@ -1,5 +1,0 @@
-use Rattle.std.proofs.Common.{rules}
-use Rattle.scale_info_types.proofs.laws.comparisons.ordered_primitives.Goals as goal
-
-pub returns : goal.returns
-returns c = search rules

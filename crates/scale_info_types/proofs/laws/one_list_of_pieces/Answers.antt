@@ -1,5 +1,0 @@
-use Rattle.scale_info_types.proofs.TypePaths.{same_pieces}
-use Rattle.scale_info_types.proofs.laws.one_list_of_pieces.Goals as goal
-
-pub returns : goal.returns
-returns c = same_pieces

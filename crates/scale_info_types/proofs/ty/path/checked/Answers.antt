@@ -1,5 +1,0 @@
-use Rattle.std.proofs.Common.{rules}
-use Rattle.scale_info_types.proofs.ty.path.checked.Goals as goal
-
-pub returns-in-Some-clause-invalid : goal.returns-in-Some-clause-invalid
-returns-in-Some-clause-invalid c = search rules
