@@ -1,6 +1,6 @@
 //! Tables that keep what some of their entries reach.
 ghost use Rattle.std.specs.Prelude.{◌≡◌, ◌≢◌, ◌<◌, ◌≤◌, ◌+◌, ◌++◌, ◌∷◌, ◌↔◌, ℕ, Bool, List, []};
-ghost use Rattle.std.specs.Prelude.{Some, All, IfOk, IfErr, OnErr, cond, length, slice_get};
+ghost use Rattle.std.specs.Prelude.{Some, All, IfOk, IfErr, OnErr, OnOk, cond, length, slice_get};
 ghost use Rattle.std.specs.Prelude.{vec_capacity, vec_len};
 ghost use Rattle.std.specs.BTreeMap.{get};
 ghost use Rattle.std.specs.Ordering.{nat_cmp};
@@ -9,8 +9,7 @@ ghost use Rattle.scale_info_references.specs.Conversions.{number_of};
 ghost use Rattle.scale_info_walk.specs.Kept.{AreKept};
 ghost use Rattle.scale_info_walk.specs.Pruned.{IsChosen, IsPruned, IsRetainError};
 
-use crate::references::TypeReferences;
-use crate::walk::{NONE, RetainError, number_references};
+use crate::walk::{NONE, RetainError, number_entries};
 use scale_info_collections::items::Items;
 use scale_info_references::renumbering::renumbered;
 use scale_info_types::ty::{PortableType, Type, TypeDef, TypeDefPrimitive};
@@ -42,14 +41,9 @@ pub fn retain_types<F: FnMut(u32) -> bool>(
         return Err(RetainError::TooManyTypes);
     }
     let chosen = chosen_ids(alloc, types.len() as u32, filter)?;
-    let source = TypeReferences {
-        types: types.as_slice(),
-    };
-    let found = number_references(alloc, &source, &chosen)?;
+    let found = number_entries(alloc, types.as_slice(), &chosen)?;
     let new_ids = map_of_numbers(alloc, &found.numbers)?;
-    let room = Vec::with_capacity(alloc, found.order.len())?;
-    let old = mem::replace(types, Items::new(alloc)).into_vec();
-    *types = Items::from(kept_entries(alloc, old, &found.order, &found.numbers, room));
+    keep_entries(alloc, types, &found.order, &found.numbers)?;
     Ok(new_ids)
 }
 
@@ -103,6 +97,45 @@ pub fn map_of_numbers(alloc: Global, numbers: &[u32]) -> Result<BTreeMap<u32, u3
         }
     }
     Ok(new_ids)
+}
+
+/// Keeps the entries at these indices in turn, with ids from 0 up and new numbers for their
+/// references.
+///
+/// Errors: `AllocError`, if an allocation failed; then the list is as before.
+fn keep_entries(
+    alloc: Global,
+    types: &mut Items<PortableType>,
+    order: &[u32],
+    numbers: &[u32],
+) -> Result<(), AllocError>
+    requires within { All (λ index. index < length types.old) order.now }
+    requires distinct { AreDistinct order.now }
+    requires few { length order.now ≤ 4294967295 }
+    ensures ok { OnOk result (AreKept types.old order.now (number_of numbers.now) types.new) }
+    ensures err { OnErr result (types.new ≡ types.old) }
+{
+    let (old, room) = taken_with_room(alloc, types, order.len())?;
+    *types = Items::from(kept_entries(alloc, old, order, numbers, room));
+    Ok(())
+}
+
+/// Takes all items out of a list, and returns them and an empty vector with room for so many more.
+///
+/// Errors: `AllocError`, if an allocation failed; then the list is as before.
+fn taken_with_room<T: Drop>(
+    alloc: Global,
+    items: &mut Items<T>,
+    count: usize,
+) -> Result<(Vec<T>, Vec<T>), AllocError>
+    ensures taken { IfOk result (λ taken. taken.0.items ≡ items.old) }
+    ensures empty { IfOk result (λ taken. taken.1.items ≡ []) }
+    ensures room { IfOk result (λ taken. count ≤ vec_capacity taken.1) }
+    ensures err { OnErr result (items.new ≡ items.old) }
+{
+    let room = Vec::with_capacity(alloc, count)?;
+    let old = mem::replace(items, Items::new(alloc)).into_vec();
+    Ok((old, room))
 }
 
 /// The entries at these indices in turn, with ids from 0 up and new numbers for their references.

@@ -96,7 +96,7 @@ pub fn number(
     ensures cause { IfErr result
         (IsCause (types_system types.now) (length types.now) [] roots.now) }
 {
-    let found = number_references(alloc, &TypeReferences { types }, roots)?;
+    let found = number_entries(alloc, types, roots)?;
     Ok(Numbering {
         order: found.order,
         steps: found.steps,
@@ -130,6 +130,26 @@ pub fn number_recursive(
         order: found.order,
         steps: found.steps,
     })
+}
+
+/// Numbers what the roots reach, as [`number`] does, and returns the new number of each index too.
+///
+/// Errors: as those of [`number`].
+pub(crate) fn number_entries(
+    alloc: Global,
+    types: &[PortableType],
+    roots: &[u32],
+) -> Result<Renumbering, RetainError>
+    ensures numbering { IfOk result (λ n.
+        IsNumbering (types_system types.now) roots.now n.order.items) }
+    ensures numbers { IfOk result (λ n. AreNumbers n.order.items n.numbers.items) }
+    ensures count { IfOk result (λ n. length n.numbers.items ≡ length types.now) }
+    ensures few { IfOk result (λ n. length types.now ≤ 4294967295) }
+    ensures steps { IfOk result (λ n. n.steps ≡ looks (types_system types.now) n.order.items) }
+    ensures cause { IfErr result
+        (IsCause (types_system types.now) (length types.now) [] roots.now) }
+{
+    number_references(alloc, &TypeReferences { types }, roots)
 }
 
 /// Numbers what the roots reach, as [`number`] does, over anything that has references, and returns

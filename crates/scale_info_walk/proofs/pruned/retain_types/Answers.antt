@@ -1,5 +1,5 @@
 use Rattle.std.proofs.Common.{arith, Bool, [], ◌≢◌, ◌↔◌, slice_get, ◌≡◌, ℕ, List, Some, length, subst, get_or}
-use Rattle.std.proofs.Common.{ap, sym, ◌∙◌}
+use Rattle.std.proofs.Common.{ap}
 use Rattle.std.proofs.lemmas.List.Elements.{Contains-get_or}
 use Rattle.std.proofs.lemmas.Result.{err_from_is_err_and}
 use Rattle.scale_info_walk.proofs.Visiting.{numbers_long, numbers_within}
@@ -47,18 +47,17 @@ returns-in_err-found-clause-cause g c =
     (chosen_of _ c.args.filter c.len-2.result (length c.args.types.now) c.in_ok-chosen.chosen.items chosen.0 c.len-2.ensures chosen.1)
     c.deref.ensures.value cause)
 
-pub kept_entries-requires-clause-within : goal.kept_entries-requires-clause-within
-kept_entries-requires-clause-within g c k d h =
+pub keep_entries-requires-clause-within : goal.keep_entries-requires-clause-within
+keep_entries-requires-clause-within g c k d h =
     let order = c.in_ok-found.found.order.items in
     let same : c.deref-3.result.now ≡ order = c.deref-3.ensures.value in
     let count = c.in_ok-found.ensures.count in
     let slice : length c.as_slice.result.now ≡ length c.args.types.now = ap length c.as_slice.ensures in
-    let vec : length c.into_vec-old.result.items ≡ length c.args.types.now = ap length (c.into_vec-old.ensures ∙ c.replace.ensures.value) in
     let inside = numbers_within order c.in_ok-found.found.numbers.items c.in_ok-found.ensures.numbers (get_or order k d) (Contains-get_or order k d (rw same at h)) in
     rw same (omega arith)
 
-pub kept_entries-requires-clause-few : goal.kept_entries-requires-clause-few
-kept_entries-requires-clause-few g c =
+pub keep_entries-requires-clause-few : goal.keep_entries-requires-clause-few
+keep_entries-requires-clause-few g c =
     let order = c.in_ok-found.found.order.items in
     let same : c.deref-3.result.now ≡ order = c.deref-3.ensures.value in
     let count = c.in_ok-found.ensures.count in
@@ -69,6 +68,7 @@ kept_entries-requires-clause-few g c =
 pub returns-clause-ok : goal.returns-clause-ok
 returns-clause-ok g c =
     let types = c.args.types.now in
+    let now = c.keep_entries.new.types in
     let chosen = c.in_ok-chosen.ensures in
     let order = c.in_ok-found.found.order.items in
     let numbers = c.in_ok-found.found.numbers.items in
@@ -80,18 +80,14 @@ returns-clause-ok g c =
     subst (λ (ts : List PortableType). IsNumbering (types_system ts) c.deref.result.now order) c.as_slice.ensures c.in_ok-found.ensures.numbering in
     let numbering : IsNumbering (types_system types) c.in_ok-chosen.chosen.items order =
     subst (λ (rs : List ℕ). IsNumbering (types_system types) rs order) c.deref.ensures.value walked in
-    let moved : AreKept types c.deref-3.result.now (number_of c.deref-4.result.now) c.from.result =
-    subst (λ (ks : List PortableType). AreKept types c.deref-3.result.now (number_of c.deref-4.result.now) ks) (sym c.from.ensures)
-    (subst (λ (ts : List PortableType). AreKept ts c.deref-3.result.now (number_of c.deref-4.result.now) c.kept_entries.result.items)
-    (c.into_vec-old.ensures ∙ c.replace.ensures.value) c.kept_entries.ensures) in
-    let kept : AreKept types order (number_of numbers) c.from.result =
-    subst (λ (ns : List ℕ). AreKept types order (number_of ns) c.from.result) c.deref-4.ensures.value
-    (subst (λ (os : List ℕ). AreKept types os (number_of c.deref-4.result.now) c.from.result) c.deref-3.ensures.value moved) in
+    let kept : AreKept types order (number_of numbers) now =
+    subst (λ (ns : List ℕ). AreKept types order (number_of ns) now) c.deref-4.ensures.value
+    (subst (λ (os : List ℕ). AreKept types os (number_of c.deref-4.result.now) now) c.deref-3.ensures.value c.in_ok-keep_entries.ensures.ok) in
     let ids = subst (λ (ns : List ℕ). (old new : ℕ) → (get nat_cmp c.in_ok-new_ids.new_ids old ≡ Some new)
     ↔ ((slice_get ns old ≡ Some new) × (new ≢ 4294967295))) c.deref-2.ensures.value c.in_ok-new_ids.ensures in (
       c.in_ok-chosen.chosen.items,
       chosen.0,
       chosen_of _ c.args.filter c.len-2.result (length types) c.in_ok-chosen.chosen.items chosen.0 c.len-2.ensures chosen.1,
-      is_pruned types c.in_ok-chosen.chosen.items order numbers (number_of numbers) c.from.result numbering dense (numbers_agree numbers) kept
+      is_pruned types c.in_ok-chosen.chosen.items order numbers (number_of numbers) now numbering dense (numbers_agree numbers) kept
           c.in_ok-new_ids.new_ids (omega arith) ids,
     )
