@@ -9,9 +9,9 @@ use Rattle.scale_info_identities.specs.TypeIds.{Term}
 use Rattle.scale_info_numberings.specs.Numberings.{IsNumbering}
 use Rattle.scale_info_numberings.specs.Systems.{System}
 use Rattle.scale_info_numberings.specs.Tables.{ArePlaces, IsTable}
-use Rattle.scale_info_registry.specs.Registrations.{IsCause}
-use Rattle.scale_info_registry.specs.declared.registry.discovery.RegisterError.{RegisterError}
-use Rattle.scale_info_registry.specs.declared.registry.discovery.RegisterError.TheVariants as register
+use Rattle.scale_info_discovery.specs.Discoveries.{IsCause}
+use Rattle.scale_info_discovery.specs.declared.discovery.RegisterError.{RegisterError}
+use Rattle.scale_info_discovery.specs.declared.discovery.RegisterError.TheVariants as register
 use Rattle.scale_info_tables.specs.TableEncoding.{EncodesRegistry}
 use Rattle.scale_info_tables.specs.declared.portable.PortableRegistry.{PortableRegistry}
 use Rattle.scale_info_types.specs.Shapes.{Shape}

@@ -5,10 +5,11 @@ ghost use Rattle.scale_info_identities.specs.TypeIds.{Term};
 ghost use Rattle.scale_info_numberings.specs.Numberings.{IsNumbering};
 ghost use Rattle.scale_info_numberings.specs.Systems.{IsReached};
 ghost use Rattle.scale_info_numberings.specs.Tables.{IsTable};
-ghost use Rattle.scale_info_registry.specs.CatalogueSystems.{catalogue_system};
+ghost use Rattle.scale_info_discovery.specs.CatalogueSystems.{catalogue_system};
 ghost use Rattle.scale_info_tables.specs.TableEncoding.{EncodesRegistry};
 ghost use Rattle.scale_info_walk.specs.TypeSystems.{entry_of};
-ghost use Rattle.scale_info_registry.specs.Registrations.{roots_of, step_roots};
+ghost use Rattle.scale_info_discovery.specs.Discoveries.{roots_of};
+ghost use Rattle.scale_info_registry.specs.Registrations.{step_roots};
 ghost use Rattle.scale_info_types.specs.MetaDescriptions.{type_term};
 ghost use Rattle.std.specs.Prelude.{◌≡◌, ◌↔◌, ◌++◌, ◌∷◌, Contains, IfOk, List, map, ℕ};
 

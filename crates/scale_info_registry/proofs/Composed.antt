@@ -23,13 +23,15 @@ use Rattle.scale_info_numberings.proofs.Reached.{extension_holds}
 use Rattle.scale_info_numberings.proofs.Zip.{zip_weaker}
 use Rattle.scale_info_numberings.proofs.Places.{at_left, begins_at, begins_from}
 use Rattle.scale_info_numberings.proofs.PlacesOf.{places_in_more}
-use Rattle.scale_info_registry.specs.declared.registry.discovery.RegisterError.{RegisterError}
-use Rattle.scale_info_registry.specs.declared.registry.discovery.RegisterError.TheVariants.{Undescribed, Full, Memory}
+use Rattle.scale_info_discovery.specs.declared.discovery.RegisterError.{RegisterError}
+use Rattle.scale_info_discovery.specs.declared.discovery.RegisterError.TheVariants.{Undescribed, Full, Memory}
 use Rattle.scale_info_references.specs.Conversions.{ids_in}
-use Rattle.scale_info_registry.specs.Registrations.{nodes_of, portable_entry, Registered, registered}
-use Rattle.scale_info_registry.specs.Registrations.{IsRegistration, IsConverted, IsCause}
+use Rattle.scale_info_discovery.specs.Discoveries.{nodes_of}
+use Rattle.scale_info_registry.specs.Registrations.{portable_entry, Registered, registered}
+use Rattle.scale_info_discovery.specs.Discoveries.{IsCause}
+use Rattle.scale_info_registry.specs.Registrations.{IsRegistration, IsConverted}
 use Rattle.scale_info_types.specs.MetaDescriptions.{type_term}
-use Rattle.scale_info_registry.proofs.Registered.{length_nodes}
+use Rattle.scale_info_discovery.proofs.Terms.{length_nodes}
 
 joined_more :
     {A : Type 0} (xs ys zs : List A) → (more : List A) × (ys ≡ xs ++ more) → (more : List A) × (zs ≡ ys ++ more)

@@ -1,8 +1,5 @@
 mod Composed
-mod Discovered
 pub mod Enumerated
 mod Numbered
 mod Registered
 mod Steps
-mod Terms
-mod CatalogueWeights

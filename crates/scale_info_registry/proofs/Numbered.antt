@@ -1,6 +1,6 @@
 -- The place of an identity.
-use Rattle.std.proofs.Common.{◌≡◌, ℕ, zero, suc, Bool, true, false, cond, List, [], ◌∷◌, length, Some}
-use Rattle.std.proofs.Common.{slice_get, map, refl, ap, sym, ◌∙◌, subst}
+use Rattle.std.proofs.Common.{◌≡◌, ℕ, zero, suc, Bool, true, false, cond, List, [], ◌∷◌, length}
+use Rattle.std.proofs.Common.{refl, ap, sym, ◌∙◌, subst}
 use Rattle.std.proofs.lemmas.Bool.{false≢true}
 use Rattle.std.proofs.lemmas.Option.{same_Some, none-some}
 use Rattle.scale_info_identities.specs.Interned.{IsIndexOf, IsKnown}
@@ -10,7 +10,7 @@ use Rattle.scale_info_identities.specs.TypeIds.{term_of}
 use Rattle.scale_info_identities.specs.TypeIdLaws.{same_type_ids}
 use Rattle.scale_info_identities.specs.Interned as interned
 use Rattle.scale_info_registry.specs.Registrations.{index_in}
-use Rattle.scale_info_registry.proofs.Terms.{known_by_term}
+use Rattle.scale_info_discovery.proofs.Terms.{at_node, known_by_term}
 
 -- by cases on the first identity
 indexed :
@@ -50,10 +50,3 @@ one_number ids id i distinct p =
     let same : term_of p.0 ≡ term_of q.0 =
     same_Some (term_of p.0) (term_of q.0) (sym (at_node ids i p.0 p.1) ∙ ((known_by_term ids id i).0 p ∙ (sym ((known_by_term ids id (index_in equals.eq ids id)).0 q) ∙ at_node ids _ q.0 q.1))) in
     distinct i (index_in equals.eq ids id) p.0 q.0 p.1 q.1 ((same_type_ids p.0 q.0).1 same)
-  where
-    at_node :
-        (ids : List TypeId) (i : ℕ) (x : TypeId) → slice_get ids i ≡ Some x
-        → slice_get (map term_of ids) i ≡ Some (term_of x)
-    at_node [] i x e = absurd (none-some x e)
-    at_node (y ∷ ids) zero x e = ap Some (ap term_of (same_Some y x e))
-    at_node (y ∷ ids) (suc i) x e = at_node ids i x e

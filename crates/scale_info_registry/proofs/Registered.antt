@@ -2,6 +2,9 @@
 use Rattle.std.proofs.Common.{take, ◌≡◌, ℕ, zero, suc, ◌+◌, ◌<◌, ◌≤◌, List, [], ◌∷◌, ◌++◌, length, Option}
 use Rattle.std.proofs.Common.{Some, None, option_map, slice_get, map, refl, ap, sym, ◌∙◌, subst, arith}
 use Rattle.std.proofs.Common.{Contains, inl, inr, length-append, Bor}
+use Rattle.std.specs.declared.result.Result.{Result}
+use Rattle.std.specs.declared.result.Result.TheVariants.{Ok, Err}
+use Rattle.std.specs.Result.{OnErr}
 use Rattle.std.proofs.lemmas.Bool.{cases_lt}
 use Rattle.std.proofs.lemmas.List.{length_push}
 use Rattle.std.proofs.lemmas.Option.{same_Some, none-some, slice_get_within}
@@ -10,12 +13,10 @@ use Rattle.scale_info_identities.specs.Interned as interned
 use Rattle.scale_info_types.specs.References.{references}
 use Rattle.scale_info_types.specs.Shapes.{Shape}
 use Rattle.scale_info_identities.specs.TypeIds.{Term, term_of}
-use Rattle.scale_info_identities.specs.TypeIdLaws.{same_type_ids}
 use Rattle.scale_info_types.specs.declared.meta_type.MetaType.{MetaType}
 use Rattle.scale_info_identities.specs.declared.type_id.TypeId.{TypeId}
 use Rattle.scale_info_identities.specs.contracts.type_id.TypeIdPartialEq.TheImpl.{ghosts as equals}
 use Rattle.scale_info_numberings.specs.Systems.{Entry, System}
-use Rattle.scale_info_numberings.specs.Numberings.{AreDistinct}
 use Rattle.scale_info_numberings.specs.Extensions.{IsExtension}
 use Rattle.scale_info_numberings.specs.Tables.{ArePlaces}
 use Rattle.scale_info_numberings.proofs.Places.{contains_at, contains_head, contains_tail, from_left, at_left, at_seam}
@@ -26,41 +27,14 @@ use Rattle.scale_info_numberings.proofs.Walking.{walk_members}
 use Rattle.scale_info_catalogue.specs.declared.catalogue.Catalogue.{Catalogue}
 use Rattle.scale_info_types.specs.MetaDescriptions.{MetaDescription, type_term}
 use Rattle.scale_info_catalogue.specs.Catalogues.{described}
-use Rattle.scale_info_registry.specs.CatalogueSystems.{catalogue_entry, catalogue_system}
-use Rattle.scale_info_registry.specs.Registrations.{nodes_of, roots_of, index_in, Registered}
+use Rattle.scale_info_discovery.specs.CatalogueSystems.{catalogue_entry, catalogue_system}
+use Rattle.scale_info_discovery.specs.Discoveries.{nodes_of, roots_of}
+use Rattle.scale_info_registry.specs.Registrations.{index_in, Registered}
 use Rattle.scale_info_registry.specs.Registrations.{registered, IsClosedRegistry, IsRegistration, AreDescribed, Keeps}
 use Rattle.scale_info_references.specs.Conversions.{ids_in, with_ids}
 use Rattle.scale_info_registry.proofs.Numbered.{index_is}
 use Rattle.scale_info_references.proofs.Replaced.{shape_stays, ids_replaced}
-use Rattle.scale_info_registry.proofs.Terms.{known_by_term, known}
-
--- the term of an identity has the index that the identity has
-pub at_node :
-    (ids : List TypeId) (i : ℕ) (id : TypeId) → slice_get ids i ≡ Some id
-    → slice_get (nodes_of ids) i ≡ Some (term_of id)
-at_node [] i id e = absurd (none-some id e)
-at_node (x ∷ ids) zero id e = ap Some (ap term_of (same_Some x id e))
-at_node (x ∷ ids) (suc i) id e = at_node ids i id e
-
--- each term is that of the identity at its index
-pub from_node :
-    (ids : List TypeId) (i : ℕ) (n : Term) → slice_get (nodes_of ids) i ≡ Some n
-    → (id : TypeId) × (slice_get ids i ≡ Some id) × (term_of id ≡ n)
-from_node [] i n e = absurd (none-some n e)
-from_node (x ∷ ids) zero n e = (x, refl, same_Some (term_of x) n e)
-from_node (x ∷ ids) (suc i) n e = from_node ids i n e
-
--- there are as many terms as identities
-pub length_nodes : (ids : List TypeId) → length (nodes_of ids) ≡ length ids
-length_nodes [] = refl
-length_nodes (x ∷ ids) = let r = length_nodes ids in omega arith
-
--- distinct identities have distinct terms
-pub distinct_nodes : (ids : List TypeId) → interned.AreDistinctBy equals.eq ids → AreDistinct (nodes_of ids)
-distinct_nodes ids distinct i j n e h =
-    let a = from_node ids i n e in
-    let b = from_node ids j n h in
-    distinct i j a.0 b.0 a.1 b.1 ((same_type_ids a.0 b.0).1 (a.2 ∙ sym b.2))
+use Rattle.scale_info_discovery.proofs.Terms.{at_node, distinct_nodes, from_node, known, known_by_term, length_nodes}
 
 some_inside : {A B : Type 0} (f : A → B) (o : Option A) (b : B) → option_map f o ≡ Some b → (a : A) × (o ≡ Some a)
 some_inside f None b e = absurd (none-some b e)
@@ -177,14 +151,31 @@ cut_back old new cut k m l e = e ∙ (λ i. take (l i) (m.1 i)) ∙ take_at old 
     take_at [] ys = refl
     take_at (x ∷ xs) ys = ap (λ zs. x ∷ zs) (take_at xs ys)
 
--- a closed registry that has grown is closed once it is cut back to its old length
-pub cut_closed :
-    (ids new_ids cut_ids : List TypeId) (types new_types cut_types : List portable.Description) (k : ℕ) → k ≡ length types → IsClosedRegistry (registered ids types)
-    → (more : List TypeId) × (new_ids ≡ ids ++ more) → (more : List portable.Description) × (new_types ≡ types ++ more)
-    → cut_ids ≡ take k new_ids → cut_types ≡ take k new_types → IsClosedRegistry (registered cut_ids cut_types)
-cut_closed ids new_ids cut_ids types new_types cut_types k l closed m n e f =
-    subst (λ r. IsClosedRegistry r)
-    (λ i. registered (sym (cut_back ids new_ids cut_ids k m (l ∙ closed.0) e) i) (sym (cut_back types new_types cut_types k n l f) i)) closed
+module _ (ids new_ids cut_ids : List TypeId) (types new_types cut_types : List portable.Description) (k : ℕ) (long : k ≡ length types)
+    (closed : IsClosedRegistry (registered ids types)) (kept_ids : cut_ids ≡ take k new_ids) (kept_types : cut_types ≡ take k new_types) where
+  -- a registry that has grown is what it was once it is cut back to its old length
+  pub cut_parts :
+      (more : List TypeId) × (new_ids ≡ ids ++ more) → (more : List portable.Description) × (new_types ≡ types ++ more)
+      → registered cut_ids cut_types ≡ registered ids types
+  cut_parts m n i = registered (cut_back ids new_ids cut_ids k m (long ∙ closed.0) kept_ids i) (cut_back types new_types cut_types k n long kept_types i)
+
+  -- so it is closed, if it was
+  pub cut_closed :
+      (more : List TypeId) × (new_ids ≡ ids ++ more) → (more : List portable.Description) × (new_types ≡ types ++ more)
+      → IsClosedRegistry (registered cut_ids cut_types)
+  cut_closed m n = subst (λ r. IsClosedRegistry r) (sym (cut_parts m n)) closed
+
+  module _ (old new : Registered) (before : registered ids types ≡ old) (after : registered new_ids new_types ≡ new) (kept : Keeps old new) where
+    grown : Keeps (registered ids types) (registered new_ids new_types)
+    grown = subst (λ r. Keeps r (registered new_ids new_types)) (sym before) (subst (λ s. Keeps old s) (sym after) kept)
+
+    -- the same, where registries are targets as values
+    pub cut_same : registered cut_ids cut_types ≡ old
+    cut_same = cut_parts grown.0 grown.1 ∙ before
+
+    -- it is closed, if it was
+    pub cut_kept : IsClosedRegistry (registered cut_ids cut_types)
+    cut_kept = cut_closed grown.0 grown.1
 
 -- a known node changes nothing
 pub registers_known :
@@ -225,16 +216,6 @@ registers_nothing S r distinct =
       entries = λ i n h e. absurd (let w = slice_get_within (nodes_of r.identities) i n e in let l = length_nodes r.identities in omega arith);
     }
 
--- the same, where registries are targets as values
-pub cut_kept :
-    (old new : Registered) (ids new_ids cut_ids : List TypeId) (types new_types cut_types : List portable.Description) (k : ℕ)
-    → registered ids types ≡ old → registered new_ids new_types ≡ new → Keeps old new → k ≡ length types
-    → IsClosedRegistry (registered ids types)
-    → cut_ids ≡ take k new_ids → cut_types ≡ take k new_types → IsClosedRegistry (registered cut_ids cut_types)
-cut_kept old new ids new_ids cut_ids types new_types cut_types k a b kept l closed e f =
-    let same : Keeps (registered ids types) (registered new_ids new_types) = subst (λ r. Keeps r (registered new_ids new_types)) (sym a) (subst (λ s. Keeps old s) (sym b) kept) in
-    cut_closed ids new_ids cut_ids types new_types cut_types k l closed same.0 same.1 e f
-
 -- the ids of what has been registered are its places
 pub root_indices :
     (S : System Shape Term) (old new : Registered) (rs : List MetaType) → IsRegistration S old (roots_of rs) new
@@ -255,13 +236,7 @@ pub keeps_itself : (old new : Registered) → new ≡ old → Keeps old new
 keeps_itself old new e =
     subst (λ r. Keeps old r) (sym e) (([], sym (append-nil old.identities)), ([], sym (append-nil old.types)))
 
--- what is cut back keeps what was there
-pub cut_keeps :
-    (old new : Registered) (ids new_ids cut_ids : List TypeId) (types new_types cut_types : List portable.Description) (k : ℕ)
-    → registered ids types ≡ old → registered new_ids new_types ≡ new → Keeps old new → k ≡ length types
-    → IsClosedRegistry (registered ids types)
-    → cut_ids ≡ take k new_ids → cut_types ≡ take k new_types → Keeps old (registered cut_ids cut_types)
-cut_keeps old new ids new_ids cut_ids types new_types cut_types k a b kept l closed e f =
-    let same : Keeps (registered ids types) (registered new_ids new_types) = subst (λ r. Keeps r (registered new_ids new_types)) (sym a) (subst (λ s. Keeps old s) (sym b) kept) in
-    keeps_itself old (registered cut_ids cut_types)
-    ((λ i. registered (cut_back ids new_ids cut_ids k same.0 (l ∙ closed.0) e i) (cut_back types new_types cut_types k same.1 l f i)) ∙ a)
+-- what holds anyway holds on an error
+pub on_err : {T E P : Type 0} (r : Result T E) → P → OnErr r P
+on_err (Ok x) p = tt
+on_err (Err e) p = p

@@ -1,4 +1,3 @@
-pub mod CatalogueSystems
 pub mod Parts
 pub mod Registrations
 pub mod RegistryLaws

@@ -1,52 +1,21 @@
--- Registrations: what a registry holds after one, and why one may fail.
-use Rattle.std.specs.Prelude.{◌≡◌, ℕ, ◌<◌, ◌≤◌, ◌++◌, ◌∷◌, [], suc, Bool, cond, List, None, Some}
-use Rattle.std.specs.Prelude.{slice_get, map, length, reverse, All, Contains, ◌⊎◌, ⊤}
-use Rattle.std.specs.Borrow.{Bor}
+-- Registrations: what a registry holds after one.
+use Rattle.std.specs.Prelude.{◌≡◌, ℕ, ◌<◌, ◌≤◌, ◌++◌, ◌∷◌, [], suc, Bool, cond, List, Some}
+use Rattle.std.specs.Prelude.{slice_get, map, length, Contains, ⊤}
 use Rattle.std.specs.List.{flat_map}
 use Rattle.scale_info_identities.specs.TypeIds.{Term, term_of}
 use Rattle.scale_info_identities.specs.contracts.type_id.TypeIdPartialEq.TheImpl.{ghosts as equals}
 use Rattle.scale_info_identities.specs.declared.type_id.TypeId.{TypeId}
 use Rattle.scale_info_numberings.specs.Extensions.{IsExtension}
-use Rattle.scale_info_numberings.specs.Numberings.{AreDistinct}
-use Rattle.scale_info_numberings.specs.Systems.{Entry, Grows, System, IsReachedPast}
+use Rattle.scale_info_numberings.specs.Systems.{Entry, Grows, System}
 use Rattle.scale_info_numberings.specs.Tables.{ArePlaces}
 use Rattle.scale_info_references.specs.Conversions.{with_ids, ids_in}
 use Rattle.scale_info_types.specs.Portable as portable
 use Rattle.scale_info_types.specs.Shapes.{Shape, shape}
 use Rattle.scale_info_types.specs.declared.meta_type.MetaType.{MetaType}
 use Rattle.scale_info_catalogue.specs.Catalogues.{described}
-use Rattle.scale_info_types.specs.MetaDescriptions.{MetaDescription, type_term}
+use Rattle.scale_info_types.specs.MetaDescriptions.{MetaDescription}
 use Rattle.scale_info_catalogue.specs.declared.catalogue.Catalogue.{Catalogue}
-use Rattle.scale_info_registry.specs.declared.registry.discovery.RegisterError.{RegisterError}
-use Rattle.scale_info_registry.specs.declared.registry.discovery.RegisterError.TheVariants.{
-  Undescribed,
-  Full,
-  Memory,
-}
-
--- the terms of identities, in order
-abbrev pub nodes_of : List TypeId → List Term
-nodes_of ids = map term_of ids
-
--- the terms of types, in order
-abbrev pub roots_of : List MetaType → List Term
-roots_of types = map type_term types
-
--- the terms of the types on a stack, from its top down
-abbrev pub stacked : List (Bor MetaType) → List Term
-stacked pending = map (λ r. type_term r.now) (reverse pending)
-
--- Why a registration of the roots may fail, where these terms are known. `Memory`: any allocation
--- may fail. `Undescribed`: a term that is reached past the known ones has no description. `Full`:
--- the known terms and those reached past them are more than 4294967295.
-abbrev pub IsCause : System Shape Term → List Term → List Term → RegisterError → Type 0
-IsCause S known roots Memory = ⊤
-IsCause S known roots (Undescribed id) =
-    IsReachedPast S known roots (term_of id) × (S (term_of id) ≡ None)
-IsCause S known roots Full =
-    (all : List Term) × AreDistinct all
-    × All (λ n. Contains known n ⊎ IsReachedPast S known roots n) all
-    × (4294967295 < length all)
+use Rattle.scale_info_discovery.specs.Discoveries.{nodes_of}
 
 -- the index of the first identity that equals this one; the number of identities, if none does
 abbrev pub index_in : (TypeId → TypeId → Bool) → List TypeId → TypeId → ℕ

@@ -21,6 +21,7 @@ ghost use Rattle.std.specs.Prelude.{
   length,
   map,
   slice_get,
+  take,
 };
 ghost use Rattle.scale_info_identities.specs.Interned.{AreDistinctBy};
 ghost use Rattle.scale_info_identities.specs.TypeIds.{term_of};
@@ -30,14 +31,11 @@ ghost use Rattle.scale_info_numberings.specs.Tables.{ArePlaces};
 ghost use Rattle.scale_info_types.specs.Iterators.{GivesAll};
 ghost use Rattle.scale_info_types.specs.Portable as portable;
 ghost use Rattle.scale_info_types.specs.declared.meta_type.MetaType.{MetaType};
-ghost use Rattle.scale_info_registry.specs.CatalogueSystems.{catalogue_system};
+ghost use Rattle.scale_info_discovery.specs.CatalogueSystems.{catalogue_system};
 ghost use Rattle.scale_info_catalogue.specs.Catalogues.{described};
 ghost use Rattle.scale_info_types.specs.MetaDescriptions.{MetaDescription, type_term};
+ghost use Rattle.scale_info_discovery.specs.Discoveries.{nodes_of, roots_of, stacked, IsCause};
 ghost use Rattle.scale_info_registry.specs.Registrations.{
-  nodes_of,
-  roots_of,
-  stacked,
-  IsCause,
   Registered,
   registered,
   IsClosedRegistry,
@@ -47,13 +45,13 @@ ghost use Rattle.scale_info_registry.specs.Registrations.{
   Keeps,
   IsConverted,
 };
-ghost use Rattle.scale_info_registry.specs.declared.registry.discovery.RegisterError.TheVariants.{
+ghost use Rattle.scale_info_discovery.specs.declared.discovery.RegisterError.TheVariants.{
   Memory,
 };
 
 use conversion::{HasTypes, Identities, alone};
-use discovery::{discover, stack_up};
 use scale_info_catalogue::catalogue::Catalogue;
+use scale_info_discovery::discovery::{discover, stack_up};
 use scale_info_identities::interner::{Interner, UntrackedSymbol};
 use scale_info_identities::type_id::TypeId;
 use scale_info_references::conversion::{Numbers, convert};
@@ -64,14 +62,13 @@ use std::alloc::{AllocError, Global};
 use std::marker::Model;
 
 mod conversion;
-mod discovery;
 mod equality;
 mod into_portable;
 mod registry_types;
 
-pub use discovery::RegisterError;
 pub use into_portable::IntoPortable;
 pub use registry_types::RegistryTypes;
+pub use scale_info_discovery::discovery::RegisterError;
 
 /// A table of descriptions in the making: each type of the program that was registered has an id
 /// and a portable description.
@@ -213,8 +210,7 @@ impl Registry {
         let given = Vec::from_iter(alloc, items)?;
         let done = self.convert_all(alloc, given, catalogue);
         if done.is_err() {
-            self.identities.truncate(known);
-            self.types.truncate(known);
+            cut_back(&mut self.identities, &mut self.types, known);
         }
         done
     }
@@ -265,8 +261,7 @@ impl Registry {
         match value.with_ids(alloc, &ids) {
             Ok(output) => Ok(output),
             Err(_) => {
-                self.identities.truncate(known);
-                self.types.truncate(known);
+                cut_back(&mut self.identities, &mut self.types, known);
                 Err(RegisterError::Memory)
             }
         }
@@ -321,8 +316,7 @@ impl Registry {
             catalogue,
         );
         if done.is_err() {
-            self.identities.truncate(known);
-            self.types.truncate(known);
+            cut_back(&mut self.identities, &mut self.types, known);
         }
         done
     }
@@ -347,10 +341,18 @@ fn register_in<'a>(
     ensures cause { IfErr result (IsCause (catalogue_system catalogue.now)
         (nodes_of identities.old) (stacked pending.entry.items)) }
 {
-    let _distinct = identities.elements();
     discover(alloc, identities, pending, catalogue)?;
     describe(alloc, identities, types, catalogue)?;
     Ok(())
+}
+
+/// Cuts both lists back to their first so many entries.
+fn cut_back(identities: &mut Interner<TypeId>, types: &mut Vec<Type<PortableForm>>, known: usize)
+    ensures identities { identities.new ≡ take known identities.old }
+    ensures types { types.new.items ≡ take known types.old.items }
+{
+    identities.truncate(known);
+    types.truncate(known);
 }
 
 /// Describes the identities that have no description yet, in order.

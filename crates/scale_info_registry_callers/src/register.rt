@@ -2,8 +2,8 @@
 ghost use Rattle.scale_info_identities.specs.TypeIds.{Term};
 ghost use Rattle.scale_info_numberings.specs.Numberings.{IsNumbering};
 ghost use Rattle.scale_info_numberings.specs.Tables.{IsTable};
-ghost use Rattle.scale_info_registry.specs.CatalogueSystems.{catalogue_system};
-ghost use Rattle.scale_info_registry.specs.Registrations.{roots_of};
+ghost use Rattle.scale_info_discovery.specs.CatalogueSystems.{catalogue_system};
+ghost use Rattle.scale_info_discovery.specs.Discoveries.{roots_of};
 ghost use Rattle.scale_info_walk.specs.TypeSystems.{entry_of};
 ghost use Rattle.std.specs.Prelude.{◌++◌, List, IfOk, map};
 

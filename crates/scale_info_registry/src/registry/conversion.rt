@@ -22,7 +22,8 @@ ghost use Rattle.scale_info_registry.specs.Parts.{
   variant_types,
   variant_with_ids,
 };
-ghost use Rattle.scale_info_registry.specs.Registrations.{index_in, stacked};
+ghost use Rattle.scale_info_discovery.specs.Discoveries.{stacked};
+ghost use Rattle.scale_info_registry.specs.Registrations.{index_in};
 
 use scale_info_collections::items::Items;
 use scale_info_collections::text::Text;

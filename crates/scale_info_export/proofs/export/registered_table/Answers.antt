@@ -4,9 +4,10 @@ use Rattle.scale_info_identities.specs.TypeIds.{Term}
 use Rattle.scale_info_types.proofs.Iterators.{drained}
 use Rattle.scale_info_types.specs.Portable.{Id}
 use Rattle.scale_info_numberings.specs.Tables.{ArePlaces}
-use Rattle.scale_info_registry.specs.CatalogueSystems.{catalogue_system}
-use Rattle.scale_info_registry.specs.Registrations.{IsCause, IsRegistration, nodes_of, registered, roots_of}
-use Rattle.scale_info_registry.specs.declared.registry.discovery.RegisterError.TheVariants as register
+use Rattle.scale_info_discovery.specs.CatalogueSystems.{catalogue_system}
+use Rattle.scale_info_discovery.specs.Discoveries.{IsCause, nodes_of, roots_of}
+use Rattle.scale_info_registry.specs.Registrations.{IsRegistration, registered}
+use Rattle.scale_info_discovery.specs.declared.discovery.RegisterError.TheVariants as register
 use Rattle.scale_info_export.proofs.Exported.{register_error}
 use Rattle.scale_info_export.proofs.export.registered_table.Goals as goal
 

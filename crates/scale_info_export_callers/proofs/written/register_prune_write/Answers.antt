@@ -4,8 +4,9 @@ use Rattle.std.proofs.lemmas.List.{map-append, take_all, take_more}
 use Rattle.scale_info_export.specs.Headline.{AreAccepted, History, IsTableOf, IsWritten, Pruning}
 use Rattle.scale_info_export.specs.Headline.{registry_of}
 use Rattle.scale_info_identities.specs.TypeIds.{Term}
-use Rattle.scale_info_registry.specs.CatalogueSystems.{catalogue_system}
-use Rattle.scale_info_registry.specs.Registrations.{IsRegistration, registered, roots_of, step_roots}
+use Rattle.scale_info_discovery.specs.CatalogueSystems.{catalogue_system}
+use Rattle.scale_info_discovery.specs.Discoveries.{roots_of}
+use Rattle.scale_info_registry.specs.Registrations.{IsRegistration, registered, step_roots}
 use Rattle.scale_info_tables.proofs.Interned.{length_numbered}
 use Rattle.scale_info_types.specs.MetaDescriptions.{type_term}
 use Rattle.scale_info_export_callers.proofs.written.register_prune_write.Goals as goal

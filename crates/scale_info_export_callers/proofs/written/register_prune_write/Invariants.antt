@@ -1,6 +1,7 @@
 use Rattle.std.proofs.Common.{[], ◌∷◌, take}
-use Rattle.scale_info_registry.specs.CatalogueSystems.{catalogue_system}
-use Rattle.scale_info_registry.specs.Registrations.{IsRegistration, registered, roots_of}
+use Rattle.scale_info_discovery.specs.CatalogueSystems.{catalogue_system}
+use Rattle.scale_info_discovery.specs.Discoveries.{roots_of}
+use Rattle.scale_info_registry.specs.Registrations.{IsRegistration, registered}
 use Rattle.scale_info_types.specs.MetaDescriptions.{type_term}
 use Rattle.scale_info_export_callers.proofs.written.register_prune_write.Given as goal
 

@@ -1,9 +1,6 @@
-use Rattle.scale_info_registry.specs.Registrations.{stacked}
-use Rattle.scale_info_registry.proofs.Registered.{distinct_nodes, all_described, is_registration}
+use Rattle.scale_info_discovery.specs.Discoveries.{stacked}
+use Rattle.scale_info_registry.proofs.Registered.{all_described, is_registration}
 use Rattle.scale_info_registry.proofs.registry.register_in.Goals as goal
-
-pub discover-requires : goal.discover-requires
-discover-requires c = record { distinct = distinct_nodes c.args.identities.now c.elements-distinct.ensures.distinct }
 
 pub describe-requires-clause-all_described : goal.describe-requires-clause-all_described
 describe-requires-clause-all_described c =

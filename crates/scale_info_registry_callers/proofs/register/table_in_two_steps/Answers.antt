@@ -2,8 +2,9 @@ use Rattle.std.proofs.Common.{◌≡◌, [], inl, inr, rules, subst}
 use Rattle.std.proofs.lemmas.Bool.{cases_Bool}
 use Rattle.scale_info_numberings.specs.Systems.{Grows}
 use Rattle.scale_info_types.proofs.Iterators.{drained}
-use Rattle.scale_info_registry.specs.CatalogueSystems.{catalogue_system}
-use Rattle.scale_info_registry.specs.Registrations.{IsRegistration, nodes_of, registered, roots_of}
+use Rattle.scale_info_discovery.specs.CatalogueSystems.{catalogue_system}
+use Rattle.scale_info_discovery.specs.Discoveries.{nodes_of, roots_of}
+use Rattle.scale_info_registry.specs.Registrations.{IsRegistration, registered}
 use Rattle.scale_info_registry_callers.proofs.register.table_in_two_steps.Goals as goal
 
 pub returns : goal.returns

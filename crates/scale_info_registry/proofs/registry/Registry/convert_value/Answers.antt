@@ -2,11 +2,12 @@ use Rattle.std.proofs.Common.{rules, refl, subst, sym, map, ℕ}
 use Rattle.std.proofs.lemmas.Result.{err_from_is_err_and}
 use Rattle.scale_info_numberings.specs.Tables.{ArePlaces}
 use Rattle.scale_info_identities.specs.contracts.type_id.TypeIdPartialEq.TheImpl.{ghosts as equals}
-use Rattle.scale_info_registry.specs.CatalogueSystems.{catalogue_system}
-use Rattle.scale_info_registry.specs.Registrations.{nodes_of, roots_of, stacked, index_in, IsCause, IsRegistration}
+use Rattle.scale_info_discovery.specs.CatalogueSystems.{catalogue_system}
+use Rattle.scale_info_discovery.specs.Discoveries.{nodes_of, roots_of, stacked, IsCause}
+use Rattle.scale_info_registry.specs.Registrations.{index_in, registered, IsRegistration}
 use Rattle.scale_info_types.specs.declared.meta_type.MetaType.{MetaType}
-use Rattle.scale_info_registry.proofs.Discovered.{stacked_alone}
-use Rattle.scale_info_registry.proofs.Registered.{cut_keeps, cut_kept, root_indices, keeps}
+use Rattle.scale_info_discovery.proofs.Discovered.{stacked_alone}
+use Rattle.scale_info_registry.proofs.Registered.{cut_kept, cut_same, keeps, keeps_itself, root_indices}
 use Rattle.scale_info_registry.proofs.registry.Registry.convert_value.Goals as goal
 
 pub returns-in_err-register-clause-cause : goal.returns-in_err-register-clause-cause
@@ -41,12 +42,13 @@ returns-in-Ok-clause-output g c =
 
 pub invariant_of-self : goal.invariant_of-self
 invariant_of-self g c =
-    cut_kept c.args.self.now c.register.new.self c.self.inside.identities c.self-2.inside.identities c.truncate.new.self c.self.inside.types.items c.self-2.inside.types.items c.truncate-in-Err.new.self.items
-    c.len-known.result c.self.view_is c.self-2.view_is (keeps (catalogue_system c.args.catalogue.now) c.args.self.now c.register.new.self (stacked c.in_ok-pending.pending.items) c.in_ok-register.ensures.ok)
-    (search rules) c.self.invariant c.truncate.ensures c.truncate-in-Err.ensures.items
+    cut_kept c.self.inside.identities c.self-2.inside.identities c.cut_back.new.identities c.self.inside.types.items c.self-2.inside.types.items c.cut_back.new.types.items
+    c.len-known.result (search rules) c.self.invariant c.cut_back.ensures.identities c.cut_back.ensures.types c.args.self.now c.register.new.self c.self.view_is c.self-2.view_is
+    (keeps (catalogue_system c.args.catalogue.now) c.args.self.now c.register.new.self (stacked c.in_ok-pending.pending.items) c.in_ok-register.ensures.ok)
 
 pub returns-clause-kept : goal.returns-clause-kept
 returns-clause-kept g c =
-    cut_keeps c.args.self.now c.register.new.self c.self.inside.identities c.self-2.inside.identities c.truncate.new.self c.self.inside.types.items c.self-2.inside.types.items c.truncate-in-Err.new.self.items
-    c.len-known.result c.self.view_is c.self-2.view_is (keeps (catalogue_system c.args.catalogue.now) c.args.self.now c.register.new.self (stacked c.in_ok-pending.pending.items) c.in_ok-register.ensures.ok)
-    (search rules) c.self.invariant c.truncate.ensures c.truncate-in-Err.ensures.items
+    keeps_itself c.args.self.now (registered c.cut_back.new.identities c.cut_back.new.types.items)
+    (cut_same c.self.inside.identities c.self-2.inside.identities c.cut_back.new.identities c.self.inside.types.items c.self-2.inside.types.items c.cut_back.new.types.items
+    c.len-known.result (search rules) c.self.invariant c.cut_back.ensures.identities c.cut_back.ensures.types c.args.self.now c.register.new.self c.self.view_is c.self-2.view_is
+    (keeps (catalogue_system c.args.catalogue.now) c.args.self.now c.register.new.self (stacked c.in_ok-pending.pending.items) c.in_ok-register.ensures.ok))

@@ -1,7 +1,8 @@
 use Rattle.std.proofs.Common.{subst, refl}
 use Rattle.std.proofs.lemmas.Result.{IfOk-weaker}
-use Rattle.scale_info_registry.specs.CatalogueSystems.{catalogue_system}
-use Rattle.scale_info_registry.specs.Registrations.{nodes_of, IsRegistration}
+use Rattle.scale_info_discovery.specs.CatalogueSystems.{catalogue_system}
+use Rattle.scale_info_discovery.specs.Discoveries.{nodes_of}
+use Rattle.scale_info_registry.specs.Registrations.{IsRegistration}
 use Rattle.scale_info_registry.proofs.Composed.{symbols_are_indices, roots_alone}
 use Rattle.scale_info_registry.proofs.registry.Registry.register_types.Goals as goal
 

@@ -1,4 +1,4 @@
-use Rattle.scale_info_registry.specs.CatalogueSystems.{catalogue_system}
+use Rattle.scale_info_discovery.specs.CatalogueSystems.{catalogue_system}
 use Rattle.scale_info_registry.proofs.Registered.{registers_nothing}
 use Rattle.scale_info_registry.proofs.registry.into_portable.RefStrIntoPortable.into_portable.Goals as goal
 

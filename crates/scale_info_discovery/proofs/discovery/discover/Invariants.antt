@@ -1,10 +1,10 @@
 use Rattle.std.proofs.Common.{◌≡◌, ◌++◌, List, length}
 use Rattle.scale_info_identities.specs.declared.type_id.TypeId.{TypeId}
-use Rattle.scale_info_registry.specs.CatalogueSystems.{catalogue_system}
-use Rattle.scale_info_registry.specs.Registrations.{nodes_of, stacked}
+use Rattle.scale_info_discovery.specs.CatalogueSystems.{catalogue_system}
+use Rattle.scale_info_discovery.specs.Discoveries.{nodes_of, stacked}
 use Rattle.scale_info_numberings.proofs.WorkLists.{IsWalking}
-use Rattle.scale_info_registry.proofs.CatalogueWeights.{work_left}
-use Rattle.scale_info_registry.proofs.registry.discovery.discover.Given as goal
+use Rattle.scale_info_discovery.proofs.CatalogueWeights.{work_left}
+use Rattle.scale_info_discovery.proofs.discovery.discover.Given as goal
 
 abbrev pub invariant-loop-next : goal.invariant-loop-next
 invariant-loop-next l =

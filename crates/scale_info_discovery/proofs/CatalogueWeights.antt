@@ -17,7 +17,7 @@ use Rattle.scale_info_identities.specs.declared.type_id.TypeId.{TypeId}
 use Rattle.scale_info_identities.specs.contracts.type_id.TypeIdOrd.TheImpl.{ghosts}
 use Rattle.scale_info_catalogue.specs.declared.catalogue.Catalogue.{Catalogue}
 use Rattle.scale_info_catalogue.specs.Catalogues.{identity_of, described}
-use Rattle.scale_info_registry.specs.CatalogueSystems.{catalogue_entry, catalogue_system}
+use Rattle.scale_info_discovery.specs.CatalogueSystems.{catalogue_entry, catalogue_system}
 use Rattle.scale_info_types.specs.MetaDescriptions.{MetaDescription}
 use Rattle.scale_info_catalogue.proofs.Catalogues.{term_of_identity, found_by_term}
 

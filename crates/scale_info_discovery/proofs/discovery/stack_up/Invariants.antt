@@ -1,5 +1,5 @@
 use Rattle.std.proofs.Common.{◌≡◌, ◌++◌, reverse, length}
-use Rattle.scale_info_registry.proofs.registry.discovery.stack_up.Given as goal
+use Rattle.scale_info_discovery.proofs.discovery.stack_up.Given as goal
 
 abbrev pub invariant-loop-last : goal.invariant-loop-last
 invariant-loop-last l = l.found.items ++ reverse l.pending.items ≡ l.fn.found.items ++ reverse l.fn.pending.items

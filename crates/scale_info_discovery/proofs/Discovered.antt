@@ -1,30 +1,30 @@
 -- A walk over the catalogue, step by step.
-use Rattle.std.proofs.Common.{◌≡◌, suc, ◌+◌, ◌<◌, List, [], ◌∷◌, ◌++◌, length, Option, Some, IsSome}
+use Rattle.std.proofs.Common.{◌≡◌, suc, ◌+◌, ◌<◌, List, [], ◌∷◌, ◌++◌, length, Some, None}
 use Rattle.std.proofs.Common.{option_map, map, reverse, refl, ap, sym, ◌∙◌, subst, arith, Contains}
-use Rattle.std.proofs.Common.{append_assoc, append-nil, Bool, true, false, length-append, Bor}
+use Rattle.std.proofs.Common.{append_assoc, append-nil, length-append, Bor}
 use Rattle.std.proofs.lemmas.List.{map-append, reverse-append, length_push, length-reverse}
 use Rattle.std.proofs.lemmas.List.Elements.{Contains-get_or}
-use Rattle.std.proofs.lemmas.Bool.{false≢true}
 use Rattle.scale_info_numberings.specs.Systems.{IsReachedPast}
 use Rattle.scale_info_numberings.specs.Numberings.{AreDistinct}
 use Rattle.scale_info_numberings.specs.Extensions.{IsExtension}
-use Rattle.scale_info_identities.specs.Interned.{IsKnown}
+use Rattle.scale_info_identities.specs.Interned.{IsKnown, IsNew}
 use Rattle.scale_info_types.specs.References.{references}
 use Rattle.scale_info_identities.specs.TypeIds.{Term, term_of}
 use Rattle.scale_info_types.specs.declared.meta_type.MetaType.{MetaType}
 use Rattle.scale_info_identities.specs.declared.type_id.TypeId.{TypeId}
 use Rattle.scale_info_identities.specs.contracts.type_id.TypeIdPartialEq.TheImpl.{ghosts as equals}
 use Rattle.scale_info_types.specs.MetaDescriptions.{MetaDescription, type_term}
-use Rattle.scale_info_registry.specs.CatalogueSystems.{catalogue_entry, catalogue_system}
+use Rattle.scale_info_discovery.specs.CatalogueSystems.{catalogue_entry, catalogue_system}
 use Rattle.scale_info_catalogue.specs.Catalogues.{described}
-use Rattle.scale_info_registry.specs.Registrations.{nodes_of, roots_of, stacked, IsCause}
+use Rattle.scale_info_discovery.specs.Discoveries.{nodes_of, roots_of, stacked, IsCause, IsNumberError}
 use Rattle.scale_info_catalogue.specs.declared.catalogue.Catalogue.{Catalogue}
-use Rattle.scale_info_registry.specs.declared.registry.discovery.RegisterError.TheVariants.{Full}
+use Rattle.scale_info_discovery.specs.declared.discovery.RegisterError.{RegisterError}
+use Rattle.scale_info_discovery.specs.declared.discovery.RegisterError.TheVariants.{Full, Memory, Undescribed}
 use Rattle.scale_info_references.specs.Gathered.{targets}
-use Rattle.scale_info_registry.proofs.Terms.{known}
+use Rattle.scale_info_discovery.proofs.Terms.{known, length_nodes}
 use Rattle.scale_info_numberings.proofs.WorkLists.{IsWalking, walk_adds, walk_meets, walk_passes, walk_ends}
 use Rattle.scale_info_numberings.proofs.WorkLists.{kept_below, distinct_push}
-use Rattle.scale_info_registry.proofs.CatalogueWeights.{work_left, adds_less}
+use Rattle.scale_info_discovery.proofs.CatalogueWeights.{work_left, adds_less}
 
 -- the terms on a stack are that of its top, then those of the rest
 pub stacked_pop : (ss : List (Bor MetaType)) (r : Bor MetaType) → stacked (ss ++ r ∷ []) ≡ type_term r.now ∷ stacked ss
@@ -65,20 +65,16 @@ nodes_push ids more id e = ap nodes_of e ∙ map-append term_of ids (id ∷ [])
 
 -- an unknown identity is appended, where an equal copy of it is appended if unknown
 pub pushed_one :
-    (ids more : List TypeId) (copy id : TypeId) → copy ≡ id → ¬ (IsKnown equals.eq ids id)
-    → (¬ (IsKnown equals.eq ids copy) → more ≡ ids ++ copy ∷ []) → more ≡ ids ++ id ∷ []
+    (ids more : List TypeId) (copy id : TypeId) → copy ≡ id → IsNew equals.eq ids id
+    → (IsNew equals.eq ids copy → more ≡ ids ++ copy ∷ []) → more ≡ ids ++ id ∷ []
 pushed_one ids more copy id e u f =
-    subst (λ i. (¬ (IsKnown equals.eq ids i) → more ≡ ids ++ i ∷ []) → more ≡ ids ++ id ∷ []) (sym e) (λ g. g u) f
+    subst (λ i. (IsNew equals.eq ids i → more ≡ ids ++ i ∷ []) → more ≡ ids ++ id ∷ []) (sym e) (λ g. g u) f
 
 -- identities that begin with earlier ones still do, once one more is appended
 pub kept_more :
     (before ids new : List TypeId) (id : TypeId) → (more : List TypeId) × (ids ≡ before ++ more)
     → new ≡ ids ++ id ∷ [] → (more : List TypeId) × (new ≡ before ++ more)
 kept_more before ids new id m e = (m.0 ++ id ∷ [], e ∙ ap (λ xs. xs ++ id ∷ []) m.1 ∙ append_assoc before m.0 (id ∷ []))
-
--- if a value would make the flag true, and the flag is false, there is no value
-pub not_some : {A : Type 0} (o : Option A) (b : Bool) → (IsSome o → b ≡ true) → b ≡ false → IsSome o → ⊥
-not_some o b f e s = false≢true (sym e ∙ f s)
 
 module _ (c : Catalogue) (before : List TypeId) (roots : List (Bor MetaType)) where
   abbrev Walking : List TypeId → List (Bor MetaType) → Type 0
@@ -101,7 +97,7 @@ module _ (c : Catalogue) (before : List TypeId) (roots : List (Bor MetaType)) wh
       (subst (λ i. Contains (nodes_of ids) (term_of i)) e ((known ids id).0 k)) (shown ids pending ss r p x)
 
   fresh :
-      (ids : List TypeId) (r : Bor MetaType) (id : TypeId) → id ≡ r.now.identity → ¬ (IsKnown equals.eq ids id)
+      (ids : List TypeId) (r : Bor MetaType) (id : TypeId) → id ≡ r.now.identity → IsNew equals.eq ids id
       → ¬ (Contains (nodes_of ids) (type_term r.now))
   fresh ids r id e u k = u ((known ids id).1 (subst (λ i. Contains (nodes_of ids) (term_of i)) (sym e) k))
 
@@ -109,7 +105,7 @@ module _ (c : Catalogue) (before : List TypeId) (roots : List (Bor MetaType)) wh
   pub meets :
       (ids : List TypeId) (pending ss : List (Bor MetaType)) (r : Bor MetaType) (id : TypeId)
       → pending ≡ ss ++ r ∷ [] → id ≡ r.now.identity
-      → ¬ (IsKnown equals.eq ids id) → Walking ids pending
+      → IsNew equals.eq ids id → Walking ids pending
       → IsReachedPast (catalogue_system c) (nodes_of before) (stacked roots) (term_of id)
   meets ids pending ss r id p e u x =
       subst (λ i. IsReachedPast (catalogue_system c) (nodes_of before) (stacked roots) (term_of i)) (sym e)
@@ -118,7 +114,7 @@ module _ (c : Catalogue) (before : List TypeId) (roots : List (Bor MetaType)) wh
   -- an unknown identity is appended, and what its description refers to is pushed
   pub adds :
       (ids more : List TypeId) (pending ss all found : List (Bor MetaType)) (r : Bor MetaType) (id : TypeId) (d : MetaDescription)
-      → pending ≡ ss ++ r ∷ [] → id ≡ r.now.identity → ¬ (IsKnown equals.eq ids id)
+      → pending ≡ ss ++ r ∷ [] → id ≡ r.now.identity → IsNew equals.eq ids id
       → described c (term_of id) ≡ Some d → more ≡ ids ++ id ∷ []
       → reverse all ≡ found ++ reverse ss → targets found ≡ references d → Walking ids pending → Walking more all
   adds ids more pending ss all found r id d p e u s m a f x =
@@ -158,7 +154,7 @@ module _ (c : Catalogue) (before : List TypeId) (roots : List (Bor MetaType)) wh
   pub overflows :
       (ids : List TypeId) (pending ss : List (Bor MetaType)) (r : Bor MetaType) (id : TypeId)
       → pending ≡ ss ++ r ∷ [] → id ≡ r.now.identity
-      → ¬ (IsKnown equals.eq ids id) → length ids ≡ 4294967295 → Walking ids pending
+      → IsNew equals.eq ids id → length ids ≡ 4294967295 → Walking ids pending
       → IsCause (catalogue_system c) (nodes_of before) (stacked roots) Full
   overflows ids pending ss r id p e u l x =
       let new = fresh ids r id e u in
@@ -168,10 +164,17 @@ module _ (c : Catalogue) (before : List TypeId) (roots : List (Bor MetaType)) wh
         λ k d h. kept_below (catalogue_system c) (nodes_of before) (stacked roots) (nodes_of ids) (stacked ss) (type_term r.now) new (shown ids pending ss r p x) _ (Contains-get_or all k d h),
         let long = length_push (nodes_of ids) (type_term r.now) in let same = length_nodes ids in omega arith,
       )
-    where
-      length_nodes : (ids : List TypeId) → length (nodes_of ids) ≡ length ids
-      length_nodes [] = refl
-      length_nodes (x ∷ ids) = let r = length_nodes ids in omega arith
+
+  -- why an identity on top of the stack gets no number is why the roots can't be registered
+  pub fails :
+      (ids : List TypeId) (pending ss : List (Bor MetaType)) (r : Bor MetaType) (id : TypeId) (e : RegisterError)
+      → pending ≡ ss ++ r ∷ [] → id ≡ r.now.identity → IsNumberError c ids id e → Walking ids pending
+      → IsCause (catalogue_system c) (nodes_of before) (stacked roots) e
+  fails ids pending ss r id Memory p s h x = tt
+  fails ids pending ss r id (Undescribed other) p s h x =
+      subst (λ i. IsReachedPast (catalogue_system c) (nodes_of before) (stacked roots) (term_of i) × (catalogue_system c (term_of i) ≡ None)) (sym h.0)
+      (meets ids pending ss r id p s h.1 x, ap (option_map catalogue_entry) h.2)
+  fails ids pending ss r id Full p s h x = overflows ids pending ss r id p s h.0 h.1 x
 
 -- a stack of what a value holds
 pub stacked_alone :

@@ -1,13 +1,12 @@
 //! The new identities of a registration, numbered in depth-first order by a list of work.
-ghost use Rattle.std.specs.Prelude.{◌≡◌, ◌++◌, List, OnOk, IfErr, IfOk, reverse};
+ghost use Rattle.std.specs.Option.{option_copied};
+ghost use Rattle.std.specs.Prelude.{◌≡◌, ◌++◌, List, OnErr, OnOk, IfErr, IfOk, reverse};
 ghost use Rattle.scale_info_identities.specs.declared.type_id.TypeId.{TypeId};
 ghost use Rattle.scale_info_numberings.specs.Extensions.{IsExtension};
-ghost use Rattle.scale_info_numberings.specs.Numberings.{AreDistinct};
-ghost use Rattle.scale_info_registry.specs.CatalogueSystems.{catalogue_system};
-ghost use Rattle.scale_info_registry.specs.Registrations.{nodes_of, stacked, IsCause};
-ghost use Rattle.scale_info_registry.specs.declared.registry.discovery.RegisterError.TheVariants.{
-  Memory,
-};
+ghost use Rattle.scale_info_discovery.specs.CatalogueSystems.{catalogue_system};
+ghost use Rattle.scale_info_discovery.specs.Discoveries.{nodes_of, stacked};
+ghost use Rattle.scale_info_discovery.specs.Discoveries.{IsCause, IsNumbered, IsNumberError};
+ghost use Rattle.scale_info_discovery.specs.declared.discovery.RegisterError.TheVariants.{Memory};
 
 use scale_info_catalogue::catalogue::Catalogue;
 use scale_info_collections::try_clone::TryClone;
@@ -15,6 +14,7 @@ use scale_info_identities::interner::{InternError, Interner};
 use scale_info_identities::type_id::TypeId;
 use scale_info_references::references::references_of;
 use scale_info_types::meta_type::MetaType;
+use scale_info_types::ty::Type;
 use std::alloc::{AllocError, AllocFailed, Global};
 use thiserror::Error;
 
@@ -49,7 +49,9 @@ impl<T: Drop> From<AllocFailed<T>> for RegisterError {
 }
 
 /// Moves the types found onto the stack, so that the first of them comes on top.
-pub(crate) fn stack_up<'a>(
+///
+/// Errors: `Memory`, if an allocation failed.
+pub fn stack_up<'a>(
     mut found: Vec<&'a MetaType>,
     mut pending: Vec<&'a MetaType>,
 ) -> Result<Vec<&'a MetaType>, RegisterError>
@@ -65,33 +67,54 @@ pub(crate) fn stack_up<'a>(
 
 /// Numbers the pending types, the last first, and all that is reached from them, as far as it is
 /// new. Each number is an index in the list of identities.
-pub(crate) fn discover<'a>(
+///
+/// Errors: `Undescribed`, if a type that is new is reached and has no description in the
+/// catalogue; `Full`, if there would be more than 4294967295 identities; `Memory`, if an allocation
+/// failed. On an Err some of what is new may have its number.
+pub fn discover<'a>(
     alloc: Global,
     identities: &mut Interner<TypeId>,
     mut pending: Vec<&'a MetaType>,
     catalogue: &'a Catalogue,
 ) -> Result<(), RegisterError>
-    requires distinct { AreDistinct (nodes_of identities.old) }
     ensures kept { (more : List TypeId) × (identities.new ≡ identities.old ++ more) }
     ensures ok { OnOk result (IsExtension (catalogue_system catalogue.now) (nodes_of identities.old)
         (stacked pending.entry.items) (nodes_of identities.new)) }
     ensures err { IfErr result (IsCause (catalogue_system catalogue.now) (nodes_of identities.old)
         (stacked pending.entry.items)) }
 {
+    let _distinct = identities.elements();
     while let Some(next) = pending.pop() {
-        let id = next.type_id();
-        if identities.get(id).is_some() {
-            continue;
+        if let Some(described) = number_new(alloc, identities, next.type_id(), catalogue)? {
+            pending = stack_up(references_of(alloc, described)?, pending)?;
         }
-        let Some(described) = catalogue.get(id) else {
-            return Err(RegisterError::Undescribed(id.try_clone(alloc)?));
-        };
-        match identities.intern_or_get(id.try_clone(alloc)?) {
-            Ok(_) => {}
-            Err(InternError::Full) => return Err(RegisterError::Full),
-            Err(InternError::Memory) => return Err(RegisterError::Memory),
-        }
-        pending = stack_up(references_of(alloc, described)?, pending)?;
     }
     Ok(())
+}
+
+/// The description of an identity that is new, which gets the next number; None if it has one.
+///
+/// Errors: as those of [`discover`], for this identity. On an Err no number was given.
+fn number_new<'a>(
+    alloc: Global,
+    identities: &mut Interner<TypeId>,
+    id: &TypeId,
+    catalogue: &'a Catalogue,
+) -> Result<Option<&'a Type>, RegisterError>
+    ensures ok { IfOk result (λ found.
+        IsNumbered catalogue.now identities.old id.now (option_copied found) identities.new) }
+    ensures err { OnErr result (identities.new ≡ identities.old) }
+    ensures cause { IfErr result (IsNumberError catalogue.now identities.old id.now) }
+{
+    if identities.get(id).is_some() {
+        return Ok(None);
+    }
+    let Some(described) = catalogue.get(id) else {
+        return Err(RegisterError::Undescribed(id.try_clone(alloc)?));
+    };
+    match identities.intern_or_get(id.try_clone(alloc)?) {
+        Ok(_) => Ok(Some(described)),
+        Err(InternError::Full) => Err(RegisterError::Full),
+        Err(InternError::Memory) => Err(RegisterError::Memory),
+    }
 }

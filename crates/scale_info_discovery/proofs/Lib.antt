@@ -1,0 +1,3 @@
+mod CatalogueWeights
+pub mod Discovered
+pub mod Terms

@@ -1,0 +1,2 @@
+pub mod CatalogueSystems
+pub mod Discoveries

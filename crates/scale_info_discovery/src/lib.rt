@@ -1,0 +1,4 @@
+//! Discovery: the identities that a registration adds, with their numbers.
+#![tactic(auto)]
+
+pub mod discovery;
