@@ -2,7 +2,7 @@
 use Rattle.std.proofs.Common.{◌≡◌, suc, ◌+◌, ◌<◌, List, [], ◌∷◌, ◌++◌, length, Some, None}
 use Rattle.std.proofs.Common.{option_map, map, reverse, refl, ap, sym, ◌∙◌, subst, arith, Contains}
 use Rattle.std.proofs.Common.{append_assoc, append-nil, length-append, Bor}
-use Rattle.std.proofs.lemmas.List.{map-append, reverse-append, length_push, length-reverse}
+use Rattle.std.proofs.lemmas.List.{map-append, reverse-append, length_push, length-map, length-reverse}
 use Rattle.std.proofs.lemmas.List.Elements.{Contains-get_or}
 use Rattle.scale_info_numberings.specs.Systems.{IsReachedPast}
 use Rattle.scale_info_numberings.specs.Numberings.{AreDistinct}
@@ -51,12 +51,8 @@ length_more all found pending d e s =
     sym (length-stacked all) ∙ ap (λ (xs : List Term). length xs) (stacked_more all found pending d e s)
     ∙ (length-append (catalogue_entry d).refs (stacked pending) ∙ ap (λ n. length (catalogue_entry d).refs + n) (length-stacked pending))
   where
-    length_map : {A B : Type 0} (f : A → B) (xs : List A) → length (map f xs) ≡ length xs
-    length_map f [] = refl
-    length_map f (x ∷ xs) = let r = length_map f xs in omega arith
-
     length-stacked : (ss : List (Bor MetaType)) → length (stacked ss) ≡ length ss
-    length-stacked ss = length_map (λ (r : Bor MetaType). type_term r.now) (reverse ss) ∙ length-reverse ss
+    length-stacked ss = length-map (reverse ss) (λ (r : Bor MetaType). type_term r.now) ∙ length-reverse ss
 
 -- where an identity is appended, its term is the last
 pub nodes_push :

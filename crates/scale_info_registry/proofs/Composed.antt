@@ -1,10 +1,11 @@
 -- One registration after another.
-use Rattle.std.proofs.Common.{◌≡◌, ℕ, zero, suc, List, [], ◌∷◌, ◌++◌, length, Some, slice_get, map, flat_map}
+use Rattle.std.proofs.Common.{◌≡◌, ℕ, List, [], ◌∷◌, ◌++◌, length, Some, slice_get, map, option_map, flat_map}
 use Rattle.std.proofs.Common.{refl, ap, sym, ◌∙◌, subst, arith, Contains, inl, inr, append_assoc, append-nil}
 use Rattle.std.proofs.lemmas.Bool.{cases_lt}
 use Rattle.std.proofs.lemmas.Grind.{flat_map-append}
+use Rattle.std.proofs.lemmas.List.{length-map}
 use Rattle.std.proofs.lemmas.List.Elements.{Contains-append_left, Contains-append_right}
-use Rattle.std.proofs.lemmas.Option.{same_Some, none-some}
+use Rattle.std.proofs.lemmas.Option.{slice_get-map}
 use Rattle.std.specs.Iterator.{Yields}
 use Rattle.std.specs.List.{AllZip}
 use Rattle.std.specs.Vec.Iter.{into_iter_items, into_iter_steps}
@@ -166,17 +167,6 @@ pub registrations_compose_grown :
     (S T : System Shape Term) (a b c : Registered) (R Q : List Term) → Grows S T → IsRegistration S a R b → IsRegistration T b Q c → IsRegistration T a (R ++ Q) c
 registrations_compose_grown S T a b c R Q g x y = registrations_compose T a b c R Q (registration_grows S T a b R g x) y
 
-entry_in :
-    (types : List portable.Description) (i : ℕ) (ty : portable.Description) → slice_get types i ≡ Some ty
-    → slice_get (map portable_entry types) i ≡ Some (portable_entry ty)
-entry_in [] i ty e = absurd (none-some ty e)
-entry_in (x ∷ types) zero ty e = ap Some (ap portable_entry (same_Some x ty e))
-entry_in (x ∷ types) (suc i) ty e = entry_in types i ty e
-
-length_map : {A B : Type 0} (f : A → B) (xs : List A) → length (map f xs) ≡ length xs
-length_map f [] = refl
-length_map f (x ∷ xs) = let r = length_map f xs in omega arith
-
 -- a registration in an empty registry gives a numbering from the roots, and its table
 pub registered_afresh :
     (S : System Shape Term) (R : List Term) (r : Registered) → IsRegistration S (registered [] []) R r → length r.types ≡ length r.identities
@@ -184,8 +174,8 @@ pub registered_afresh :
 registered_afresh S R r x long = (
   numbering_of_extension S R (nodes_of r.identities) x.nodes,
   record {
-    long = length_map portable_entry r.types ∙ (long ∙ sym (length_nodes r.identities));
-    entries = λ i n e. let k = x.entries i n zero-le e in (k.0, portable_entry k.1, k.2, entry_in r.types i k.1 k.3, k.4, k.5);
+    long = length-map r.types portable_entry ∙ (long ∙ sym (length_nodes r.identities));
+    entries = λ i n e. let k = x.entries i n zero-le e in (k.0, portable_entry k.1, k.2, slice_get-map portable_entry r.types i ∙ ap (option_map portable_entry) k.3, k.4, k.5);
   },
 )
 

@@ -1,10 +1,11 @@
 -- A pruned table, entry by entry.
 use Rattle.std.proofs.Common.{◌≡◌, ◌≢◌, ◌↔◌, ℕ, ◌+◌, ◌<◌, ◌≤◌, List, [], ◌∷◌, ◌++◌, length, map, Some, option_map}
-use Rattle.std.proofs.Common.{slice_get, false, refl, ap, sym, ◌∙◌, subst, arith, inl, inr, Contains, zero, suc}
+use Rattle.std.proofs.Common.{slice_get, false, refl, ap, sym, ◌∙◌, subst, arith, inl, inr, Contains}
 use Rattle.std.proofs.Common.{get_or, set, take, drop}
 use Rattle.std.proofs.lemmas.Bool.{cases_lt}
-use Rattle.std.proofs.lemmas.List.{length_push, length-take-le, take-append-drop}
-use Rattle.std.proofs.lemmas.Option.{same_Some, none-some, slice_get_within, get_or_from_slice_get, slice_get-get_or}
+use Rattle.std.proofs.lemmas.List.{length_push, length-map, length-take-le, take-append-drop}
+use Rattle.std.proofs.lemmas.Option.{same_Some, none-some, slice_get_within, slice_get-map, get_or_from_slice_get}
+use Rattle.std.proofs.lemmas.Option.{slice_get-get_or}
 use Rattle.std.specs.BTreeMap.{BTreeMap, Updates, get}
 use Rattle.std.specs.Cmp.{nat_cmp_is}
 use Rattle.std.specs.Ordering.{is_eq, nat_cmp}
@@ -85,17 +86,6 @@ others_stay old all order k v x j out =
     ∙ x j
     (λ c. let p = place_of order j c in out (contains_at (order ++ k ∷ []) j p.0 (at_left order (k ∷ []) p.0 j p.1)))
 
-at_map :
-    {A B : Type 0} (f : A → B) (xs : List A) (i : ℕ) (x : A)
-    → slice_get xs i ≡ Some x → slice_get (map f xs) i ≡ Some (f x)
-at_map f [] i x e = absurd (none-some x e)
-at_map f (y ∷ xs) zero x e = ap Some (ap f (same_Some y x e))
-at_map f (y ∷ xs) (suc i) x e = at_map f xs i x e
-
-length_map : {A B : Type 0} (f : A → B) (xs : List A) → length (map f xs) ≡ length xs
-length_map f [] = refl
-length_map f (x ∷ xs) = let r = length_map f xs in omega arith
-
 -- f gives each reference its number
 abbrev pub Agrees : List ℕ → (Id → ℕ) → Type 0
 Agrees numbers f = (r : Id) (p : ℕ) → slice_get numbers r.id ≡ Some p → f r ≡ p
@@ -134,14 +124,14 @@ module _ (types : List PortableType) (roots order numbers : List ℕ) (f : Id �
   pub kept_table : IsTable (types_system types) order (map entry_of kept)
   kept_table =
       record {
-        long = length_map entry_of kept ∙ x.0;
+        long = length-map kept entry_of ∙ x.0;
         entries = λ i n e.
             let r = x.1 i n e in
             let new = kept_entry f i r.0 in (
               entry_of r.0,
               entry_of new,
               ap (option_map entry_of) r.1,
-              at_map entry_of kept i new r.2,
+              slice_get-map entry_of kept i ∙ ap (option_map entry_of) r.2,
               shape_stays f (λ (text : Text). text) r.0.ty,
               subst (λ (ps : List ℕ). ArePlaces order (ids_in r.0.ty) ps)
                   (sym (ids_replaced f (λ (text : Text). text) r.0.ty))
