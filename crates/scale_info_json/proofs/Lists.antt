@@ -107,10 +107,9 @@ array_of (object ms) ds e = absurd cc
 
 -- what was built is the list of all trees
 pub all_taken :
-    {A : Type 0} (W : A → Data) (xs ys : List A) (i : ℕ) (ds : List Data) → xs ≡ ys → length xs ≤ i
-    → ds ≡ map W (take i xs) → array (items_of ds) ≡ array (items_of (map W ys))
-all_taken W xs ys i ds same h e =
-    ap (λ ts. array (items_of ts)) (e ∙ ap (map W) (take_all i xs h ∙ same))
+    {A : Type 0} (W : A → Data) (xs : List A) (i : ℕ) (ds : List Data) → length xs ≤ i → ds ≡ map W (take i xs)
+    → ds ≡ map W xs
+all_taken W xs i ds h e = e ∙ ap (map W) (take_all i xs h)
 
 -- a tree more in the list that is built
 pub pushed :

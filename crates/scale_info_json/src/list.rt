@@ -1,5 +1,7 @@
 //! Lists as trees.
-ghost use Rattle.scale_info_json.specs.Meaning.{MeansList};
+ghost use Rattle.std.specs.Prelude.{◌≡◌, IfOk, map};
+ghost use Rattle.serde_json.specs.View.{view};
+ghost use Rattle.scale_info_json.specs.Meaning.{MeansEach, MeansList};
 ghost use Rattle.scale_info_json.specs.Written.{list_tree};
 ghost use Rattle.scale_info_json.specs.Laws.{list_law};
 
@@ -10,17 +12,25 @@ use scale_info_collections::items::Items;
 use serde_json::Value;
 use std::alloc::{AllocError, Global};
 
+/// The trees of the values, in order.
+fn trees_of<T: Json>(alloc: Global, values: &[T]) -> Result<Vec<Value>, AllocError>
+    ensures ok { IfOk result (λ trees. map view trees.items ≡ map T.written values.now) }
+    ensures means { IfOk result (λ _. MeansEach T.meant (map T.written values.now) values.now) }
+{
+    let mut trees = Vec::with_capacity(alloc, values.len())?;
+    for value in values {
+        trees.push(value.to_json(alloc)?)?;
+    }
+    Ok(trees)
+}
+
 impl<T: Json> Json for Items<T> {
     ghost written = { list_tree T.written };
 
     ghost meant = { MeansList T.meant };
 
     fn to_json(&self, alloc: Global) -> Result<Value, AllocError> {
-        let mut items = Vec::with_capacity(alloc, self.len())?;
-        for value in self.as_slice() {
-            items.push(value.to_json(alloc)?)?;
-        }
-        Ok(Value::Array(items))
+        Ok(Value::Array(trees_of(alloc, self.as_slice())?))
     }
 
     fn write_json(&self, out: &mut Writer) -> Result<(), AllocError> {
