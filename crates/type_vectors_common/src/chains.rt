@@ -1,7 +1,7 @@
 //! Chains: tables in which each type but the last is a sequence of the next.
-use crate::parts::{description, sequence};
+use crate::parts::sequence;
 use scale_info::form::PortableForm;
-use scale_info::{Items, PortableRegistry, PortableType, TypeDef, TypeDefPrimitive};
+use scale_info::{Items, PortableRegistry, PortableType, Type, TypeDef, TypeDefPrimitive};
 use std::alloc::Global;
 use std::test::Fail;
 
@@ -14,11 +14,10 @@ pub fn chain(
     let end = count.saturating_sub(1);
     let mut types = Vec::new(alloc);
     for id in 0..end {
-        let ty = description(alloc, &[], &[], sequence(id.saturating_add(1)), &[])?;
+        let ty = Type::from_def(alloc, sequence(id.saturating_add(1)));
         types.push(PortableType::new(id, ty))?;
     }
-    let ty = description(alloc, &[], &[], last, &[])?;
-    types.push(PortableType::new(end, ty))?;
+    types.push(PortableType::new(end, Type::from_def(alloc, last)))?;
     Ok(PortableRegistry {
         types: Items::from(types),
     })

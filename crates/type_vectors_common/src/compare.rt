@@ -8,12 +8,3 @@ pub fn equals<T: PartialEq + Drop, E: Drop>(value: &T, made: Result<T, E>) -> Re
     let made = made?;
     Ok(*value == made)
 }
-
-/// Whether two values that are made are equal.
-pub fn are_equal<T: PartialEq + Drop, E: Drop>(
-    left: Result<T, E>,
-    right: Result<T, E>,
-) -> Result<bool, E> {
-    let left = left?;
-    equals(&left, right)
-}

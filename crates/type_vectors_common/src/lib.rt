@@ -1,4 +1,5 @@
-//! What the crates of tests share: rows of bytes, parts of descriptions, readers and writers.
+//! What the crates of tests share: rows of bytes, parts of descriptions, descriptions as texts,
+//! readers and writers.
 #![tactic(auto)]
 
 pub mod catalogues;
@@ -6,5 +7,7 @@ pub mod chains;
 pub mod compare;
 pub mod lists;
 pub mod parts;
+pub mod results;
 pub mod rows;
+pub mod shown;
 pub mod streams;

@@ -1,4 +1,5 @@
 //! Parts of portable descriptions, made in few words.
+use crate::results::both;
 use scale_info::form::PortableForm;
 use scale_info::{
     Field, Path, Text, Type, TypeDef, TypeDefSequence, TypeId, TypeParameter, UntrackedSymbol,
@@ -100,6 +101,15 @@ pub fn sequence(ty: u32) -> TypeDef<PortableForm> {
     TypeDef::from(TypeDefSequence::new(id(ty)))
 }
 
+/// One skipped parameter for each of these names.
+fn skipped(alloc: Global, names: &[&str]) -> Result<Vec<TypeParameter<PortableForm>>, AllocError> {
+    let mut made = Vec::new(alloc);
+    for name in names {
+        made.push(parameter(alloc, name, None)?)?;
+    }
+    Ok(made)
+}
+
 /// The description with one skipped parameter for each of these names.
 pub fn description(
     alloc: Global,
@@ -108,10 +118,7 @@ pub fn description(
     type_def: TypeDef<PortableForm>,
     docs: &[&str],
 ) -> Result<Type<PortableForm>, AllocError> {
-    let mut made = Vec::new(alloc);
-    for name in params {
-        made.push(parameter(alloc, name, None)?)?;
-    }
-    let path = path(alloc, segments)?;
-    Type::new(alloc, path, made, type_def, texts(alloc, docs)?)
+    let head = both(path(alloc, segments), skipped(alloc, params));
+    let ((path, params), docs) = both(head, texts(alloc, docs))?;
+    Type::new(alloc, path, params, type_def, docs)
 }

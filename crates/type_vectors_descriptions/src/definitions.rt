@@ -2,13 +2,13 @@
 use crate::asserts::is;
 use scale_info::form::PortableForm;
 use scale_info::{
-    Scale, TypeDef, TypeDefArray, TypeDefBitSequence, TypeDefCompact, TypeDefComposite,
-    TypeDefPrimitive, TypeDefSequence, TypeDefTuple, TypeDefVariant, Variant,
+    TypeDef, TypeDefArray, TypeDefBitSequence, TypeDefCompact, TypeDefComposite, TypeDefPrimitive,
+    TypeDefSequence, TypeDefTuple, TypeDefVariant, Variant,
 };
 use std::alloc::{AllocError, Global};
 use std::test::Fail;
 use type_vectors_common::parts::{id, sequence, unnamed_fields, variant};
-use type_vectors_common::rows::rows;
+use type_vectors_common::rows::{encoding, rows};
 
 /// What `definition` makes, with its encoding.
 const ENCODINGS: &str = "\
@@ -87,23 +87,12 @@ fn definition(alloc: Global, name: &str) -> Result<TypeDef<PortableForm>, Fail> 
     }
 }
 
-/// The encoding of a definition.
-fn encoded(alloc: Global, made: &TypeDef<PortableForm>) -> Result<Vec<u8>, Fail> {
-    let mut output = Vec::new(alloc);
-    made.encode_to(&mut output)?;
-    Ok(output)
-}
-
-/// The encoding of the definition with this name.
-fn encoding(alloc: Global, name: &str) -> Result<Vec<u8>, Fail> {
-    encoded(alloc, &definition(alloc, name)?)
-}
-
 #[test]
 fn each_constructor_makes_its_kind_with_its_parts(rt: HostRuntime) -> Result<(), Fail> {
     let encodings = rows(rt.alloc(), ENCODINGS)?;
     for row in &encodings {
-        is(&rt, row.name, &encoding(rt.alloc(), row.name)?, &row.bytes);
+        let found = encoding(rt.alloc(), definition(rt.alloc(), row.name)?)?;
+        is(&rt, row.name, &found, &row.bytes);
     }
     Ok(())
 }

@@ -4,14 +4,12 @@
 //! Some, variants of an enum as declared, texts by their bytes. The values of each test ascend.
 use scale_info::form::PortableForm;
 use scale_info::impls::Compact;
-use scale_info::{
-    Field, Type, TypeDef, TypeDefArray, TypeDefBitSequence, TypeDefCompact, TypeDefComposite,
-    TypeDefPrimitive, TypeDefTuple, TypeDefVariant, TypeId, Variant,
-};
-use std::alloc::{AllocError, Global};
+use scale_info::{Field, Path, Scale, Type, TypeDef, TypeId, TypeParameter, Variant};
+use std::alloc::Global;
 use std::process::Abort;
 use std::test::Fail;
-use type_vectors_common::parts::*;
+use type_vectors_common::parts::id;
+use type_vectors_common::rows::rows;
 
 /// Asserts that each value is greater than all before it, and equal to itself alone.
 fn ascends<T: Ord>(rt: &impl Abort, values: &[T]) {
@@ -25,243 +23,146 @@ fn ascends<T: Ord>(rt: &impl Abort, values: &[T]) {
     }
 }
 
-/// Appends what was made.
-fn push_made<T: Drop>(all: &mut Vec<T>, made: Result<T, AllocError>) -> Result<(), AllocError> {
-    all.push(made?)?;
-    Ok(())
-}
-
-/// A name, a type, a type name and docs.
-type FieldRow = (
-    Option<&'static str>,
-    u32,
-    Option<&'static str>,
-    &'static [&'static str],
-);
-
-/// The field of a row.
-fn field_of(alloc: Global, row: FieldRow) -> Result<Field<PortableForm>, AllocError> {
-    let (name, ty, type_name, docs) = row;
-    field(alloc, name, ty, type_name, docs)
-}
-
-/// The fields of these rows.
-fn fields_of(alloc: Global, rows: &[FieldRow]) -> Result<Vec<Field<PortableForm>>, AllocError> {
+/// The values whose encodings the rows are, in order.
+fn values<T: Scale>(alloc: Global, text: &str) -> Result<Vec<T>, Fail> {
     let mut all = Vec::new(alloc);
-    for row in rows {
-        push_made(&mut all, field_of(alloc, *row))?;
+    for row in &rows(alloc, text)? {
+        let (value, _) = T::decode_from(alloc, &row.bytes)?;
+        all.push(value)?;
     }
     Ok(all)
 }
+
+/// Asserts that the values of the rows ascend.
+fn rows_ascend<T: Scale + Ord>(rt: &impl Abort, alloc: Global, text: &str) -> Result<(), Fail> {
+    ascends(rt, &values::<T>(alloc, text)?);
+    Ok(())
+}
+
+/// Fields by name, type, type name and docs, with their encodings.
+const FIELDS: &str = "\
+no name, 9, 'z', ['z']: 00 24 01047a 04047a
+'', 9, 'z', ['z']: 0100 24 01047a 04047a
+'Z', 9, 'z', ['z']: 01045a 24 01047a 04047a
+'a', 0, 'z', ['z']: 010461 00 01047a 04047a
+'a', 1, no type name, ['z']: 010461 04 00 04047a
+'a', 1, 'a', []: 010461 04 010461 00
+'a', 1, 'a', ['']: 010461 04 010461 0400
+'a', 1, 'a', ['', '']: 010461 04 010461 080000
+'a', 1, 'a', ['a']: 010461 04 010461 040461
+'ab', 0, no type name, []: 01086162 00 00 00
+";
 
 #[test]
 fn fields_are_ordered_by_name_type_type_name_and_docs(rt: HostRuntime) -> Result<(), Fail> {
-    let rows: [FieldRow; 10] = [
-        (None, 9, Some("z"), &["z"]),
-        (Some(""), 9, Some("z"), &["z"]),
-        (Some("Z"), 9, Some("z"), &["z"]),
-        (Some("a"), 0, Some("z"), &["z"]),
-        (Some("a"), 1, None, &["z"]),
-        (Some("a"), 1, Some("a"), &[]),
-        (Some("a"), 1, Some("a"), &[""]),
-        (Some("a"), 1, Some("a"), &["", ""]),
-        (Some("a"), 1, Some("a"), &["a"]),
-        (Some("ab"), 0, None, &[]),
-    ];
-    ascends(&rt, &fields_of(rt.alloc(), &rows)?);
-    Ok(())
+    rows_ascend::<Field<PortableForm>>(&rt, rt.alloc(), FIELDS)
 }
 
-/// A name, the types of fields, an index and docs.
-type VariantRow = (&'static str, &'static [u32], u8, &'static [&'static str]);
-
-/// The variants of these rows.
-fn variants_of(
-    alloc: Global,
-    rows: &[VariantRow],
-) -> Result<Vec<Variant<PortableForm>>, AllocError> {
-    let mut all = Vec::new(alloc);
-    for (name, fields, index, docs) in rows {
-        push_made(&mut all, variant(alloc, name, fields, *index, docs))?;
-    }
-    Ok(all)
-}
+/// Variants by name, the types of their fields, index and docs, with their encodings.
+const VARIANTS: &str = "\
+'a', [9], 9, ['z']: 0461 04 00240000 09 04047a
+'b', [], 9, ['z']: 0462 00 09 04047a
+'b', [0], 9, ['z']: 0462 04 00000000 09 04047a
+'b', [0, 0], 1, ['z']: 0462 08 00000000 00000000 01 04047a
+'b', [0, 0], 2, []: 0462 08 00000000 00000000 02 00
+'b', [0, 0], 2, ['a']: 0462 08 00000000 00000000 02 040461
+'b', [1], 0, []: 0462 04 00040000 00 00
+";
 
 #[test]
 fn variants_are_ordered_by_name_fields_index_and_docs(rt: HostRuntime) -> Result<(), Fail> {
-    let rows: [VariantRow; 7] = [
-        ("a", &[9], 9, &["z"]),
-        ("b", &[], 9, &["z"]),
-        ("b", &[0], 9, &["z"]),
-        ("b", &[0, 0], 1, &["z"]),
-        ("b", &[0, 0], 2, &[]),
-        ("b", &[0, 0], 2, &["a"]),
-        ("b", &[1], 0, &[]),
-    ];
-    ascends(&rt, &variants_of(rt.alloc(), &rows)?);
-    Ok(())
+    rows_ascend::<Variant<PortableForm>>(&rt, rt.alloc(), VARIANTS)
 }
+
+/// Parameters by name and type, with their encodings.
+const PARAMETERS: &str = "\
+'S', 9: 0453 0124
+'T', skipped: 0454 00
+'T', 0: 0454 0100
+'T', 1: 0454 0104
+";
 
 #[test]
 fn parameters_are_ordered_by_name_and_type(rt: HostRuntime) -> Result<(), Fail> {
-    let mut all = Vec::new(rt.alloc());
-    for (name, ty) in [("S", Some(9)), ("T", None), ("T", Some(0)), ("T", Some(1))] {
-        all.push(parameter(rt.alloc(), name, ty)?)?;
-    }
-    ascends(&rt, &all);
-    Ok(())
+    rows_ascend::<TypeParameter<PortableForm>>(&rt, rt.alloc(), PARAMETERS)
 }
 
-/// A path, parameters, the type of a sequence, and docs.
-type DescriptionRow = (
-    &'static [&'static str],
-    &'static [&'static str],
-    u32,
-    &'static [&'static str],
-);
-
-/// The description of a row.
-fn description_of(alloc: Global, row: DescriptionRow) -> Result<Type<PortableForm>, AllocError> {
-    let (path, params, ty, docs) = row;
-    description(alloc, path, params, sequence(ty), docs)
-}
-
-/// The descriptions of these rows.
-fn descriptions_of(
-    alloc: Global,
-    rows: &[DescriptionRow],
-) -> Result<Vec<Type<PortableForm>>, AllocError> {
-    let mut all = Vec::new(alloc);
-    for row in rows {
-        push_made(&mut all, description_of(alloc, *row))?;
-    }
-    Ok(all)
-}
+/// Descriptions by path, skipped parameters, the type of a sequence, and docs, with their
+/// encodings.
+const DESCRIPTIONS: &str = "\
+[], ['z'], 9, ['z']: 00 04047a00 0224 04047a
+['p'], [], 9, ['z']: 040470 00 0224 04047a
+['p'], ['S'], 1, ['z']: 040470 04045300 0204 04047a
+['p'], ['S'], 2, []: 040470 04045300 0208 00
+['p'], ['S'], 2, ['d']: 040470 04045300 0208 040464
+['p'], ['S', 'T'], 0, []: 040470 08045300045400 0200 00
+['p', 'q'], [], 0, []: 0804700471 00 0200 00
+";
 
 #[test]
 fn descriptions_are_ordered_by_path_parameters_definition_and_docs(
     rt: HostRuntime,
 ) -> Result<(), Fail> {
-    let rows: [DescriptionRow; 7] = [
-        (&[], &["z"], 9, &["z"]),
-        (&["p"], &[], 9, &["z"]),
-        (&["p"], &["S"], 1, &["z"]),
-        (&["p"], &["S"], 2, &[]),
-        (&["p"], &["S"], 2, &["d"]),
-        (&["p"], &["S", "T"], 0, &[]),
-        (&["p", "q"], &[], 0, &[]),
-    ];
-    ascends(&rt, &descriptions_of(rt.alloc(), &rows)?);
-    Ok(())
+    rows_ascend::<Type<PortableForm>>(&rt, rt.alloc(), DESCRIPTIONS)
 }
+
+/// Paths by their segments, with their encodings.
+const PATHS: &str = "\
+[]: 00
+['a', 'c']: 08 0461 0463
+['b']: 04 0462
+['b', '']: 08 0462 00
+";
 
 #[test]
 fn paths_are_ordered_by_their_segments(rt: HostRuntime) -> Result<(), Fail> {
-    let rows: [&[&str]; 4] = [&[], &["a", "c"], &["b"], &["b", ""]];
-    let mut all = Vec::new(rt.alloc());
-    for segments in rows {
-        all.push(path(rt.alloc(), segments)?)?;
-    }
-    ascends(&rt, &all);
-    Ok(())
+    rows_ascend::<Path<PortableForm>>(&rt, rt.alloc(), PATHS)
 }
 
-/// The primitives, as declared.
-const PRIMITIVES: [TypeDefPrimitive; 15] = [
-    TypeDefPrimitive::Bool,
-    TypeDefPrimitive::Char,
-    TypeDefPrimitive::Str,
-    TypeDefPrimitive::U8,
-    TypeDefPrimitive::U16,
-    TypeDefPrimitive::U32,
-    TypeDefPrimitive::U64,
-    TypeDefPrimitive::U128,
-    TypeDefPrimitive::U256,
-    TypeDefPrimitive::I8,
-    TypeDefPrimitive::I16,
-    TypeDefPrimitive::I32,
-    TypeDefPrimitive::I64,
-    TypeDefPrimitive::I128,
-    TypeDefPrimitive::I256,
-];
-
-/// One variant for each of these types.
-fn variants(alloc: Global, types: &[u32]) -> Result<Vec<Variant<PortableForm>>, Fail> {
-    let mut all = Vec::new(alloc);
-    for ty in types {
-        all.push(variant(alloc, "V", &[*ty], 0, &[])?)?;
-    }
-    Ok(all)
-}
-
-/// The tuple of these types.
-fn tuple(alloc: Global, types: &[u32]) -> Result<TypeDef<PortableForm>, Fail> {
-    let mut members = Vec::new(alloc);
-    for ty in types {
-        members.push(id(*ty))?;
-    }
-    Ok(TypeDef::from(TypeDefTuple::new_portable(alloc, members)?))
-}
-
-/// How many definitions `definition` has.
-const DEFINITIONS: u32 = 34;
-
-/// The definition with this number in ascending order.
-fn definition(alloc: Global, number: u32) -> Result<TypeDef<PortableForm>, Fail> {
-    match number {
-        0..=5 => before_sequences(alloc, number),
-        11 => tuple(alloc, &[]),
-        12 => tuple(alloc, &[0, 0]),
-        13 => tuple(alloc, &[1]),
-        6..=10 => sequence_or_array(number),
-        _ => after_tuples(number),
-    }
-}
-
-/// The composites and the enums, which come first.
-fn before_sequences(alloc: Global, number: u32) -> Result<TypeDef<PortableForm>, Fail> {
-    match number {
-        0 => Ok(TypeDef::from(TypeDefComposite::from(unnamed_fields(alloc, &[])?))),
-        1 => Ok(TypeDef::from(TypeDefComposite::from(unnamed_fields(alloc, &[0])?))),
-        2 => Ok(TypeDef::from(TypeDefComposite::from(unnamed_fields(alloc, &[0, 1])?))),
-        3 => Ok(TypeDef::from(TypeDefVariant::from(variants(alloc, &[])?))),
-        4 => Ok(TypeDef::from(TypeDefVariant::from(variants(alloc, &[0])?))),
-        _ => Ok(TypeDef::from(TypeDefVariant::from(variants(alloc, &[0, 1])?))),
-    }
-}
-
-/// The sequences and the arrays, which come after enums.
-fn sequence_or_array(number: u32) -> Result<TypeDef<PortableForm>, Fail> {
-    match number {
-        6 => Ok(sequence(0)),
-        7 => Ok(sequence(1)),
-        8 => Ok(TypeDef::from(TypeDefArray::new(0, id(1)))),
-        9 => Ok(TypeDef::from(TypeDefArray::new(1, id(0)))),
-        _ => Ok(TypeDef::from(TypeDefArray::new(1, id(1)))),
-    }
-}
-
-/// The definitions that come after composites, variants, sequences, arrays and tuples.
-fn after_tuples(number: u32) -> Result<TypeDef<PortableForm>, Fail> {
-    match number {
-        14..=28 => Ok(TypeDef::from(PRIMITIVES[(number - 14) as usize])),
-        29 => Ok(TypeDef::from(TypeDefCompact::new(id(0)))),
-        30 => Ok(TypeDef::from(TypeDefCompact::new(id(1)))),
-        31 => Ok(TypeDef::from(TypeDefBitSequence::new_portable(id(0), id(1)))),
-        32 => Ok(TypeDef::from(TypeDefBitSequence::new_portable(id(1), id(0)))),
-        33 => Ok(TypeDef::from(TypeDefBitSequence::new_portable(id(1), id(1)))),
-        _ => Err(Fail::new("no definition has this number")),
-    }
-}
+/// Definitions of each kind, with their encodings.
+const DEFINITIONS: &str = "\
+a composite of no fields: 00 00
+a composite of 0: 00 04 00000000
+a composite of 0 and 1: 00 08 00000000 00040000
+an enum of no variants: 01 00
+an enum of a variant of 0: 01 04 0456 04 00000000 00 00
+an enum of variants of 0 and of 1: 01 08 0456 04 00000000 00 00 0456 04 00040000 00 00
+a sequence of 0: 02 00
+a sequence of 1: 02 04
+an array of no items of 1: 03 00000000 04
+an array of one item of 0: 03 01000000 00
+an array of one item of 1: 03 01000000 04
+a tuple of nothing: 04 00
+a tuple of 0 and 0: 04 08 00 00
+a tuple of 1: 04 04 04
+bool: 05 00
+char: 05 01
+str: 05 02
+u8: 05 03
+u16: 05 04
+u32: 05 05
+u64: 05 06
+u128: 05 07
+u256: 05 08
+i8: 05 09
+i16: 05 0a
+i32: 05 0b
+i64: 05 0c
+i128: 05 0d
+i256: 05 0e
+a compact 0: 06 00
+a compact 1: 06 04
+bits in 0 by the order 1: 07 00 04
+bits in 1 by the order 0: 07 04 00
+bits in 1 by the order 1: 07 04 04
+a map from 1 to 9: 08 04 24
+a map from 2 to 1: 08 08 04
+a map from 2 to 3: 08 08 0c
+";
 
 #[test]
 fn definitions_are_ordered_by_kind_and_then_by_their_parts(rt: HostRuntime) -> Result<(), Fail> {
-    let mut all = Vec::new(rt.alloc());
-    for number in 0..DEFINITIONS {
-        all.push(definition(rt.alloc(), number)?)?;
-    }
-    ascends(&rt, &all);
-    Ok(())
+    rows_ascend::<TypeDef<PortableForm>>(&rt, rt.alloc(), DEFINITIONS)
 }
 
 /// A head, numbers and the heads of arguments.

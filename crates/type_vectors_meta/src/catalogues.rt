@@ -1,6 +1,6 @@
 //! Catalogues: what is added, what is refused, and what is found.
 use crate::asserts::is;
-use crate::rows::plain;
+use crate::identities::plain;
 use scale_info::meta_type::{Catalogue, CatalogueError};
 use scale_info::{MetaType, Type, TypeDef, TypeInfo};
 use std::test::Fail;

@@ -1,6 +1,5 @@
 //! Standard types with type arguments, `PhantomData`, and what leaves it out.
 use crate::asserts::is;
-use crate::shown::shown;
 use scale_info::impls::{Compact, SliceOf};
 use std::alloc::Global;
 use std::borrow::Cow;
@@ -9,6 +8,7 @@ use std::marker::PhantomData;
 use std::num::NonZeroU32;
 use std::ops::{Range, RangeInclusive};
 use std::test::Fail;
+use type_vectors_common::shown::shown;
 
 /// A type by its name, and what it is.
 type Case = (&'static str, &'static str);

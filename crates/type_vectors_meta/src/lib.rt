@@ -1,4 +1,4 @@
-//! Tests of identities, descriptions of standard types and catalogues.
+//! Tests of what a program describes: standard types, catalogues, builders and macros.
 #![tactic(auto)]
 
 #[cfg(test)]
@@ -8,16 +8,26 @@ mod catalogues;
 #[cfg(test)]
 mod errors;
 #[cfg(test)]
+mod fields;
+#[cfg(test)]
 mod generics;
 #[cfg(test)]
-mod rows;
+mod identities;
 #[cfg(test)]
-mod shown;
+mod lists;
+#[cfg(test)]
+mod phantom;
 #[cfg(test)]
 mod standard;
+#[cfg(test)]
+mod structs;
+#[cfg(test)]
+mod tables;
 #[cfg(test)]
 mod tree;
 #[cfg(test)]
 mod tuples;
 #[cfg(test)]
 mod values;
+#[cfg(test)]
+mod variants;

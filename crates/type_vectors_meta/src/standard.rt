@@ -1,181 +1,113 @@
-//! Each standard type, compared with its row of the tables.
+//! Built-in types, texts, sequences, arrays and pointers.
 use crate::asserts::is;
-use crate::rows::{Row, bit_types, is_row, of, of_u8, plain};
-use scale_info::impls::{Compact, SliceOf, StrType, meta_type};
-use scale_info::meta_type::{Identified, InfoError};
-use scale_info::{StaticTypeInfo, Type, TypeDefBitSequence, TypeId, TypeInfo};
-use std::alloc::{AllocError, Global};
+use scale_info::impls::{Compact, SliceOf, StrType};
+use scale_info::meta_type::InfoError;
+use scale_info::{TypeDefBitSequence, TypeInfo};
+use std::alloc::Global;
 use std::collections::VecDeque;
-use std::process::Abort;
 use std::rc::Rc;
 use std::test::Fail;
+use type_vectors_common::shown::{definition, shown};
 
-/// Asserts that a type is the built-in one of this name.
-fn is_built_in<T: StaticTypeInfo>(
-    rt: &impl Abort,
-    alloc: Global,
-    name: &'static str,
-) -> Result<(), Fail> {
-    let row = Row {
-        own: plain(alloc, name),
-        identity: plain(alloc, name),
-        kind: name,
-        len: 0,
-        reference: None,
-    };
-    is_row::<T>(rt, alloc, name, row)
-}
+/// A type by its name, and what it is.
+type Case = (&'static str, &'static str);
 
-/// Asserts that a type is a text whose own identity has these heads.
-fn is_text<T: TypeInfo>(
-    rt: &impl Abort,
-    alloc: Global,
-    name: &str,
-    own: TypeId,
-) -> Result<(), Fail> {
-    let row = Row {
-        own,
-        identity: plain(alloc, "str"),
-        kind: "str",
-        len: 0,
-        reference: None,
-    };
-    is_row::<T>(rt, alloc, name, row)
-}
+/// Each built-in type.
+const BUILT_IN: [Case; 12] = [
+    ("bool", "bool is : bool"),
+    ("char", "char is : char"),
+    ("u8", "u8 is : u8"),
+    ("u16", "u16 is : u16"),
+    ("u32", "u32 is : u32"),
+    ("u64", "u64 is : u64"),
+    ("u128", "u128 is : u128"),
+    ("i8", "i8 is : i8"),
+    ("i16", "i16 is : i16"),
+    ("i32", "i32 is : i32"),
+    ("i64", "i64 is : i64"),
+    ("i128", "i128 is : i128"),
+];
 
-/// Asserts that a type is a sequence of `u8` with this own identity.
-fn is_sequence<T: TypeInfo>(
-    rt: &impl Abort,
-    alloc: Global,
-    name: &str,
-    own: TypeId,
-) -> Result<(), Fail> {
-    let row = Row {
-        own,
-        identity: of_u8(alloc, "slice")?,
-        kind: "sequence",
-        len: 0,
-        reference: Some(plain(alloc, "u8")),
-    };
-    is_row::<T>(rt, alloc, name, row)
-}
-
-/// Asserts that a type is a pointer to `u8` with this head.
-fn is_pointer<T: TypeInfo>(rt: &impl Abort, alloc: Global, head: &'static str) -> Result<(), Fail> {
-    let row = Row {
-        own: of_u8(alloc, head)?,
-        identity: plain(alloc, "u8"),
-        kind: "u8",
-        len: 0,
-        reference: None,
-    };
-    is_row::<T>(rt, alloc, head, row)
+/// What the built-in type of this name is.
+fn of_built_in(alloc: Global, name: &str) -> Result<String, Fail> {
+    match name {
+        "bool" => shown::<bool>(alloc),
+        "char" => shown::<char>(alloc),
+        "u8" => shown::<u8>(alloc),
+        "u16" => shown::<u16>(alloc),
+        "u32" => shown::<u32>(alloc),
+        "u64" => shown::<u64>(alloc),
+        "u128" => shown::<u128>(alloc),
+        "i8" => shown::<i8>(alloc),
+        "i16" => shown::<i16>(alloc),
+        "i32" => shown::<i32>(alloc),
+        "i64" => shown::<i64>(alloc),
+        _ => shown::<i128>(alloc),
+    }
 }
 
 #[test]
-fn bool_and_char(rt: HostRuntime) -> Result<(), Fail> {
-    is_built_in::<bool>(&rt, rt.alloc(), "bool")?;
-    is_built_in::<char>(&rt, rt.alloc(), "char")
-}
-
-#[test]
-fn unsigned_numbers(rt: HostRuntime) -> Result<(), Fail> {
-    is_built_in::<u8>(&rt, rt.alloc(), "u8")?;
-    is_built_in::<u16>(&rt, rt.alloc(), "u16")?;
-    is_built_in::<u32>(&rt, rt.alloc(), "u32")?;
-    is_built_in::<u64>(&rt, rt.alloc(), "u64")?;
-    is_built_in::<u128>(&rt, rt.alloc(), "u128")?;
+fn built_in_types(rt: HostRuntime) -> Result<(), Fail> {
+    for case in &BUILT_IN {
+        let found = of_built_in(rt.alloc(), case.0)?;
+        is(&rt, case.0, found.as_str(), case.1);
+    }
     Ok(())
 }
 
+/// Texts, sequences, pointers, compact numbers, and the longest array.
+const CASES: [Case; 14] = [
+    ("StrType", "str is : str"),
+    ("String", "String by str is : str"),
+    ("SliceOf<u8>", "(slice u8) is : sequence u8"),
+    ("Vec<u8>", "(Vec u8) by (slice u8) is : sequence u8"),
+    (
+        "VecDeque<u8>",
+        "(VecDeque u8) by (slice u8) is : sequence u8",
+    ),
+    ("&[u8]", "(& (slice u8)) by (slice u8) is : sequence u8"),
+    ("Box<u8>", "(Box u8) by u8 is : u8"),
+    ("Rc<u8>", "(Rc u8) by u8 is : u8"),
+    ("&u8", "(& u8) by u8 is : u8"),
+    ("&mut u8", "(&mut u8) by u8 is : u8"),
+    ("Compact<u8>", "(Compact u8) is : compact u8"),
+    ("Box<Box<u8>>", "(Box (Box u8)) by (Box u8) is : u8"),
+    (
+        "Vec<Box<u8>>",
+        "(Vec (Box u8)) by (slice (Box u8)) is : sequence u8",
+    ),
+    (
+        "[u8; 4294967295]",
+        "(array 4294967295 u8) is : array 4294967295 u8",
+    ),
+];
+
+/// What the type of the case is.
+fn of_case(alloc: Global, name: &str) -> Result<String, Fail> {
+    match name {
+        "StrType" => shown::<StrType>(alloc),
+        "String" => shown::<String>(alloc),
+        "SliceOf<u8>" => shown::<SliceOf<u8>>(alloc),
+        "Vec<u8>" => shown::<Vec<u8>>(alloc),
+        "VecDeque<u8>" => shown::<VecDeque<u8>>(alloc),
+        "&[u8]" => shown::<&[u8]>(alloc),
+        "Box<u8>" => shown::<Box<u8>>(alloc),
+        "Rc<u8>" => shown::<Rc<u8>>(alloc),
+        "&u8" => shown::<&u8>(alloc),
+        "&mut u8" => shown::<&mut u8>(alloc),
+        "Compact<u8>" => shown::<Compact<u8>>(alloc),
+        "Box<Box<u8>>" => shown::<Box<Box<u8>>>(alloc),
+        "Vec<Box<u8>>" => shown::<Vec<Box<u8>>>(alloc),
+        _ => shown::<[u8; 4294967295]>(alloc),
+    }
+}
+
 #[test]
-fn signed_numbers(rt: HostRuntime) -> Result<(), Fail> {
-    is_built_in::<i8>(&rt, rt.alloc(), "i8")?;
-    is_built_in::<i16>(&rt, rt.alloc(), "i16")?;
-    is_built_in::<i32>(&rt, rt.alloc(), "i32")?;
-    is_built_in::<i64>(&rt, rt.alloc(), "i64")?;
-    is_built_in::<i128>(&rt, rt.alloc(), "i128")?;
+fn texts_sequences_pointers_and_arrays(rt: HostRuntime) -> Result<(), Fail> {
+    for case in &CASES {
+        is(&rt, case.0, of_case(rt.alloc(), case.0)?.as_str(), case.1);
+    }
     Ok(())
-}
-
-#[test]
-fn texts(rt: HostRuntime) -> Result<(), Fail> {
-    let alloc = rt.alloc();
-    let reference = of(alloc, "&", plain(alloc, "str"))?;
-    is_text::<StrType>(&rt, alloc, "StrType", plain(alloc, "str"))?;
-    is_text::<String>(&rt, alloc, "String", plain(alloc, "String"))?;
-    is_text::<&str>(&rt, alloc, "&str", reference)
-}
-
-/// The identity of a reference to a list of `u8`.
-fn reference(alloc: Global) -> Result<TypeId, AllocError> {
-    of(alloc, "&", of_u8(alloc, "slice")?)
-}
-
-#[test]
-fn sequences(rt: HostRuntime) -> Result<(), Fail> {
-    let alloc = rt.alloc();
-    is_sequence::<SliceOf<u8>>(&rt, alloc, "SliceOf", of_u8(alloc, "slice")?)?;
-    is_sequence::<Vec<u8>>(&rt, alloc, "Vec", of_u8(alloc, "Vec")?)?;
-    is_sequence::<VecDeque<u8>>(&rt, alloc, "VecDeque", of_u8(alloc, "VecDeque")?)?;
-    is_sequence::<&[u8]>(&rt, alloc, "&[u8]", reference(alloc)?)
-}
-
-#[test]
-fn pointers(rt: HostRuntime) -> Result<(), Fail> {
-    is_pointer::<Box<u8>>(&rt, rt.alloc(), "Box")?;
-    is_pointer::<Rc<u8>>(&rt, rt.alloc(), "Rc")?;
-    is_pointer::<&u8>(&rt, rt.alloc(), "&")?;
-    is_pointer::<&mut u8>(&rt, rt.alloc(), "&mut")
-}
-
-#[test]
-fn compact_numbers(rt: HostRuntime) -> Result<(), Fail> {
-    let alloc = rt.alloc();
-    let row = Row {
-        own: of_u8(alloc, "Compact")?,
-        identity: of_u8(alloc, "Compact")?,
-        kind: "compact",
-        len: 0,
-        reference: Some(plain(alloc, "u8")),
-    };
-    is_row::<Compact<u8>>(&rt, alloc, "Compact<u8>", row)
-}
-
-/// The description of the bit sequence with these types.
-fn bits(alloc: Global) -> Result<Type, Fail> {
-    let bits = TypeDefBitSequence::new::<Box<u8>, bool>(alloc)?;
-    Ok(Type::from_def(alloc, bits))
-}
-
-/// Asserts that a description is of a bit sequence with the types `u8` and `bool`.
-fn are_bits(rt: &impl Abort, alloc: Global, ty: &Type) -> Result<(), Fail> {
-    let Some((store, order)) = bit_types(ty) else {
-        return Err(Fail::new("it is no bit sequence"));
-    };
-    is(rt, "store", store.type_id(), &plain(alloc, "u8"));
-    is(rt, "order", order.type_id(), &plain(alloc, "bool"));
-    Ok(())
-}
-
-#[test]
-fn bit_sequences(rt: HostRuntime) -> Result<(), Fail> {
-    are_bits(&rt, rt.alloc(), &bits(rt.alloc())?)
-}
-
-#[test]
-fn the_longest_array(rt: HostRuntime) -> Result<(), Fail> {
-    let alloc = rt.alloc();
-    let lens = vec![in alloc; 4294967295]?;
-    let identity = TypeId::new("array", lens, vec![in alloc; plain(alloc, "u8")]?);
-    let row = Row {
-        own: <[u8; 4294967295]>::type_id(alloc)?,
-        identity,
-        kind: "array",
-        len: 4294967295,
-        reference: Some(plain(alloc, "u8")),
-    };
-    is_row::<[u8; 4294967295]>(&rt, alloc, "[u8; 4294967295]", row)
 }
 
 #[test]
@@ -186,13 +118,9 @@ fn an_array_that_is_too_long(rt: HostRuntime) -> Result<(), Fail> {
 }
 
 #[test]
-fn pointers_to_pointers(rt: HostRuntime) -> Result<(), Fail> {
-    let alloc = rt.alloc();
-    let boxed = of_u8(alloc, "Box")?;
-    let boxes = meta_type::<Box<Box<u8>>>(alloc)?;
-    is(&rt, "Box<Box<u8>>", boxes.type_id(), &boxed);
-    let slice = of(alloc, "slice", boxed)?;
-    let list = meta_type::<Vec<Box<u8>>>(alloc)?;
-    is(&rt, "Vec<Box<u8>>", list.type_id(), &slice);
+fn bit_sequences(rt: HostRuntime) -> Result<(), Fail> {
+    let bits = TypeDefBitSequence::new::<Box<u8>, bool>(rt.alloc())?;
+    let found = definition(rt.alloc(), &bits)?;
+    is(&rt, "store and order", found.as_str(), "bits u8 bool");
     Ok(())
 }

@@ -4,7 +4,7 @@ ghost use Rattle.scale_info_type_info.specs.StandardTypes.{slice_description};
 ghost use Rattle.scale_info_type_ids.specs.StandardTerms.{named};
 
 use crate::asserts::is;
-use crate::rows::plain;
+use crate::identities::plain;
 use scale_info::impls::meta_type;
 use scale_info::meta_type::{Catalogue, HasIdentity, Identified, InfoError};
 use scale_info::{Type, TypeDefSequence, TypeId, TypeInfo};

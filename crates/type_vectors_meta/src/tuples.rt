@@ -1,11 +1,11 @@
 //! Tuples of each number of members.
 use crate::asserts::is;
-use crate::shown::shown;
 use std::alloc::{AllocError, Global};
 use std::num::{
     NonZeroI8, NonZeroI16, NonZeroI32, NonZeroU8, NonZeroU16, NonZeroU32, NonZeroU64, NonZeroU128,
 };
 use std::test::Fail;
+use type_vectors_common::shown::shown;
 
 type A = u8;
 

@@ -1,6 +1,5 @@
 //! Numbers that are not zero, and lengths of time.
 use crate::asserts::is;
-use crate::shown::shown;
 use std::alloc::Global;
 use std::num::{
     NonZeroI8, NonZeroI16, NonZeroI32, NonZeroI64, NonZeroI128, NonZeroU8, NonZeroU16, NonZeroU32,
@@ -8,6 +7,7 @@ use std::num::{
 };
 use std::test::Fail;
 use std::time::Duration;
+use type_vectors_common::shown::shown;
 
 /// Each type by its name, and what it is.
 const CASES: [(&str, &str); 11] = [

@@ -1,16 +1,13 @@
 //! Tables: what an id resolves to, and tables that are built at run time.
 use crate::asserts::{holds, is, same};
 use scale_info::form::PortableForm;
-use scale_info::{
-    PortableRegistry, PortableRegistryBuilder, Type, TypeDef, TypeDefComposite, TypeDefMap,
-    TypeDefPrimitive,
-};
+use scale_info::{DecodeError, PortableRegistry, PortableRegistryBuilder, Scale, Type};
 use std::alloc::Global;
 use std::process::Abort;
 use std::test::Fail;
 use type_vectors_common::chains::chain;
-use type_vectors_common::parts::{id, sequence, unnamed_fields};
-use type_vectors_common::rows::{TABLES, decoded, rows};
+use type_vectors_common::parts::sequence;
+use type_vectors_common::rows::{Row, TABLES, decoded, encoding, row_bytes, rows};
 
 /// Whether the first id past the end of a table and the greatest id resolve to none.
 fn ends(table: &PortableRegistry) -> bool {
@@ -29,41 +26,46 @@ fn resolves_by_index(table: &PortableRegistry) -> bool {
     ends(table)
 }
 
+/// Whether the ids of the table of a row are its indices.
+fn row_resolves(alloc: Global, row: &Row) -> Result<bool, Fail> {
+    Ok(resolves_by_index(&decoded(alloc, row)?))
+}
+
 #[test]
 fn an_id_resolves_to_the_description_at_its_index(rt: HostRuntime) -> Result<(), Fail> {
-    let tables = rows(rt.alloc(), TABLES)?;
-    for row in &tables {
-        let table = decoded(rt.alloc(), row)?;
-        holds(&rt, row.name, resolves_by_index(&table));
+    for row in &rows(rt.alloc(), TABLES)? {
+        holds(&rt, row.name, row_resolves(rt.alloc(), row)?);
     }
     Ok(())
 }
 
-/// The struct of the types of these ids.
-fn composite(alloc: Global, types: &[u32]) -> Result<TypeDef<PortableForm>, Fail> {
-    Ok(TypeDef::from(TypeDefComposite::from(unnamed_fields(alloc, types)?)))
-}
+/// The descriptions of a table of five, in the order of their ids.
+const FIVE: &str = "\
+u32: 00 00 0505 00
+a sequence of it: 00 00 0200 00
+a struct of both and of itself: 00 00 000c 00000000 00040000 00080000 00
+a map: 00 00 080408 00
+the map the other way round: 00 00 080804 00
+";
 
-/// The map of these types.
-fn map(key: u32, value: u32) -> TypeDef<PortableForm> {
-    TypeDef::from(TypeDefMap::new(id(key), id(value)))
-}
+/// The table of these descriptions.
+const TABLE: &str = "\
+    14 00 0000050500 04 0000020000 08 0000000c00000000000400000008000000 0c 000008040800 \
+    10 000008080400";
 
-/// Definitions of a table of five: `u32`, a sequence of it, a struct of both and of itself, and two
-/// maps.
-fn definition(alloc: Global, id: u32) -> Result<TypeDef<PortableForm>, Fail> {
-    match id {
-        0 => Ok(TypeDef::from(TypeDefPrimitive::U32)),
-        1 => Ok(sequence(0)),
-        2 => composite(alloc, &[0, 1, 2]),
-        3 => Ok(map(1, 2)),
-        _ => Ok(map(2, 1)),
-    }
+/// The description whose encoding the row is.
+fn described(alloc: Global, row: &Row) -> Result<Type<PortableForm>, DecodeError> {
+    let (ty, _) = Type::<PortableForm>::decode_from(alloc, &row.bytes)?;
+    Ok(ty)
 }
 
 /// The description with this id in the table of five.
 fn worked(alloc: Global, id: u32) -> Result<Type<PortableForm>, Fail> {
-    Ok(Type::from_def(alloc, definition(alloc, id)?))
+    let all = rows(alloc, FIVE)?;
+    match all.get(id as usize) {
+        Some(row) => Ok(described(alloc, row)?),
+        None => Err(Fail::new("no description has this id")),
+    }
 }
 
 /// The id that registering a description of the table of five gives, and the next one.
@@ -134,19 +136,12 @@ fn finished(alloc: Global, builder: PortableRegistryBuilder) -> Result<PortableR
     Ok(builder.finish(alloc)?)
 }
 
-/// Asserts that a table resolves the ids of the table of five as it does, and the id 5 to none.
-fn has_worked(rt: &impl Abort, alloc: Global, table: &PortableRegistry) -> Result<(), Fail> {
-    for id in 0..6 {
-        let is_found = is_worked(alloc, id, table.resolve(id))?;
-        is(rt, "id", (id, is_found), (id, true));
-    }
-    Ok(())
-}
-
 #[test]
 fn a_finished_table_has_what_was_registered(rt: HostRuntime) -> Result<(), Fail> {
     let table = finished(rt.alloc(), built(rt.alloc())?)?;
-    has_worked(&rt, rt.alloc(), &table)
+    let found = encoding(rt.alloc(), table)?;
+    is(&rt, "table", &found, &row_bytes(rt.alloc(), TABLE)?);
+    Ok(())
 }
 
 /// The id of a sequence of this type, which is registered if it is new.
@@ -168,15 +163,20 @@ fn registers_a_chain(
     Ok(())
 }
 
+/// The table of 100000 sequences that are registered twice.
+fn registered_twice(rt: &impl Abort, alloc: Global) -> Result<PortableRegistry, Fail> {
+    let mut builder = PortableRegistryBuilder::new(alloc);
+    registers_a_chain(rt, alloc, &mut builder, 100000)?;
+    registers_a_chain(rt, alloc, &mut builder, 100000)?;
+    is(rt, "next id", builder.next_type_id(), 100000);
+    finished(alloc, builder)
+}
+
 /// The last of them refers past the end of the table. The test's limit of 60 seconds alone bounds
 /// the time, which one comparison with each earlier description at each call would not keep.
 #[test]
 fn a_hundred_thousand_descriptions_are_registered_twice(rt: HostRuntime) -> Result<(), Fail> {
-    let mut builder = PortableRegistryBuilder::new(rt.alloc());
-    registers_a_chain(&rt, rt.alloc(), &mut builder, 100000)?;
-    registers_a_chain(&rt, rt.alloc(), &mut builder, 100000)?;
-    is(&rt, "next id", builder.next_type_id(), 100000);
     let wanted = chain(rt.alloc(), 100000, sequence(100000))?;
-    same(&rt, "chain", &finished(rt.alloc(), builder)?, &wanted);
+    same(&rt, "chain", &registered_twice(&rt, rt.alloc())?, &wanted);
     Ok(())
 }

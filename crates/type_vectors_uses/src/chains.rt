@@ -52,7 +52,7 @@ fn the_recursive_walk_agrees_on_a_chain_of_1000_types(rt: HostRuntime) -> Result
 
 #[test]
 fn a_chain_is_pruned_from_its_first_type(rt: HostRuntime) -> Result<(), Fail> {
-    let bytes = encoding(rt.alloc(), &chain_to_bool(rt.alloc(), 100000)?)?;
+    let bytes = chain_bytes(rt.alloc(), 100000)?;
     is(&rt, "length", bytes.len(), 1134340);
     holds(&rt, "count", bytes.starts_with(&[0x82, 0x1a, 0x06, 0x00]));
     let mut output = Vec::new(rt.alloc());
@@ -62,19 +62,32 @@ fn a_chain_is_pruned_from_its_first_type(rt: HostRuntime) -> Result<(), Fail> {
     Ok(())
 }
 
+/// What is pruned from this id, and how many types it has.
+fn pruned(alloc: Global, bytes: &[u8], id: u32) -> Result<(Vec<u8>, usize), Fail> {
+    let mut output = Vec::new(alloc);
+    let new_ids = prune(alloc, bytes, &[id], &mut output)?;
+    Ok((output, new_ids.len()))
+}
+
+/// A chain of so many types, as bytes.
+fn chain_bytes(alloc: Global, count: u32) -> Result<Vec<u8>, Fail> {
+    encoding(alloc, &chain_to_bool(alloc, count)?)
+}
+
 #[test]
 fn a_chain_is_pruned_from_its_middle_and_its_end(rt: HostRuntime) -> Result<(), Fail> {
-    let bytes = encoding(rt.alloc(), &chain_to_bool(rt.alloc(), 100000)?)?;
-    let half = encoding(rt.alloc(), &chain_to_bool(rt.alloc(), 50000)?)?;
-    let mut output = Vec::new(rt.alloc());
-    let new_ids = prune(rt.alloc(), &bytes, &[50000], &mut output)?;
-    holds(&rt, "half", new_ids.len() == 50000 && output == half);
-    output.clear();
-    prune(rt.alloc(), &bytes, &[99999], &mut output)?;
+    let bytes = chain_bytes(rt.alloc(), 100000)?;
+    let half = pruned(rt.alloc(), &bytes, 50000)?;
+    holds(
+        &rt,
+        "half",
+        half == (chain_bytes(rt.alloc(), 50000)?, 50000),
+    );
+    let end = pruned(rt.alloc(), &bytes, 99999)?;
     is(
         &rt,
         "end",
-        output.as_slice(),
+        end.0.as_slice(),
         [4, 0, 0, 0, 5, 0, 0].as_slice(),
     );
     Ok(())

@@ -19,37 +19,52 @@ fn maps_so(rt: &impl Abort, name: &str, map: &BTreeMap<u32, u32>, pairs: &[u32])
     }
 }
 
-/// Asserts that what the chosen ids reach is written as this table.
+/// The chosen ids, and each old id that is kept with its new one.
+type Case = (&'static [u32], &'static [u32]);
+
+/// Asserts that what the chosen ids of the case reach is written as this table, with its new ids.
 fn is_written(
     rt: &impl Abort,
     alloc: Global,
     known: &Catalogue,
     types: &[MetaType],
-    chosen: &[u32],
-    wanted: &str,
-) -> Result<BTreeMap<u32, u32>, Fail> {
+    table: &str,
+    case: Case,
+) -> Result<(), Fail> {
+    let (chosen, pairs) = case;
+    let wanted = row_bytes(alloc, table)?;
     let mut out = Vec::new(alloc);
     let exported = export(known, types, |id| chosen.contains(&id), &mut out)?;
-    is(rt, wanted, out, row_bytes(alloc, wanted)?);
-    Ok(exported.map)
+    is(rt, table, out, wanted);
+    maps_so(rt, table, &exported.map, pairs);
+    Ok(())
 }
 
 /// The table of `Vec<u32>`.
 const VEC_U32: &str = "08 000000020400 040000050500";
+
+/// Adds `Vec<u32>` and `u32`.
+fn add_vector(known: &mut Catalogue) -> Result<bool, CatalogueError> {
+    known.add::<Vec<u32>>()?;
+    known.add::<u32>()
+}
 
 /// `u32` is written with the vector, whether it is chosen or not.
 #[test]
 fn a_reached_type_may_be_chosen_too(rt: HostRuntime) -> Result<(), Fail> {
     let alloc = rt.alloc();
     let mut known = Catalogue::new(alloc);
-    known.add::<Vec<u32>>()?;
-    known.add::<u32>()?;
+    add_vector(&mut known)?;
     let types = tuple_meta_type!(alloc; Vec<u32>, u32)?;
-    let first = is_written(&rt, alloc, &known, &types, &[0], VEC_U32)?;
-    maps_so(&rt, "the vector", &first, &[0, 0, 1, 1]);
-    let both = is_written(&rt, alloc, &known, &types, &[0, 1], VEC_U32)?;
-    maps_so(&rt, "both", &both, &[0, 0, 1, 1]);
-    Ok(())
+    is_written(&rt, alloc, &known, &types, VEC_U32, (&[0], &[0, 0, 1, 1]))?;
+    is_written(
+        &rt,
+        alloc,
+        &known,
+        &types,
+        VEC_U32,
+        (&[0, 1], &[0, 0, 1, 1]),
+    )
 }
 
 /// The description of a sequence of this type.
@@ -68,18 +83,34 @@ fn add_sequence<T: Identified, U: HasIdentity>(
 /// Three sequences, each of the next and the last of the first.
 const CYCLE: &str = "0c 000000020400 040000020800 080000020000";
 
-/// The new ids tell from which type the walk began.
+/// Adds three types, each a sequence of the next, and the last of the first.
+fn add_cycle(alloc: Global, known: &mut Catalogue) -> Result<bool, CatalogueError> {
+    add_sequence::<Own<0>, Own<1>>(alloc, known)?;
+    add_sequence::<Own<1>, Own<2>>(alloc, known)?;
+    add_sequence::<Own<2>, Own<0>>(alloc, known)
+}
+
+/// The new ids say from which type the walk began.
 #[test]
 fn a_cycle_is_written_alike_from_each_type(rt: HostRuntime) -> Result<(), Fail> {
     let alloc = rt.alloc();
     let mut known = Catalogue::new(alloc);
-    add_sequence::<Own<0>, Own<1>>(alloc, &mut known)?;
-    add_sequence::<Own<1>, Own<2>>(alloc, &mut known)?;
-    add_sequence::<Own<2>, Own<0>>(alloc, &mut known)?;
+    add_cycle(alloc, &mut known)?;
     let types = tuple_meta_type!(alloc; Own<0>, Own<1>, Own<2>)?;
-    let first = is_written(&rt, alloc, &known, &types, &[0], CYCLE)?;
-    maps_so(&rt, "from the first", &first, &[0, 0, 1, 1, 2, 2]);
-    let last = is_written(&rt, alloc, &known, &types, &[2], CYCLE)?;
-    maps_so(&rt, "from the last", &last, &[0, 1, 1, 2, 2, 0]);
-    Ok(())
+    is_written(
+        &rt,
+        alloc,
+        &known,
+        &types,
+        CYCLE,
+        (&[0], &[0, 0, 1, 1, 2, 2]),
+    )?;
+    is_written(
+        &rt,
+        alloc,
+        &known,
+        &types,
+        CYCLE,
+        (&[2], &[0, 1, 1, 2, 2, 0]),
+    )
 }

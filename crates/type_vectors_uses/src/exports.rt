@@ -1,29 +1,31 @@
 //! What is written for some types, which the filter chooses by their ids.
-use crate::asserts::{holds, is};
+use crate::asserts::is;
 use scale_info::export::export;
 use scale_info::impls::meta_type;
-use scale_info::meta_type::Catalogue;
-use scale_info::{MetaType, PortableRegistry, Registry};
+use scale_info::meta_type::{Catalogue, CatalogueError};
+use scale_info::{MetaType, PortableRegistry, Registry, tuple_meta_type};
 use std::alloc::{AllocError, Global};
 use std::test::Fail;
-use type_vectors_common::lists::{list_of, with};
 
-/// A catalogue of `bool`, `u8`, `u32`, `String` and `Vec<u32>`.
-fn catalogue(alloc: Global) -> Result<Catalogue, Fail> {
-    let mut known = Catalogue::new(alloc);
+/// Adds `bool`, `u8`, `u32`, `String` and `Vec<u32>`.
+fn add_all(known: &mut Catalogue) -> Result<bool, CatalogueError> {
     known.add::<bool>()?;
     known.add::<u8>()?;
     known.add::<u32>()?;
     known.add::<String>()?;
-    known.add::<Vec<u32>>()?;
+    known.add::<Vec<u32>>()
+}
+
+/// A catalogue of these types.
+fn catalogue(alloc: Global) -> Result<Catalogue, Fail> {
+    let mut known = Catalogue::new(alloc);
+    add_all(&mut known)?;
     Ok(known)
 }
 
 /// `bool`, `Vec<u32>` and `String`.
-fn three(alloc: Global) -> Result<Vec<MetaType>, Fail> {
-    let first = meta_type::<bool>(alloc)?;
-    let second = meta_type::<Vec<u32>>(alloc)?;
-    Ok(vec![in alloc; first, second, meta_type::<String>(alloc)?]?)
+fn three(alloc: Global) -> Result<Vec<MetaType>, AllocError> {
+    tuple_meta_type!(alloc; bool, Vec<u32>, String)
 }
 
 #[test]
@@ -46,8 +48,7 @@ fn what_the_chosen_types_reach_is_appended(rt: HostRuntime) -> Result<(), Fail> 
 
 /// `u8` and a box of it, which are one type.
 fn u8_twice(alloc: Global) -> Result<Vec<MetaType>, AllocError> {
-    let first = list_of(alloc, meta_type::<u8>(alloc)?);
-    with(first, meta_type::<Box<u8>>(alloc))
+    tuple_meta_type!(alloc; u8, Box<u8>)
 }
 
 #[test]
@@ -87,20 +88,31 @@ fn written_and_more(alloc: Global, known: &Catalogue) -> Result<Vec<u8>, Fail> {
     Ok(out)
 }
 
+/// Registers `Vec<u32>`.
+fn register(alloc: Global, registry: &mut Registry, known: &Catalogue) -> Result<(), Fail> {
+    registry.register_type(&meta_type::<Vec<u32>>(alloc)?, known)?;
+    Ok(())
+}
+
 /// The table of `Vec<u32>`, registered afresh.
 fn afresh(alloc: Global, known: &Catalogue) -> Result<PortableRegistry, Fail> {
     let mut registry = Registry::new(alloc);
-    registry.register_type(&meta_type::<Vec<u32>>(alloc)?, known)?;
+    register(alloc, &mut registry, known)?;
     Ok(PortableRegistry::from_registry(alloc, &registry)?)
+}
+
+/// Whether bytes begin with the table of `Vec<u32>`, and how many are left.
+fn begin_with_table(alloc: Global, known: &Catalogue, bytes: &[u8]) -> Result<(bool, usize), Fail> {
+    let wanted = afresh(alloc, known)?;
+    let (table, rest) = PortableRegistry::decode(alloc, bytes)?;
+    Ok((table == wanted, rest.len()))
 }
 
 #[test]
 fn what_is_written_is_decoded_before_other_bytes(rt: HostRuntime) -> Result<(), Fail> {
-    let alloc = rt.alloc();
-    let known = catalogue(alloc)?;
-    let bytes = written_and_more(alloc, &known)?;
-    let (table, rest) = PortableRegistry::decode(alloc, &bytes)?;
-    is(&rt, "rest", rest, [0xffu8].as_slice());
-    holds(&rt, "table", table == afresh(alloc, &known)?);
+    let known = catalogue(rt.alloc())?;
+    let bytes = written_and_more(rt.alloc(), &known)?;
+    let found = begin_with_table(rt.alloc(), &known, &bytes)?;
+    is(&rt, "table and rest", found, (true, 1));
     Ok(())
 }

@@ -5,7 +5,7 @@ use std::alloc::Global;
 use std::collections::BTreeMap;
 use std::process::Abort;
 use std::test::Fail;
-use type_vectors_common::rows::{numbers, parted, row_bytes};
+use type_vectors_common::rows::{encoding, numbers, parted, row_bytes};
 
 /// A row is the chosen ids, a colon, a table, an arrow, the pruned table, another arrow, and each
 /// old id that is kept with its new one. The tables that `type_vectors_registry` registers are
@@ -90,15 +90,22 @@ fn maps_so(rt: &impl Abort, row: &str, new_ids: &BTreeMap<u32, u32>, pairs: &[u3
     }
 }
 
+/// What `retain` leaves of a table, and the new ids.
+fn retained(
+    alloc: Global,
+    input: &[u8],
+    chosen: &[u32],
+) -> Result<(Vec<u8>, BTreeMap<u32, u32>), Fail> {
+    let (mut table, _) = PortableRegistry::decode(alloc, input)?;
+    let new_ids = table.retain(alloc, |id| chosen.contains(&id))?;
+    Ok((encoding(alloc, table)?, new_ids))
+}
+
 #[test]
 fn retain_keeps_what_the_chosen_ids_reach(rt: HostRuntime) -> Result<(), Fail> {
-    let alloc = rt.alloc();
     for line in PRUNED.lines() {
-        let row = read_row(alloc, line)?;
-        let (mut table, _) = PortableRegistry::decode(alloc, &row.input)?;
-        let new_ids = table.retain(alloc, |id| row.chosen.contains(&id))?;
-        let mut output = Vec::new(alloc);
-        table.encode(&mut output)?;
+        let row = read_row(rt.alloc(), line)?;
+        let (output, new_ids) = retained(rt.alloc(), &row.input, &row.chosen)?;
         is(&rt, line, output, row.output);
         maps_so(&rt, line, &new_ids, &row.ids);
     }

@@ -3,13 +3,14 @@ use crate::asserts::{holds, is};
 use scale_info::build::{Fields, FieldsBuilder, NamedFields};
 use scale_info::form::PortableForm;
 use scale_info::{
-    Field, Items, Path, PortableRegistry, PortableRegistryBuilder, Text, Type, TypeDef,
-    TypeDefComposite, TypeDefPrimitive, TypeDefSequence,
+    Items, Path, PortableRegistry, PortableRegistryBuilder, Text, Type, TypeDefPrimitive,
+    TypeDefSequence,
 };
 use std::alloc::{AllocError, Global};
 use std::process::Abort;
 use std::test::Fail;
-use type_vectors_common::lists::{list_of, with};
+use type_vectors_common::lists::list_of;
+use type_vectors_common::rows::{encoding, row_bytes};
 
 /// The names of the fields; the field at an index has the type with that id.
 const NAMES: [&str; 3] = ["primitive", "vec_of_u32", "self_referential"];
@@ -43,28 +44,6 @@ fn path(alloc: Global) -> Result<Path<PortableForm>, AllocError> {
     Ok(Path::from(Items::from(segments)))
 }
 
-/// A field with this name and type, by its constructor.
-fn field(alloc: Global, name: &str, id: u32) -> Result<Field<PortableForm>, AllocError> {
-    let name = Text::from_str(alloc, name)?;
-    Ok(Field::new(Some(name), id.into(), None, Vec::new(alloc)))
-}
-
-/// The fields of the struct, by constructors.
-fn fields(alloc: Global) -> Result<Vec<Field<PortableForm>>, AllocError> {
-    let mut fields = Ok(Vec::new(alloc));
-    let mut id: u32 = 0;
-    for name in &NAMES {
-        fields = with(fields, field(alloc, name, id));
-        id = id.saturating_add(1);
-    }
-    fields
-}
-
-/// The definition of the struct, by constructors.
-fn definition(alloc: Global) -> Result<TypeDef<PortableForm>, AllocError> {
-    Ok(TypeDef::Composite(TypeDefComposite::from(fields(alloc)?)))
-}
-
 /// The description of the struct, by builders.
 fn built_struct(alloc: Global) -> Result<Type<PortableForm>, AllocError> {
     let path = path(alloc)?;
@@ -72,27 +51,16 @@ fn built_struct(alloc: Global) -> Result<Type<PortableForm>, AllocError> {
     Ok(Type::builder_portable(alloc).path(path).composite(fields))
 }
 
-/// Whether a description has the struct's path.
-fn has_path(alloc: Global, ty: &Type<PortableForm>) -> Result<bool, AllocError> {
-    Ok(ty.path == path(alloc)?)
-}
-
-/// Whether a description has the struct's fields, in order.
-fn has_fields(alloc: Global, ty: &Type<PortableForm>) -> Result<bool, AllocError> {
-    Ok(ty.type_def == definition(alloc)?)
-}
-
-/// Asserts that a description has the struct's path and its fields.
-fn is_struct(rt: &impl Abort, alloc: Global, ty: &Type<PortableForm>) -> Result<(), Fail> {
-    holds(rt, "path", has_path(alloc, ty)?);
-    holds(rt, "fields", has_fields(alloc, ty)?);
-    Ok(())
-}
+/// The encoding of the struct: its path, its fields, and no parameters and docs.
+const STRUCT: &str = "\
+    04 204d79537472756374 00 00 0c 01247072696d6974697665 00 00 00 \
+    01287665635f6f665f753332 04 00 00 014073656c665f7265666572656e7469616c 08 00 00 00";
 
 #[test]
 fn its_path_and_its_fields_are_as_they_are_given(rt: HostRuntime) -> Result<(), Fail> {
-    let built = built_struct(rt.alloc())?;
-    is_struct(&rt, rt.alloc(), &built)
+    let found = encoding(rt.alloc(), built_struct(rt.alloc())?)?;
+    is(&rt, "struct", &found, &row_bytes(rt.alloc(), STRUCT)?);
+    Ok(())
 }
 
 /// The description at an id of the table.
