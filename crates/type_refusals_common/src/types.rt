@@ -141,13 +141,24 @@ fn add_generic(catalogue: &mut Catalogue) -> Result<(), CatalogueError> {
     Ok(())
 }
 
+/// Adds the program's own types.
+fn add_own_types(alloc: Global, catalogue: &mut Catalogue) -> Result<(), CatalogueError> {
+    add_own(catalogue, Recursive::type_id(alloc)?, recursive(alloc))?;
+    add_own(catalogue, Bits::type_id(alloc)?, bits(alloc))?;
+    add_own(catalogue, Mapping::type_id(alloc)?, mapping(alloc))?;
+    Ok(())
+}
+
+/// Adds all types here.
+fn add_all(alloc: Global, catalogue: &mut Catalogue) -> Result<(), CatalogueError> {
+    add_plain(catalogue)?;
+    add_generic(catalogue)?;
+    add_own_types(alloc, catalogue)
+}
+
 /// The catalogue of all types here.
 pub fn catalogue(alloc: Global) -> Result<Catalogue, CatalogueError> {
     let mut all = Catalogue::new(alloc);
-    add_plain(&mut all)?;
-    add_generic(&mut all)?;
-    add_own(&mut all, Recursive::type_id(alloc)?, recursive(alloc))?;
-    add_own(&mut all, Bits::type_id(alloc)?, bits(alloc))?;
-    add_own(&mut all, Mapping::type_id(alloc)?, mapping(alloc))?;
+    add_all(alloc, &mut all)?;
     Ok(all)
 }

@@ -61,12 +61,16 @@ fn are_equal(alloc: Global, known: &Catalogue) -> Result<bool, RegisterError> {
     Ok(first == registry::<A, C>(alloc, known)?)
 }
 
+/// How many types the registry of `A` and `C` has.
+fn count_of_both(alloc: Global, known: &Catalogue) -> Result<usize, Fail> {
+    count(alloc, &registry::<A, C>(alloc, known)?)
+}
+
 #[test]
 fn the_order_of_calls_counts(rt: HostRuntime) -> Result<(), Fail> {
     let alloc = rt.alloc();
     let known = catalogue(alloc)?;
     is(&rt, "equal", are_equal(alloc, &known)?, false);
-    let registry = registry::<A, C>(alloc, &known)?;
-    is(&rt, "the types", count(alloc, &registry)?, 4);
+    is(&rt, "the types", count_of_both(alloc, &known)?, 4);
     Ok(())
 }

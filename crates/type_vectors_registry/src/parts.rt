@@ -6,6 +6,7 @@ use scale_info::meta_type::HasIdentity;
 use scale_info::{Field, Items, Path, Type, TypeDef, TypeDefTuple, TypeParameter, Variant};
 use std::alloc::{AllocError, Global};
 use type_vectors_common::lists::list_of;
+use type_vectors_common::results::both;
 
 /// A description in the making that has its path.
 pub type Begun = TypeBuilder<MetaForm, PathAssigned<MetaForm>>;
@@ -43,7 +44,7 @@ pub fn given<T: HasIdentity>(
     Ok(TypeParameter::new(name, Some(meta_type::<T>(alloc)?)))
 }
 
-/// A tuple of members of these types.
+/// A tuple of these types. It is generic, since the borrow checker does not cover it for one form.
 pub fn tuple<F: Form>(members: Result<Vec<F::Ty>, AllocError>) -> Result<TypeDef<F>, AllocError> {
     let fields = Items::from(members?);
     Ok(TypeDef::Tuple(TypeDefTuple { fields }))
@@ -55,8 +56,9 @@ pub fn begun(
     segments: Result<Vec<&'static str>, AllocError>,
     params: Result<Vec<TypeParameter>, AllocError>,
 ) -> Result<Begun, AllocError> {
-    let path = Path::from(Items::from(segments?));
-    Ok(Type::builder(alloc).path(path).type_params(params?))
+    let (segments, params) = both(segments, params)?;
+    let path = Path::from(Items::from(segments));
+    Ok(Type::builder(alloc).path(path).type_params(params))
 }
 
 /// The description of a composite of one segment, without docs.
@@ -66,8 +68,9 @@ pub fn composite(
     params: Result<Vec<TypeParameter>, AllocError>,
     fields: Result<Vec<Field>, AllocError>,
 ) -> Result<Type, AllocError> {
-    let builder = begun(alloc, list_of(alloc, name), params)?;
-    Ok(builder.composite(fields?))
+    let builder = begun(alloc, list_of(alloc, name), params);
+    let (builder, fields) = both(builder, fields)?;
+    Ok(builder.composite(fields))
 }
 
 /// The description of an enum with these lines of documentation.
@@ -77,6 +80,6 @@ pub fn enumeration(
     variants: Result<Vec<Variant>, AllocError>,
     docs: &[&'static str],
 ) -> Result<Type, AllocError> {
-    let builder = builder?.docs(alloc, docs)?;
-    Ok(builder.variant(variants?))
+    let (builder, variants) = both(builder, variants)?;
+    Ok(builder.docs(alloc, docs)?.variant(variants))
 }

@@ -3,20 +3,34 @@ use crate::asserts::{holds, is};
 use crate::described::catalogue;
 use crate::parts::{field, given, named, tuple, variant};
 use crate::registered::{count, is_written};
-use scale_info::form::{Form, MetaForm, PortableForm};
+use scale_info::form::MetaForm;
 use scale_info::impls::meta_type;
 use scale_info::meta_type::{Catalogue, CatalogueError, HasIdentity};
 use scale_info::{
-    Field, IntoPortable, Path, Registry, Type, TypeDef, TypeDefComposite, TypeDefSequence,
-    TypeDefVariant, TypeInfo, Variant, tuple_meta_type,
+    IntoPortable, Path, Registry, Scale, TypeDefComposite, TypeDefSequence, TypeInfo,
+    tuple_meta_type,
 };
 use scale_info_registry_callers::call::{Call, PortableCall};
 use std::alloc::{AllocError, Global};
 use std::process::Abort;
 use std::test::Fail;
 use type_vectors_common::lists::{list_of, with};
-use type_vectors_common::parts;
-use type_vectors_common::rows::{TABLES, row_named};
+use type_vectors_common::rows::{TABLES, encoding, row_named, rows};
+
+/// What values that hold `u8` alone leave as, with 0 for its id: a row is a name, a colon and the
+/// encoding.
+const LEFT: &str = "\
+a text: 0478
+a type: 00
+a parameter: 0454 0100
+a field: 010461 00 010441 00
+a variant: 0456 04 00000000 03 00
+a composite: 04 01046100 00 00
+a sequence: 02 00
+a tuple: 04 08 00 00
+Option<u8>: 04 184f7074696f6e 04 04540100 01 08 104e6f6e65 00 00 00 \
+    10536f6d65 04 00000000 01 00 00
+";
 
 /// The catalogue of `u8` alone.
 fn catalogue_of_u8(alloc: Global) -> Result<Catalogue, CatalogueError> {
@@ -25,133 +39,70 @@ fn catalogue_of_u8(alloc: Global) -> Result<Catalogue, CatalogueError> {
     Ok(known)
 }
 
-/// What a value that holds `u8` alone leaves as.
+/// The encoding of what a value leaves as.
 fn left<T: IntoPortable + Drop>(
     alloc: Global,
     registry: &mut Registry,
-    value: T,
-) -> Result<T::Output, Fail> {
+    value: Result<T, AllocError>,
+) -> Result<Vec<u8>, Fail>
+where
+    T::Output: Scale,
+{
     let known = catalogue_of_u8(alloc)?;
-    Ok(value.into_portable(registry, &known)?)
+    encoding(alloc, value?.into_portable(registry, &known)?)
 }
 
-/// Whether a value that holds `u8` alone leaves as this one, whose id is 0.
-fn is_left_as<T: IntoPortable + Drop>(
-    alloc: Global,
-    registry: &mut Registry,
-    value: Result<T, AllocError>,
-    wanted: Result<T::Output, AllocError>,
-) -> Result<bool, Fail>
-where
-    T::Output: PartialEq + Drop,
-{
-    let wanted = wanted?;
-    Ok(left(alloc, registry, value?)? == wanted)
+/// A composite of one field.
+fn composite(alloc: Global) -> Result<TypeDefComposite, AllocError> {
+    let fields = list_of(alloc, named::<u8>(alloc, "a")?)?;
+    Ok(TypeDefComposite::from(fields))
 }
 
-/// Asserts that a value that holds `u8` alone leaves as this one, whose id is 0.
-fn leaves_as<T: IntoPortable + Drop>(
-    rt: &impl Abort,
-    alloc: Global,
-    name: &str,
-    value: Result<T, AllocError>,
-    wanted: Result<T::Output, AllocError>,
-) -> Result<(), Fail>
-where
-    T::Output: PartialEq + Drop,
-{
-    let mut registry = Registry::new(alloc);
-    holds(rt, name, is_left_as(alloc, &mut registry, value, wanted)?);
-    holds(rt, name, count(alloc, &registry)? <= 1);
-    Ok(())
+/// The encoding of what the part of a description with this name leaves as.
+fn left_part(alloc: Global, registry: &mut Registry, name: &str) -> Result<Vec<u8>, Fail> {
+    match name {
+        "a parameter" => left(alloc, registry, given::<u8>(alloc, "T")),
+        "a field" => left(alloc, registry, field::<u8>(alloc, Some("a"), Some("A"))),
+        "a variant" => left(alloc, registry, variant::<u8>(alloc, "V", 3)),
+        "a composite" => left(alloc, registry, composite(alloc)),
+        "a sequence" => left(alloc, registry, TypeDefSequence::of::<u8>(alloc)),
+        _ => {
+            let members = tuple_meta_type!(alloc; u8, u8);
+            left(alloc, registry, tuple::<MetaForm>(members))
+        }
+    }
 }
 
-/// The variants of an option of the type with id 0.
-fn none_and_some(alloc: Global) -> Result<Vec<Variant<PortableForm>>, AllocError> {
-    let none = list_of(alloc, parts::variant(alloc, "None", &[], 0, &[])?);
-    with(none, parts::variant(alloc, "Some", &[0], 1, &[]))
-}
-
-/// The description of an option of the type with id 0.
-fn portable_option(alloc: Global) -> Result<Type<PortableForm>, AllocError> {
-    let path = parts::path(alloc, &["Option"])?;
-    let params = list_of(alloc, parts::parameter(alloc, "T", Some(0))?)?;
-    let def = TypeDef::from(TypeDefVariant::from(none_and_some(alloc)?));
-    Ok(Type::from((path, params, def, Vec::new(alloc))))
+/// The encoding of what the value with this name leaves as.
+fn left_of(alloc: Global, registry: &mut Registry, name: &str) -> Result<Vec<u8>, Fail> {
+    match name {
+        "a text" => left(alloc, registry, Ok("x")),
+        "a type" => left(alloc, registry, meta_type::<u8>(alloc)),
+        "Option<u8>" => left(alloc, registry, Ok(<Option<u8>>::type_info(alloc)?)),
+        _ => left_part(alloc, registry, name),
+    }
 }
 
 #[test]
-fn an_option_registers_its_type(rt: HostRuntime) -> Result<(), Fail> {
+fn values_leave_with_ids_for_their_types(rt: HostRuntime) -> Result<(), Fail> {
     let alloc = rt.alloc();
-    let value = <Option<u8>>::type_info(alloc)?;
-    leaves_as(&rt, alloc, "Option<u8>", Ok(value), portable_option(alloc))
+    for row in &rows(alloc, LEFT)? {
+        let mut registry = Registry::new(alloc);
+        let found = left_of(alloc, &mut registry, row.name)?;
+        is(&rt, row.name, found.as_slice(), row.bytes.as_slice());
+        holds(&rt, row.name, count(alloc, &registry)? <= 1);
+    }
+    Ok(())
 }
 
 #[test]
 fn a_path_is_printed_alike(rt: HostRuntime) -> Result<(), Fail> {
     let alloc = rt.alloc();
     let path = Path::new(alloc, "Planet", "hello::world")?;
-    let portable = left(alloc, &mut Registry::new(alloc), path)?;
+    let portable = path.into_portable(&mut Registry::new(alloc), &Catalogue::new(alloc))?;
     let printed = format!(in alloc; "{portable}")?;
     is(&rt, "printed", printed.as_str(), "hello::world::Planet");
     Ok(())
-}
-
-#[test]
-fn texts_and_types_leave(rt: HostRuntime) -> Result<(), Fail> {
-    let alloc = rt.alloc();
-    leaves_as(&rt, alloc, "a text", Ok("x"), parts::text(alloc, "x"))?;
-    leaves_as(
-        &rt,
-        alloc,
-        "a type",
-        meta_type::<u8>(alloc),
-        Ok(parts::id(0)),
-    )?;
-    let wanted = parts::parameter(alloc, "T", Some(0));
-    leaves_as(&rt, alloc, "a parameter", given::<u8>(alloc, "T"), wanted)
-}
-
-#[test]
-fn fields_and_variants_leave(rt: HostRuntime) -> Result<(), Fail> {
-    let alloc = rt.alloc();
-    let value = field::<u8>(alloc, Some("a"), Some("A"));
-    let wanted = parts::field(alloc, Some("a"), 0, Some("A"), &[]);
-    leaves_as(&rt, alloc, "a field", value, wanted)?;
-    let wanted = parts::variant(alloc, "V", &[0], 3, &[]);
-    leaves_as(
-        &rt,
-        alloc,
-        "a variant",
-        variant::<u8>(alloc, "V", 3),
-        wanted,
-    )
-}
-
-/// A composite of this field.
-fn composite<F: Form>(
-    alloc: Global,
-    field: Result<Field<F>, AllocError>,
-) -> Result<TypeDefComposite<F>, AllocError> {
-    Ok(TypeDefComposite::from(list_of(alloc, field?)?))
-}
-
-#[test]
-fn a_composite_leaves(rt: HostRuntime) -> Result<(), Fail> {
-    let alloc = rt.alloc();
-    let value = composite(alloc, named::<u8>(alloc, "a"));
-    let wanted = composite(alloc, parts::field(alloc, Some("a"), 0, None, &[]));
-    leaves_as(&rt, alloc, "a composite", value, wanted)
-}
-
-#[test]
-fn definitions_leave(rt: HostRuntime) -> Result<(), Fail> {
-    let alloc = rt.alloc();
-    let value = TypeDefSequence::of::<u8>(alloc);
-    leaves_as(&rt, alloc, "a sequence", value, Ok(parts::sequence(0)))?;
-    let ids = with(list_of(alloc, parts::id(0)), Ok(parts::id(0)));
-    let value = tuple::<MetaForm>(tuple_meta_type!(alloc; u8, u8));
-    leaves_as(&rt, alloc, "a tuple", value, tuple::<PortableForm>(ids))
 }
 
 /// Asserts that there is a call with this name and this id of its argument's type.

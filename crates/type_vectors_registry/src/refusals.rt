@@ -34,6 +34,11 @@ fn is_of_u8(alloc: Global, registry: &Registry) -> Result<bool, Fail> {
     Ok(*registry == registry_of_u8(alloc)?)
 }
 
+/// Whether a registry is a new one.
+fn is_new(alloc: Global, registry: &Registry) -> bool {
+    *registry == Registry::new(alloc)
+}
+
 /// Whether an error names `u32`.
 fn names_u32(alloc: Global, error: &RegisterError) -> Result<bool, Fail> {
     Ok(*error == RegisterError::Undescribed(u32::type_id(alloc)?))
@@ -63,7 +68,7 @@ fn a_missing_type_is_named(rt: HostRuntime) -> Result<(), Fail> {
     let alloc = rt.alloc();
     let mut registry = Registry::new(alloc);
     holds(&rt, "Vec<u32>", type_is_refused(alloc, &mut registry)?);
-    holds(&rt, "nothing is there", registry == Registry::new(alloc));
+    holds(&rt, "nothing is there", is_new(alloc, &registry));
     Ok(())
 }
 
@@ -72,7 +77,7 @@ fn a_list_is_registered_whole_or_not(rt: HostRuntime) -> Result<(), Fail> {
     let alloc = rt.alloc();
     let mut registry = Registry::new(alloc);
     holds(&rt, "of nothing", list_is_refused(alloc, &mut registry)?);
-    holds(&rt, "nothing is there", registry == Registry::new(alloc));
+    holds(&rt, "nothing is there", is_new(alloc, &registry));
     Ok(())
 }
 
@@ -85,12 +90,21 @@ fn a_refused_list_leaves_what_was_there(rt: HostRuntime) -> Result<(), Fail> {
     Ok(())
 }
 
+/// Whether `bool` is refused under a catalogue of nothing.
+fn bool_is_refused(alloc: Global, registry: &mut Registry) -> bool {
+    register::<bool>(alloc, registry, &Catalogue::new(alloc)).is_err()
+}
+
+/// The ids of a box of `u8` under a catalogue of nothing.
+fn ids_of_box(alloc: Global, registry: &mut Registry) -> Result<Vec<u32>, Fail> {
+    let types = tuple_meta_type!(alloc; Box<u8>)?;
+    ids(alloc, registry, &Catalogue::new(alloc), types)
+}
+
 /// Asserts that under a catalogue of nothing `u8` is found by a box of it, and `bool` is refused.
 fn u8_alone_is_known(rt: &impl Abort, alloc: Global, registry: &mut Registry) -> Result<(), Fail> {
-    let nothing = Catalogue::new(alloc);
-    let refused = register::<bool>(alloc, registry, &nothing);
-    holds(rt, "bool", refused.is_err());
-    let found = ids(alloc, registry, &nothing, tuple_meta_type!(alloc; Box<u8>)?)?;
+    holds(rt, "bool", bool_is_refused(alloc, registry));
+    let found = ids_of_box(alloc, registry)?;
     is(rt, "Box<u8>", found.as_slice(), [0].as_slice());
     Ok(())
 }
