@@ -1,5 +1,5 @@
 use Rattle.std.proofs.Common.{rules}
-use Rattle.std.proofs.Common.{subst}
+use Rattle.std.proofs.Common.{refl, subst}
 use Rattle.type_table_run.specs.declared.error.RunError.TheVariants.{Malformed, TrailingBytes, NoSuchType, Dangling, Memory, Input, Output}
 use Rattle.type_table_run.specs.Refusals.{Explains}
 use Rattle.type_table_run.proofs.Reports.{reported_error, usage_reports_none, unchanged_reports_none}
@@ -82,3 +82,6 @@ returns-in-Err-clause-read g c = search rules
 
 pub returns-in-Err-clause-unreported : goal.returns-in-Err-clause-unreported
 returns-in-Err-clause-unreported g c = search rules
+
+pub returns-in-None-clause-unread : goal.returns-in-None-clause-unread
+returns-in-None-clause-unread g c = λ _. refl
