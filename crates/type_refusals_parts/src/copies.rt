@@ -1,6 +1,7 @@
 //! Copies of descriptions, of their parts, of identities, lists and texts.
 use scale_info::form::{Form, MetaForm, PortableForm};
 use scale_info::{IntoPortable, Items, Scale, TryClone};
+use std::alloc::AllocError;
 use std::fmt::Debug;
 use std::test::Fail;
 use type_refusals_common::answers::{encoded, registered, shown};
@@ -20,8 +21,12 @@ fn copy_of<T: TryClone + Scale>(rt: &HostRuntime, value: &T) -> Result<Outcome, 
     Outcome::of(encoded(rt.alloc(), returned))
 }
 
-/// Copies a portable value that is made for it.
-fn copy<T: TryClone + Scale + Drop>(rt: &HostRuntime, value: T) -> Result<Outcome, Fail> {
+/// Copies a portable value that is made for it; an Err is returned as it is.
+fn copy<T: TryClone + Scale + Drop>(
+    rt: &HostRuntime,
+    value: Result<T, AllocError>,
+) -> Result<Outcome, Fail> {
+    let value = value?;
     copy_of(rt, &value)
 }
 
@@ -48,16 +53,13 @@ fn copy_shown<T: TryClone + Debug + Drop>(rt: &HostRuntime, value: &T) -> Result
 pub fn portable_part(rt: &HostRuntime, kind: &str) -> Result<Outcome, Fail> {
     let alloc = rt.alloc();
     match kind {
-        "field" => copy(
-            rt,
-            parts::field(alloc, Some("n"), 3, Some("N"), &["d", ""])?,
-        ),
-        "variant" => copy(rt, parts::variant(alloc, "V", &[1, 2], 255, &["v"])?),
-        "path" => copy(rt, parts::path(alloc, &["hello", "world", "Planet"])?),
-        "given parameter" => copy(rt, parts::parameter(alloc, "T", Some(7))?),
-        "skipped parameter" => copy(rt, parts::parameter(alloc, "S", None)?),
-        "text" => copy(rt, parts::text(alloc, "a text")?),
-        "symbol" => copy(rt, parts::id(7)),
+        "field" => copy(rt, parts::field(alloc, Some("n"), 3, Some("N"), &["d", ""])),
+        "variant" => copy(rt, parts::variant(alloc, "V", &[1, 2], 255, &["v"])),
+        "path" => copy(rt, parts::path(alloc, &["hello", "world", "Planet"])),
+        "given parameter" => copy(rt, parts::parameter(alloc, "T", Some(7))),
+        "skipped parameter" => copy(rt, parts::parameter(alloc, "S", None)),
+        "text" => copy(rt, parts::text(alloc, "a text")),
+        "symbol" => copy(rt, Ok(parts::id(7))),
         _ => Err(Fail::new("no kind has this name")),
     }
 }
@@ -114,9 +116,12 @@ pub fn definition(rt: &HostRuntime, row: &str) -> Result<Outcome, Fail> {
 /// Copies a list.
 pub fn list(rt: &HostRuntime, kind: &str) -> Result<Outcome, Fail> {
     match kind {
-        "numbers" => copy(rt, Items::from(vec![in rt.alloc(); 7u32, 8]?)),
-        "texts" => copy(rt, Items::from(parts::texts(rt.alloc(), &["d", "", "e"])?)),
-        "no texts" => copy(rt, Items::from(parts::texts(rt.alloc(), &[])?)),
+        "numbers" => copy(rt, Ok(Items::from(vec![in rt.alloc(); 7u32, 8]?))),
+        "texts" => copy(
+            rt,
+            Ok(Items::from(parts::texts(rt.alloc(), &["d", "", "e"])?)),
+        ),
+        "no texts" => copy(rt, Ok(Items::from(parts::texts(rt.alloc(), &[])?))),
         _ => Err(Fail::new("no list has this name")),
     }
 }
