@@ -125,6 +125,7 @@ use scale_info::walk::number_recursive;
 use std::alloc::Global;
 use std::process::Abort;
 use std::test::Fail;
+use type_vectors_common::encodings::encoding;
 use type_vectors_common::rows::row_bytes;
 
 /// The items of the root, each in the place of a type.
@@ -286,13 +287,6 @@ fn registries_are_offered(alloc: Global) -> Result<(), Fail> {
     Ok(())
 }
 
-/// The bytes of a table.
-fn encoded(alloc: Global, table: &PortableRegistry) -> Result<Vec<u8>, Fail> {
-    let mut bytes = Vec::new(alloc);
-    table.encode(&mut bytes)?;
-    Ok(bytes)
-}
-
 /// The function of the module that prunes, called once.
 fn pruning_is_offered(alloc: Global, bytes: &[u8]) -> Result<(), Fail> {
     let mut pruned = Vec::new(alloc);
@@ -304,7 +298,7 @@ fn pruning_is_offered(alloc: Global, bytes: &[u8]) -> Result<(), Fail> {
 fn functions_are_offered(alloc: Global, table: &PortableRegistry) -> Result<(), Fail> {
     numbers_are_offered(alloc, table)?;
     values_are_offered(alloc, table)?;
-    pruning_is_offered(alloc, &encoded(alloc, table)?)?;
+    pruning_is_offered(alloc, &encoding(alloc, table)?)?;
     registries_are_offered(alloc)?;
     lists_are_offered(alloc)
 }
@@ -377,7 +371,7 @@ fn is_written_twice(rt: &impl Abort, alloc: Global, bytes: &[u8]) -> Result<(), 
 /// Asserts that the table of `u8` is written twice, and its text in two ways.
 fn is_appended(rt: &impl Abort, alloc: Global, table: &PortableRegistry) -> Result<(), Fail> {
     let same = read_back(alloc, table)?;
-    let bytes = encoded(alloc, &same)?;
+    let bytes = encoding(alloc, &same)?;
     holds(rt, "one text", is_written_alike(alloc, &same, &bytes)?);
     is_written_twice(rt, alloc, &bytes)
 }

@@ -27,10 +27,3 @@ pub fn chain(
 pub fn chain_to_bool(alloc: Global, count: u32) -> Result<PortableRegistry, Fail> {
     chain(alloc, count, TypeDef::from(TypeDefPrimitive::Bool))
 }
-
-/// The encoding of a table.
-pub fn encoding(alloc: Global, table: &PortableRegistry) -> Result<Vec<u8>, Fail> {
-    let mut bytes = Vec::new(alloc);
-    table.encode(&mut bytes)?;
-    Ok(bytes)
-}

@@ -1,10 +1,11 @@
-//! What the crates of tests share: rows of bytes, parts of descriptions, descriptions as texts,
-//! readers and writers.
+//! What the crates of tests share: rows of bytes, encodings, parts of descriptions, descriptions as
+//! texts, readers and writers.
 #![tactic(auto)]
 
 pub mod catalogues;
 pub mod chains;
 pub mod compare;
+pub mod encodings;
 pub mod lists;
 pub mod parts;
 pub mod results;

@@ -1,6 +1,6 @@
 //! Rows of bytes: tables, and inputs that are none. The tests of the decoder and of the program
 //! read the same rows.
-use scale_info::{PortableRegistry, Scale};
+use scale_info::PortableRegistry;
 use std::alloc::Global;
 use std::test::Fail;
 
@@ -154,13 +154,6 @@ pub fn row_named<'a>(alloc: Global, text: &'a str, name: &str) -> Result<Row<'a>
         }
     }
     Err(Fail::new("no row has this name"))
-}
-
-/// The encoding of a value, which is handed over: the proof of a test grows with what it drops.
-pub fn encoding<T: Scale>(alloc: Global, value: T) -> Result<Vec<u8>, Fail> {
-    let mut bytes = Vec::new(alloc);
-    value.encode_to(&mut bytes)?;
-    Ok(bytes)
 }
 
 /// The table that the bytes of a row begin with.

@@ -228,10 +228,12 @@ pub fn parameters(alloc: Global, parameters: &[TypeParameter]) -> Result<String,
     Ok(text)
 }
 
-/// The definition: its kind and what it has.
-pub fn definition(alloc: Global, def: &TypeDef) -> Result<String, AllocError> {
+/// The definition that was made: its kind and what it has. A test hands the outcome on, since its
+/// proof grows with what it drops where it returns early.
+pub fn definition(alloc: Global, made: Result<TypeDef, AllocError>) -> Result<String, AllocError> {
+    let def = made?;
     let mut text = String::new(alloc);
-    push_definition(&mut text, def)?;
+    push_definition(&mut text, &def)?;
     Ok(text)
 }
 

@@ -7,8 +7,9 @@ use scale_info::{
 };
 use std::alloc::{AllocError, Global};
 use std::test::Fail;
+use type_vectors_common::encodings::into_encoding;
 use type_vectors_common::parts::{id, sequence, unnamed_fields, variant};
-use type_vectors_common::rows::{encoding, rows};
+use type_vectors_common::rows::rows;
 
 /// What `definition` makes, with its encoding.
 const ENCODINGS: &str = "\
@@ -91,7 +92,7 @@ fn definition(alloc: Global, name: &str) -> Result<TypeDef<PortableForm>, Fail> 
 fn each_constructor_makes_its_kind_with_its_parts(rt: HostRuntime) -> Result<(), Fail> {
     let encodings = rows(rt.alloc(), ENCODINGS)?;
     for row in &encodings {
-        let found = encoding(rt.alloc(), definition(rt.alloc(), row.name)?)?;
+        let found = into_encoding(rt.alloc(), definition(rt.alloc(), row.name)?)?;
         is(&rt, row.name, &found, &row.bytes);
     }
     Ok(())

@@ -61,15 +61,10 @@ fn built(alloc: Global, case: &str) -> Result<TypeDef, AllocError> {
 #[test]
 fn fields_without_phantoms(rt: HostRuntime) -> Result<(), Fail> {
     for case in &FIELDS {
-        let made = shown(rt.alloc(), built(rt.alloc(), case.0))?;
+        let made = definition(rt.alloc(), built(rt.alloc(), case.0))?;
         is(&rt, case.0, made.as_str(), case.1);
     }
     Ok(())
-}
-
-/// The definition that was made, as a text.
-fn shown(alloc: Global, made: Result<TypeDef, AllocError>) -> Result<String, AllocError> {
-    definition(alloc, &made?)
 }
 
 /// Fields without names in the making.
@@ -97,14 +92,14 @@ fn built_field(alloc: Global) -> Result<TypeDef, AllocError> {
 
 #[test]
 fn fields_keep_their_names_and_type_names(rt: HostRuntime) -> Result<(), Fail> {
-    let made = shown(rt.alloc(), unnamed(rt.alloc()))?;
+    let made = definition(rt.alloc(), unnamed(rt.alloc()))?;
     is(
         &rt,
         "unnamed",
         made.as_str(),
         "struct :u8: :(slice u8):Vec<T>",
     );
-    let made = shown(rt.alloc(), built_field(rt.alloc()))?;
+    let made = definition(rt.alloc(), built_field(rt.alloc()))?;
     is(&rt, "one", made.as_str(), "struct x:bool:T");
     Ok(())
 }
@@ -156,7 +151,7 @@ fn tuple(alloc: Global, case: &str) -> Result<TypeDef, AllocError> {
 #[test]
 fn tuples_without_phantoms(rt: HostRuntime) -> Result<(), Fail> {
     for case in &TUPLES {
-        let made = shown(rt.alloc(), tuple(rt.alloc(), case.0))?;
+        let made = definition(rt.alloc(), tuple(rt.alloc(), case.0))?;
         is(&rt, case.0, made.as_str(), case.1);
     }
     Ok(())

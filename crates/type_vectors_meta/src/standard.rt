@@ -119,8 +119,8 @@ fn an_array_that_is_too_long(rt: HostRuntime) -> Result<(), Fail> {
 
 #[test]
 fn bit_sequences(rt: HostRuntime) -> Result<(), Fail> {
-    let bits = TypeDefBitSequence::new::<Box<u8>, bool>(rt.alloc())?;
-    let found = definition(rt.alloc(), &bits)?;
+    let bits = TypeDefBitSequence::new::<Box<u8>, bool>(rt.alloc());
+    let found = definition(rt.alloc(), bits)?;
     is(&rt, "store and order", found.as_str(), "bits u8 bool");
     Ok(())
 }

@@ -9,8 +9,9 @@ use scale_info::{
 use std::alloc::{AllocError, Global};
 use std::process::Abort;
 use std::test::Fail;
+use type_vectors_common::encodings::into_encoding;
 use type_vectors_common::lists::list_of;
-use type_vectors_common::rows::{encoding, row_bytes};
+use type_vectors_common::rows::row_bytes;
 
 /// The names of the fields; the field at an index has the type with that id.
 const NAMES: [&str; 3] = ["primitive", "vec_of_u32", "self_referential"];
@@ -58,7 +59,7 @@ const STRUCT: &str = "\
 
 #[test]
 fn its_path_and_its_fields_are_as_they_are_given(rt: HostRuntime) -> Result<(), Fail> {
-    let found = encoding(rt.alloc(), built_struct(rt.alloc())?)?;
+    let found = into_encoding(rt.alloc(), built_struct(rt.alloc())?)?;
     is(&rt, "struct", &found, &row_bytes(rt.alloc(), STRUCT)?);
     Ok(())
 }

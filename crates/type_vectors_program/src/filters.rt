@@ -8,7 +8,8 @@ use scale_info::{PortableRegistry, RetainError};
 use std::alloc::Global;
 use std::process::Abort;
 use std::test::Fail;
-use type_vectors_common::chains::{chain, encoding};
+use type_vectors_common::chains::chain;
+use type_vectors_common::encodings::encoding;
 use type_vectors_common::parts::sequence;
 use type_vectors_common::rows::row_bytes;
 

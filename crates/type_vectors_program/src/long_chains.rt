@@ -8,7 +8,8 @@ use std::alloc::Global;
 use std::collections::BTreeMap;
 use std::process::Abort;
 use std::test::Fail;
-use type_vectors_common::chains::{chain, encoding};
+use type_vectors_common::chains::chain;
+use type_vectors_common::encodings::encoding;
 use type_vectors_common::parts::sequence;
 
 /// The new ids of what this id reaches, which is kept alone.

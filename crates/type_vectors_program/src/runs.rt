@@ -3,7 +3,7 @@ use scale_info::{DecodeError, PortableRegistry, RetainError, to_json};
 use std::alloc::Global;
 use std::io::{Read, Write};
 use std::test::Fail;
-use type_vectors_common::chains::encoding;
+use type_vectors_common::encodings::encoding;
 use type_vectors_common::parts::text;
 use type_vectors_common::rows::numbers;
 

@@ -14,8 +14,9 @@ use scale_info_registry_callers::call::{Call, PortableCall};
 use std::alloc::{AllocError, Global};
 use std::process::Abort;
 use std::test::Fail;
+use type_vectors_common::encodings::into_encoding;
 use type_vectors_common::lists::{list_of, with};
-use type_vectors_common::rows::{TABLES, encoding, row_named, rows};
+use type_vectors_common::rows::{TABLES, row_named, rows};
 
 /// What values that hold `u8` alone leave as, with 0 for its id: a row is a name, a colon and the
 /// encoding.
@@ -49,7 +50,7 @@ where
     T::Output: Scale,
 {
     let known = catalogue_of_u8(alloc)?;
-    encoding(alloc, value?.into_portable(registry, &known)?)
+    into_encoding(alloc, value?.into_portable(registry, &known)?)
 }
 
 /// A composite of one field.

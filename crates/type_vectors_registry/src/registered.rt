@@ -7,6 +7,7 @@ use scale_info::{MetaType, PortableRegistry, Registry, TypeId, UntrackedSymbol};
 use std::alloc::Global;
 use std::process::Abort;
 use std::test::Fail;
+use type_vectors_common::encodings::encoding;
 
 /// Registers a type.
 pub fn register<T: HasIdentity>(
@@ -56,9 +57,7 @@ pub fn is_encoded(
     table: &PortableRegistry,
     wanted: &[u8],
 ) -> Result<(), Fail> {
-    let mut bytes = Vec::new(alloc);
-    table.encode(&mut bytes)?;
-    is(rt, name, bytes.as_slice(), wanted);
+    is(rt, name, encoding(alloc, table)?.as_slice(), wanted);
     Ok(())
 }
 

@@ -5,7 +5,7 @@ use serde_json::Value;
 use std::alloc::{AllocError, Global};
 use std::process::Abort;
 use std::test::Fail;
-use type_vectors_common::chains::encoding;
+use type_vectors_common::encodings::encoding;
 use type_vectors_common::rows::{TABLES, decoded, row_bytes, row_named};
 
 /// The row with characters that are escaped, and its text.

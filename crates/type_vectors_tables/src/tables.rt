@@ -6,8 +6,9 @@ use std::alloc::Global;
 use std::process::Abort;
 use std::test::Fail;
 use type_vectors_common::chains::chain;
+use type_vectors_common::encodings::into_encoding;
 use type_vectors_common::parts::sequence;
-use type_vectors_common::rows::{Row, TABLES, decoded, encoding, row_bytes, rows};
+use type_vectors_common::rows::{Row, TABLES, decoded, row_bytes, rows};
 
 /// Whether the first id past the end of a table and the greatest id resolve to none.
 fn ends(table: &PortableRegistry) -> bool {
@@ -139,7 +140,7 @@ fn finished(alloc: Global, builder: PortableRegistryBuilder) -> Result<PortableR
 #[test]
 fn a_finished_table_has_what_was_registered(rt: HostRuntime) -> Result<(), Fail> {
     let table = finished(rt.alloc(), built(rt.alloc())?)?;
-    let found = encoding(rt.alloc(), table)?;
+    let found = into_encoding(rt.alloc(), table)?;
     is(&rt, "table", &found, &row_bytes(rt.alloc(), TABLE)?);
     Ok(())
 }

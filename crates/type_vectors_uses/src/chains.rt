@@ -5,7 +5,8 @@ use scale_info::{PortableRegistry, PruneError, RetainError, prune};
 use std::alloc::Global;
 use std::process::Abort;
 use std::test::Fail;
-use type_vectors_common::chains::{chain, chain_to_bool, encoding};
+use type_vectors_common::chains::{chain, chain_to_bool};
+use type_vectors_common::encodings::encoding;
 use type_vectors_common::parts::sequence;
 
 /// Asserts that the walk from a root takes so many types and steps.

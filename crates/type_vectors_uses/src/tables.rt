@@ -5,7 +5,8 @@ use std::alloc::Global;
 use std::collections::BTreeMap;
 use std::process::Abort;
 use std::test::Fail;
-use type_vectors_common::rows::{encoding, numbers, parted, row_bytes};
+use type_vectors_common::encodings::into_encoding;
+use type_vectors_common::rows::{numbers, parted, row_bytes};
 
 /// A row is the chosen ids, a colon, a table, an arrow, the pruned table, another arrow, and each
 /// old id that is kept with its new one. The tables that `type_vectors_registry` registers are
@@ -98,7 +99,7 @@ fn retained(
 ) -> Result<(Vec<u8>, BTreeMap<u32, u32>), Fail> {
     let (mut table, _) = PortableRegistry::decode(alloc, input)?;
     let new_ids = table.retain(alloc, |id| chosen.contains(&id))?;
-    Ok((encoding(alloc, table)?, new_ids))
+    Ok((into_encoding(alloc, table)?, new_ids))
 }
 
 #[test]
