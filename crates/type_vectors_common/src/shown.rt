@@ -214,34 +214,50 @@ fn push_description(text: &mut String, ty: &Type) -> Result<(), AllocError> {
     push_docs(text, ty.docs())
 }
 
-/// The types, each after a space.
-pub fn types(alloc: Global, types: &[MetaType]) -> Result<String, AllocError> {
-    let mut text = String::new(alloc);
-    push_types(&mut text, types)?;
+/// What is shown as a text.
+pub trait Show {
+    /// Appends what is shown.
+    fn push_to(&self, text: &mut String) -> Result<(), AllocError>;
+}
+
+impl Show for Vec<MetaType> {
+    fn push_to(&self, text: &mut String) -> Result<(), AllocError> {
+        push_types(text, self)
+    }
+}
+
+impl Show for Vec<TypeParameter> {
+    fn push_to(&self, text: &mut String) -> Result<(), AllocError> {
+        push_parameters(text, self)
+    }
+}
+
+impl Show for TypeDef {
+    fn push_to(&self, text: &mut String) -> Result<(), AllocError> {
+        push_definition(text, self)
+    }
+}
+
+impl Show for Type {
+    fn push_to(&self, text: &mut String) -> Result<(), AllocError> {
+        push_description(text, self)
+    }
+}
+
+/// The text and what is shown of a value, which is handed over: a generic function drops it for
+/// nearly nothing in its proof.
+fn with<T: Show + Drop>(mut text: String, value: T) -> Result<String, AllocError> {
+    value.push_to(&mut text)?;
     Ok(text)
 }
 
-/// The parameters, each after a space.
-pub fn parameters(alloc: Global, parameters: &[TypeParameter]) -> Result<String, AllocError> {
-    let mut text = String::new(alloc);
-    push_parameters(&mut text, parameters)?;
-    Ok(text)
-}
-
-/// The definition that was made: its kind and what it has. A test hands the outcome on, since its
-/// proof grows with what it drops where it returns early.
-pub fn definition(alloc: Global, made: Result<TypeDef, AllocError>) -> Result<String, AllocError> {
-    let def = made?;
-    let mut text = String::new(alloc);
-    push_definition(&mut text, &def)?;
-    Ok(text)
-}
-
-/// The description: path, parameters, definition and docs.
-pub fn description(alloc: Global, ty: &Type) -> Result<String, AllocError> {
-    let mut text = String::new(alloc);
-    push_description(&mut text, ty)?;
-    Ok(text)
+/// What was made, as a text. A test hands the outcome on, since its proof grows with what it drops
+/// where it returns early.
+pub fn text_of<T: Show + Drop>(
+    alloc: Global,
+    made: Result<T, AllocError>,
+) -> Result<String, AllocError> {
+    with(String::new(alloc), made?)
 }
 
 /// Appends the own identity of a type, and after `by` the one that it is known by where that is
@@ -267,9 +283,7 @@ fn identities<T: TypeInfo>(alloc: Global) -> Result<String, AllocError> {
 /// What a type is: its own identity, after `by` the one that it is known by where that is another,
 /// and its description after `is`.
 pub fn shown<T: TypeInfo>(alloc: Global) -> Result<String, Fail> {
-    let ty = T::type_info(alloc)?;
     let mut text = identities::<T>(alloc)?;
     text.push_str(" is ")?;
-    push_description(&mut text, &ty)?;
-    Ok(text)
+    Ok(with(text, T::type_info(alloc)?)?)
 }

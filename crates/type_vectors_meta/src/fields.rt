@@ -9,7 +9,7 @@ use scale_info::{Field, MetaType, TypeDef, TypeDefComposite, TypeDefTuple};
 use std::alloc::{AllocError, Global};
 use std::test::Fail;
 use type_vectors_common::lists::{list_of, with};
-use type_vectors_common::shown::definition;
+use type_vectors_common::shown::text_of;
 
 /// A case: what a definition is made of, and the definition.
 type Case = (&'static str, &'static str);
@@ -61,7 +61,7 @@ fn built(alloc: Global, case: &str) -> Result<TypeDef, AllocError> {
 #[test]
 fn fields_without_phantoms(rt: HostRuntime) -> Result<(), Fail> {
     for case in &FIELDS {
-        let made = definition(rt.alloc(), built(rt.alloc(), case.0))?;
+        let made = text_of(rt.alloc(), built(rt.alloc(), case.0))?;
         is(&rt, case.0, made.as_str(), case.1);
     }
     Ok(())
@@ -92,14 +92,14 @@ fn built_field(alloc: Global) -> Result<TypeDef, AllocError> {
 
 #[test]
 fn fields_keep_their_names_and_type_names(rt: HostRuntime) -> Result<(), Fail> {
-    let made = definition(rt.alloc(), unnamed(rt.alloc()))?;
+    let made = text_of(rt.alloc(), unnamed(rt.alloc()))?;
     is(
         &rt,
         "unnamed",
         made.as_str(),
         "struct :u8: :(slice u8):Vec<T>",
     );
-    let made = definition(rt.alloc(), built_field(rt.alloc()))?;
+    let made = text_of(rt.alloc(), built_field(rt.alloc()))?;
     is(&rt, "one", made.as_str(), "struct x:bool:T");
     Ok(())
 }
@@ -151,7 +151,7 @@ fn tuple(alloc: Global, case: &str) -> Result<TypeDef, AllocError> {
 #[test]
 fn tuples_without_phantoms(rt: HostRuntime) -> Result<(), Fail> {
     for case in &TUPLES {
-        let made = definition(rt.alloc(), tuple(rt.alloc(), case.0))?;
+        let made = text_of(rt.alloc(), tuple(rt.alloc(), case.0))?;
         is(&rt, case.0, made.as_str(), case.1);
     }
     Ok(())

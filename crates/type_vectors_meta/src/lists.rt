@@ -4,16 +4,16 @@ use scale_info::meta_type::HasIdentity;
 use scale_info::{TypeParameter, named_type_params, tuple_meta_type, type_params};
 use std::alloc::{AllocError, Global};
 use std::test::Fail;
-use type_vectors_common::shown::{parameters, types};
+use type_vectors_common::shown::text_of;
 
 /// Three types.
 fn listed_types(alloc: Global) -> Result<String, AllocError> {
-    types(alloc, &tuple_meta_type!(alloc; i32, [u8; 32], String)?)
+    text_of(alloc, tuple_meta_type!(alloc; i32, [u8; 32], String))
 }
 
 /// Two parameters with names.
 fn named_parameters(alloc: Global) -> Result<String, AllocError> {
-    parameters(alloc, &named_type_params!(alloc; (T, u8), (U, u32))?)
+    text_of(alloc, named_type_params!(alloc; (T, u8), (U, u32)))
 }
 
 /// The parameters of a type that is generic over `T` and `U`.
@@ -23,7 +23,7 @@ fn listed<T: HasIdentity, U: HasIdentity>(alloc: Global) -> Result<Vec<TypeParam
 
 /// Those parameters, which are `u8` and `u32`.
 fn listed_parameters(alloc: Global) -> Result<String, AllocError> {
-    parameters(alloc, &listed::<u8, u32>(alloc)?)
+    text_of(alloc, listed::<u8, u32>(alloc))
 }
 
 #[test]

@@ -7,7 +7,7 @@ use std::alloc::Global;
 use std::collections::VecDeque;
 use std::rc::Rc;
 use std::test::Fail;
-use type_vectors_common::shown::{definition, shown};
+use type_vectors_common::shown::{shown, text_of};
 
 /// A type by its name, and what it is.
 type Case = (&'static str, &'static str);
@@ -120,7 +120,7 @@ fn an_array_that_is_too_long(rt: HostRuntime) -> Result<(), Fail> {
 #[test]
 fn bit_sequences(rt: HostRuntime) -> Result<(), Fail> {
     let bits = TypeDefBitSequence::new::<Box<u8>, bool>(rt.alloc());
-    let found = definition(rt.alloc(), bits)?;
+    let found = text_of(rt.alloc(), bits)?;
     is(&rt, "store and order", found.as_str(), "bits u8 bool");
     Ok(())
 }

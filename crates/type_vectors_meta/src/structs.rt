@@ -11,7 +11,7 @@ use std::alloc::{AllocError, Global};
 use std::marker::PhantomData;
 use std::test::Fail;
 use type_vectors_common::lists::{list_of, with};
-use type_vectors_common::shown::description;
+use type_vectors_common::shown::text_of;
 
 /// A struct with the field `data` of type `T`.
 pub struct MyStruct<T>(PhantomData<T>);
@@ -60,11 +60,6 @@ fn built<T: HasIdentity>(alloc: Global) -> Result<Type, AllocError> {
     Ok(builder.composite(built_fields::<T>(alloc)?))
 }
 
-/// The description of the struct of this type, as a text.
-fn shown<T: HasIdentity>(alloc: Global) -> Result<String, AllocError> {
-    description(alloc, &built::<T>(alloc)?)
-}
-
 /// The struct of `bool`.
 const OF_BOOL: &str = "\
 scale_info::tests::MyStruct T=bool: struct data:bool:T // a struct // ";
@@ -76,9 +71,9 @@ struct data:(scale_info::tests::MyStruct bool):T // a struct // ";
 
 #[test]
 fn a_struct_of_bool_and_of_itself(rt: HostRuntime) -> Result<(), Fail> {
-    let made = shown::<bool>(rt.alloc())?;
+    let made = text_of(rt.alloc(), built::<bool>(rt.alloc()))?;
     is(&rt, "of bool", made.as_str(), OF_BOOL);
-    let made = shown::<Box<MyStruct<bool>>>(rt.alloc())?;
+    let made = text_of(rt.alloc(), built::<Box<MyStruct<bool>>>(rt.alloc()))?;
     is(&rt, "of itself", made.as_str(), OF_ITSELF);
     Ok(())
 }

@@ -7,7 +7,7 @@ use scale_info::{Items, Path, Type};
 use std::alloc::{AllocError, Global};
 use std::test::Fail;
 use type_vectors_common::lists::{list_of, with};
-use type_vectors_common::shown::description;
+use type_vectors_common::shown::text_of;
 
 /// The names of the variants: `A(bool)`, `B { b: u8 }`, `C(u16, u32)` and `D`.
 const VARIANTS: [&str; 4] = ["A", "B", "C", "D"];
@@ -67,14 +67,9 @@ fn built_enum(alloc: Global) -> Result<Type, AllocError> {
     Ok(Type::builder(alloc).path(path).variant(built(alloc)?))
 }
 
-/// Its description, as a text.
-fn shown(alloc: Global) -> Result<String, AllocError> {
-    description(alloc, &built_enum(alloc)?)
-}
-
 #[test]
 fn variants_in_the_order_of_declaration(rt: HostRuntime) -> Result<(), Fail> {
-    let made = shown(rt.alloc())?;
+    let made = text_of(rt.alloc(), built_enum(rt.alloc()))?;
     is(&rt, "enum", made.as_str(), ENUM);
     Ok(())
 }
