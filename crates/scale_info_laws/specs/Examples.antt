@@ -18,16 +18,17 @@ plain definition = record {
 }
 
 -- a field with this name and type
-abbrev pub field : Text → ℕ → portable.Field
-field name ty = record { name = Some name; ty = id ty; type_name = None; docs = [] }
+abbrev pub example_field : Text → ℕ → portable.Field
+example_field name ty = record { name = Some name; ty = id ty; type_name = None; docs = [] }
 
 -- a field of a tuple struct, with this type
-abbrev pub unnamed : ℕ → portable.Field
-unnamed ty = record { name = None; ty = id ty; type_name = None; docs = [] }
+abbrev pub example_tuple_field : ℕ → portable.Field
+example_tuple_field ty = record { name = None; ty = id ty; type_name = None; docs = [] }
 
 -- a variant with this name, index and fields
-abbrev pub variant : Text → ℕ → List portable.Field → portable.Variant
-variant name index fields = record { name = name; fields = fields; index = index; docs = [] }
+abbrev pub example_variant : Text → ℕ → List portable.Field → portable.Variant
+example_variant name index fields =
+    record { name = name; fields = fields; index = index; docs = [] }
 
 -- a parameter with this name and type
 abbrev pub parameter : Text → Option Id → portable.TypeParameter
@@ -39,7 +40,10 @@ abbrev pub with_parameters : portable.Description
 with_parameters = record {
   path = record { segments = codes "P" ∷ []; form = tt };
   type_params = parameter (codes "S") None ∷ parameter (codes "T") (Some (id 0)) ∷ [];
-  type_def = def.Composite (record { fields = field (codes "a") 1 ∷ field (codes "b") 0 ∷ [] });
+  type_def =
+      def.Composite (record {
+        fields = example_field (codes "a") 1 ∷ example_field (codes "b") 0 ∷ [];
+      });
   docs = [];
 }
 
@@ -48,9 +52,9 @@ abbrev pub with_variants : portable.Description
 with_variants =
     plain (def.Variant (record {
       variants =
-          variant (codes "B") 0 (unnamed 3 ∷ unnamed 4 ∷ [])
-          ∷ variant (codes "A") 1 []
-          ∷ variant (codes "C") 2 (unnamed 2 ∷ [])
+          example_variant (codes "B") 0 (example_tuple_field 3 ∷ example_tuple_field 4 ∷ [])
+          ∷ example_variant (codes "A") 1 []
+          ∷ example_variant (codes "C") 2 (example_tuple_field 2 ∷ [])
           ∷ [];
     }))
 
@@ -64,8 +68,8 @@ abbrev pub key_values : ℕ → ℕ → portable.Description
 key_values key value = plain (def.Map (record { key = id key; value = id value }))
 
 -- a pair with these members
-abbrev pub pair : ℕ → ℕ → portable.Description
-pair first second = plain (def.Tuple (record { fields = id first ∷ id second ∷ [] }))
+abbrev pub example_pair : ℕ → ℕ → portable.Description
+example_pair first second = plain (def.Tuple (record { fields = id first ∷ id second ∷ [] }))
 
 -- an array with this length and type
 abbrev pub array : ℕ → ℕ → portable.Description

@@ -4,9 +4,9 @@
 ghost use Rattle.scale_info_laws.specs.Examples.{
   array,
   bit_sequence,
+  example_pair,
   id,
   key_values,
-  pair,
   with_parameters,
   with_variants,
 };
@@ -28,8 +28,9 @@ pub fn order_of_references()
 /// `(u8, u16)` and `(u16, u8)` have one shape and other references. Arrays of two lengths have two
 /// shapes, and so have a bit sequence and a map with the same references.
 pub fn shapes()
-    ensures same { shape (λ text. text) (pair 1 2) ≡ shape (λ text. text) (pair 2 1) }
-    ensures other_references { references (pair 1 2) ≢ references (pair 2 1) }
+    ensures same { shape (λ text. text) (example_pair 1 2)
+        ≡ shape (λ text. text) (example_pair 2 1) }
+    ensures other_references { references (example_pair 1 2) ≢ references (example_pair 2 1) }
     ensures other_lengths { shape (λ text. text) (array 3 1) ≢ shape (λ text. text) (array 4 1) }
     ensures other_variants { shape (λ text. text) (bit_sequence 1 2)
         ≢ shape (λ text. text) (key_values 1 2) }

@@ -5,7 +5,7 @@ use Rattle.std.proofs.lemmas.List.{append-nil}
 use Rattle.scale_info_value.specs.declared.value.ValueError.{ValueError}
 use Rattle.scale_info_value.specs.declared.value.ValueError.TheVariants as error
 use Rattle.scale_info_value.specs.Outcomes.{Failure, Outcome, decoded, failed, Decoder, and_then}
-use Rattle.scale_info_value.specs.Outcomes.{outcome_map, in_order, IsErrorOf}
+use Rattle.scale_info_value.specs.Outcomes.{outcome_map, in_turn, IsErrorOf}
 
 -- the outcome, where its list begins with what was decoded before
 abbrev pub preceded : {A : Type 0} → List A → Outcome (List A) → Outcome (List A)
@@ -27,13 +27,13 @@ pub reads_one :
     {A : Type 0} (done : List A) (first : Decoder A) (more : List (Decoder A)) (input : List ℕ) (value : A)
     (rest : List ℕ)
     → first input ≡ decoded value rest
-    → preceded done (in_order (first ∷ more) input) ≡ preceded (done ++ value ∷ []) (in_order more rest)
+    → preceded done (in_turn (first ∷ more) input) ≡ preceded (done ++ value ∷ []) (in_turn more rest)
 reads_one done first more input value rest e =
-    ap (λ o. preceded done (and_then o (λ v r. outcome_map (λ vs. v ∷ vs) (in_order more r)))) e
-    ∙ one_more done value (in_order more rest)
+    ap (λ o. preceded done (and_then o (λ v r. outcome_map (λ vs. v ∷ vs) (in_turn more r)))) e
+    ∙ one_more done value (in_turn more rest)
 
 -- no decoder is left
-pub reads_none : {A : Type 0} (done : List A) (input : List ℕ) → preceded done (in_order [] input) ≡ decoded done input
+pub reads_none : {A : Type 0} (done : List A) (input : List ℕ) → preceded done (in_turn [] input) ≡ decoded done input
 reads_none done input = ap (λ vs. decoded vs input) (append-nil done)
 
 -- a failure of a part is the failure of the whole
@@ -50,9 +50,9 @@ passes outcome whole error.Memory f h = tt
 pub first_fails :
     {A : Type 0} (done : List A) (first : Decoder A) (more : List (Decoder A)) (input : List ℕ) (why : Failure)
     → first input ≡ failed why
-    → preceded done (in_order (first ∷ more) input) ≡ failed why
+    → preceded done (in_turn (first ∷ more) input) ≡ failed why
 first_fails done first more input why e = ap (λ o. preceded done
-    (and_then o (λ v r. outcome_map (λ vs. v ∷ vs) (in_order more r)))) e
+    (and_then o (λ v r. outcome_map (λ vs. v ∷ vs) (in_turn more r)))) e
 
 -- of n - k decoders of one kind the first, and the others
 pub take_next : {A : Type 0} (n k : ℕ) (x : A) → k < n → replicate (n - k) x ≡ x ∷ replicate (n - (k + 1)) x

@@ -13,7 +13,7 @@ use Rattle.scale_info_primitives.specs.declared.primitive.TypeDefPrimitive.TheVa
 use Rattle.scale_info_value.specs.declared.value.Dyn.{Dyn}
 use Rattle.scale_info_value.specs.declared.value.Dyn.TheVariants as dyn
 use Rattle.scale_info_value.specs.Outcomes.{Decoder, decoded, failed, malformed, unsupported}
-use Rattle.scale_info_value.specs.Outcomes.{and_then, outcome_map, in_order}
+use Rattle.scale_info_value.specs.Outcomes.{and_then, outcome_map, in_turn}
 use Rattle.scale_info_value.specs.Numbers.{byte, bytes, number, compact_below, count}
 
 -- In a definition each reference stands for its decoders: of a value one deeper than the value that
@@ -65,11 +65,11 @@ primitive kind.I256 input = failed unsupported
 
 -- so many values of one type
 abbrev pub items : ℕ → Part → Decoder (List Dyn)
-items n part input = in_order (replicate n part.value) input
+items n part input = in_turn (replicate n part.value) input
 
 -- a value of each type in order
 abbrev pub members : List Part → Decoder (List Dyn)
-members parts input = in_order (map (λ part. part.value) parts) input
+members parts input = in_turn (map (λ part. part.value) parts) input
 
 -- a field's value, under the field's name
 abbrev pub field : {F : Type 0} → Field F Part Text → Decoder (Option Text × Dyn)
@@ -77,7 +77,7 @@ field f input = outcome_map (λ value. (f.name, value)) (f.ty.value input)
 
 -- the fields in order
 abbrev pub fields : {F : Type 0} → List (Field F Part Text) → Decoder (List (Option Text × Dyn))
-fields all input = in_order (map field all) input
+fields all input = in_turn (map field all) input
 
 -- the fields of a variant, under its name; no variant has a byte that is no index
 abbrev pub fields_of : {F : Type 0} → ℕ → Option (Variant F Part Text) → Decoder Dyn
@@ -86,18 +86,18 @@ fields_of index (Some v) input =
     outcome_map (λ values. dyn.Variant v.name index values) (fields v.fields input)
 
 -- an index byte, and then the fields of the first variant with that index
-abbrev pub variant : {F : Type 0} → List (Variant F Part Text) → Decoder Dyn
-variant all input =
+abbrev pub chosen_variant : {F : Type 0} → List (Variant F Part Text) → Decoder Dyn
+chosen_variant all input =
     and_then (byte input) (λ index rest. fields_of index (find (λ v. v.index == index) all) rest)
 
 -- A key and a value. The pair is one deeper than the map, and both are one deeper than the pair:
 -- where the pair is too deep, so is its key, which comes first.
 abbrev pub pair : Part → Part → Decoder Dyn
-pair key value input = outcome_map dyn.List (in_order (key.inner ∷ value.inner ∷ []) input)
+pair key value input = outcome_map dyn.List (in_turn (key.inner ∷ value.inner ∷ []) input)
 
 -- so many pairs
 abbrev pub pairs : ℕ → Part → Part → Decoder (List Dyn)
-pairs n key value input = in_order (replicate n (pair key value)) input
+pairs n key value input = in_turn (replicate n (pair key value)) input
 
 -- a count, and then so many
 abbrev pub counted : (ℕ → Decoder (List Dyn)) → Decoder (List Dyn)
@@ -106,7 +106,7 @@ counted values input = and_then (count input) values
 -- a value of each kind of definition
 abbrev pub value_by : {F : Type 0} → TypeDef F Part Text → Decoder Dyn
 value_by (def.Composite d) input = outcome_map dyn.Record (fields d.fields input)
-value_by (def.Variant d) input = variant d.variants input
+value_by (def.Variant d) input = chosen_variant d.variants input
 value_by (def.Sequence d) input =
     outcome_map dyn.List (counted (λ n rest. items n d.type_param rest) input)
 value_by (def.Array d) input = outcome_map dyn.List (items d.len d.type_param input)

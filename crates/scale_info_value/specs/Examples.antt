@@ -1,6 +1,7 @@
 -- Small tables, on which the definition of readings is tried.
 use Rattle.std.specs.Prelude.{ℕ, List, [], ◌∷◌, codes, map}
-use Rattle.scale_info_laws.specs.Examples.{id, plain, field, unnamed, variant}
+use Rattle.scale_info_laws.specs.Examples.{id, plain}
+use Rattle.scale_info_laws.specs.Examples.{example_field, example_tuple_field, example_variant}
 use Rattle.scale_info_types.specs.Portable.{TypeDef}
 use Rattle.scale_info_types.specs.declared.ty.TypeDef.TheVariants as def
 use Rattle.scale_info_primitives.specs.declared.primitive.TypeDefPrimitive.{TypeDefPrimitive}
@@ -17,13 +18,15 @@ list_of_u32 = table_of (def.Sequence (record { type_param = id 1 }) ∷ def.Prim
 
 -- a composite of one field, which is of this very type
 abbrev pub own_field : PortableRegistry
-own_field = table_of (def.Composite (record { fields = unnamed 0 ∷ [] }) ∷ [])
+own_field = table_of (def.Composite (record { fields = example_tuple_field 0 ∷ [] }) ∷ [])
 
 -- `struct S { a: u8, b: bool }`, `u8` and `bool`
 abbrev pub named_fields : PortableRegistry
 named_fields =
     table_of
-    (def.Composite (record { fields = field (codes "a") 1 ∷ field (codes "b") 2 ∷ [] })
+    (def.Composite (record {
+      fields = example_field (codes "a") 1 ∷ example_field (codes "b") 2 ∷ [];
+    })
     ∷ def.Primitive kind.U8 ∷ def.Primitive kind.Bool ∷ [])
 
 -- an enum of two variants, `A` without fields and `B` of one `bool`, which both have the index 3,
@@ -32,7 +35,10 @@ abbrev pub equal_indices : PortableRegistry
 equal_indices =
     table_of
     (def.Variant (record {
-      variants = variant (codes "A") 3 [] ∷ variant (codes "B") 3 (unnamed 1 ∷ []) ∷ [];
+      variants =
+          example_variant (codes "A") 3 []
+          ∷ example_variant (codes "B") 3 (example_tuple_field 1 ∷ [])
+          ∷ [];
     })
     ∷ def.Primitive kind.Bool ∷ [])
 

@@ -30,11 +30,11 @@ outcome_map f (decoded value rest) = decoded (f value) rest
 outcome_map f (failed why) = failed why
 
 -- one decoder after another, each on the rest that the one before left; the first failure counts
-abbrev pub in_order : {A : Type 0} → List (Decoder A) → Decoder (List A)
-in_order [] input = decoded [] input
-in_order (first ∷ more) input =
+abbrev pub in_turn : {A : Type 0} → List (Decoder A) → Decoder (List A)
+in_turn [] input = decoded [] input
+in_turn (first ∷ more) input =
     and_then (first input)
-    (λ value rest. outcome_map (λ values. value ∷ values) (in_order more rest))
+    (λ value rest. outcome_map (λ values. value ∷ values) (in_turn more rest))
 
 -- the error is the failure of the outcome; a failed allocation says nothing of the bytes
 abbrev pub IsErrorOf : {A : Type 0} → Outcome A → ValueError → Type 0

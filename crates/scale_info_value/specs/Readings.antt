@@ -6,7 +6,8 @@ use Rattle.scale_info_types.specs.Shapes.{map_definition, map_field, map_variant
 use Rattle.scale_info_tables.specs.declared.portable.PortableRegistry.{PortableRegistry}
 use Rattle.scale_info_value.specs.declared.value.Dyn.{Dyn}
 use Rattle.scale_info_value.specs.Outcomes.{Decoder, failed, no_such_type, too_deep}
-use Rattle.scale_info_value.specs.Definitions.{Part, items, members, fields, variant, pair, pairs}
+use Rattle.scale_info_value.specs.Definitions.{Part, items, members, fields, chosen_variant}
+use Rattle.scale_info_value.specs.Definitions.{pair, pairs}
 use Rattle.scale_info_value.specs.Definitions.{value_by, compact_by}
 
 -- the description of an id, which is an index
@@ -81,7 +82,7 @@ fields_within left table all input =
 -- a value of an enum with these variants
 abbrev pub variant_within : ℕ → PortableRegistry → List Variant → Decoder Dyn
 variant_within left table all input =
-    variant (map (map_variant {G = Unit {0}} (part_within left table) (λ t. t)) all) input
+    chosen_variant (map (map_variant {G = Unit {0}} (part_within left table) (λ t. t)) all) input
 
 -- so many values of one type
 abbrev pub items_within : ℕ → PortableRegistry → Id → ℕ → Decoder (List Dyn)

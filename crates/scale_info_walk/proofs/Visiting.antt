@@ -19,7 +19,7 @@ use Rattle.scale_info_numberings.specs.Numberings.{AreDistinct, IsNumbering}
 use Rattle.scale_info_numberings.specs.Systems.{Entry, System, IsReachedPast, root, next, looks, refs_in}
 use Rattle.scale_info_numberings.proofs.WorkLists.{IsWalking, walk_adds, walk_passes}
 use Rattle.scale_info_numberings.proofs.Weights.{weight, weight_in, distinct_sums}
-use Rattle.scale_info_walk.specs.Walks.{AreNumbers, IsCause, IsLook, IsNextOf, IsWalk}
+use Rattle.scale_info_walk.specs.Walks.{AreNumbers, IsWalkError, IsLook, IsNextOf, IsWalk}
 use Rattle.scale_info_walk.specs.declared.walk.RetainError.{RetainError}
 use Rattle.scale_info_walk.specs.declared.walk.RetainError.TheVariants.{Dangling, TooManyTypes, Memory}
 
@@ -291,7 +291,7 @@ module _ {Sh : Type 0} (S : System Sh ℕ) where
   pub cause_through :
       (n : ℕ) (old roots order rest : List ℕ) (id : ℕ) (e : RetainError)
       → IsWalking S old roots order (id ∷ rest)
-      → IsCause S n order (id ∷ []) e → IsCause S n old roots e
+      → IsWalkError S n order (id ∷ []) e → IsWalkError S n old roots e
   cause_through n old roots order rest id (Dangling k) x c =
       (reached_through old roots order rest id x k c.0, c.1)
   cause_through n old roots order rest id TooManyTypes x c = c
@@ -356,7 +356,7 @@ module _ {Sh : Type 0} (S : System Sh ℕ) where
   -- a cause at one of the roots, past an order, is one for all of them, with nothing known
   pub cause_at_root :
       (n : ℕ) (order roots : List ℕ) (r : ℕ) (e : RetainError) → Contains roots r
-      → IsCause S n order (r ∷ []) e → IsCause S n [] roots e
+      → IsWalkError S n order (r ∷ []) e → IsWalkError S n [] roots e
   cause_at_root n order roots r (Dangling id) c k = (reached_root order roots r c id k.0, k.1)
   cause_at_root n order roots r TooManyTypes c k = k
   cause_at_root n order roots r Memory c k = tt
@@ -367,7 +367,7 @@ module _ {Sh : Type 0} (S : System Sh ℕ) where
 
   -- what stops before the first root stops for these roots too
   pub cause_before :
-      (n : ℕ) (roots : List ℕ) (e : RetainError) → IsCause S n [] [] e → IsCause S n [] roots e
+      (n : ℕ) (roots : List ℕ) (e : RetainError) → IsWalkError S n [] [] e → IsWalkError S n [] roots e
   cause_before n roots (Dangling id) c = absurd (nothing_reached id c.0)
   cause_before n roots TooManyTypes c = c
   cause_before n roots Memory c = tt

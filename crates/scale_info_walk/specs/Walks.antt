@@ -21,10 +21,10 @@ pub record AreNumbers (order numbers : List ℕ) : Type 0 where
 -- Why a numbering of what the roots reach can stop, where there are count indices and the known
 -- ones are not entered: an id is reached that is no index; there are more than 4294967295 indices;
 -- or an allocation failed.
-abbrev pub IsCause : {Sh : Type 0} → System Sh ℕ → ℕ → List ℕ → List ℕ → RetainError → Type 0
-IsCause S count known roots (Dangling id) = IsReachedPast S known roots id × (count ≤ id)
-IsCause S count known roots TooManyTypes = 4294967295 < count
-IsCause S count known roots Memory = ⊤
+abbrev pub IsWalkError : {Sh : Type 0} → System Sh ℕ → ℕ → List ℕ → List ℕ → RetainError → Type 0
+IsWalkError S count known roots (Dangling id) = IsReachedPast S known roots id × (count ≤ id)
+IsWalkError S count known roots TooManyTypes = 4294967295 < count
+IsWalkError S count known roots Memory = ⊤
 
 -- what a walk has so far: an order, its dense list, and no more steps than there are references
 pub record IsWalk {Sh : Type 0} (S : System Sh ℕ) (count : ℕ) (order numbers : List ℕ)

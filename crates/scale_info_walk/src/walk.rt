@@ -8,7 +8,7 @@ ghost use Rattle.scale_info_numberings.specs.Systems.{looks};
 ghost use Rattle.scale_info_numberings.specs.Numberings.{IsNumbering};
 ghost use Rattle.scale_info_numberings.specs.Extensions.{IsExtension};
 ghost use Rattle.scale_info_walk.specs.TypeSystems.{types_system};
-ghost use Rattle.scale_info_walk.specs.Walks.{AreNumbers, IsCause, IsWalk, IsLook};
+ghost use Rattle.scale_info_walk.specs.Walks.{AreNumbers, IsWalkError, IsWalk, IsLook};
 ghost use Rattle.scale_info_walk.specs.declared.walk.RetainError.TheVariants as retain;
 
 use crate::references::{References, TypeReferences};
@@ -94,7 +94,7 @@ pub fn number(
         IsNumbering (types_system types.now) roots.now L → L ≡ n.order.items) }
     ensures steps { IfOk result (λ n. n.steps ≡ looks (types_system types.now) n.order.items) }
     ensures cause { IfErr result
-        (IsCause (types_system types.now) (length types.now) [] roots.now) }
+        (IsWalkError (types_system types.now) (length types.now) [] roots.now) }
 {
     let found = number_entries(alloc, types, roots)?;
     Ok(Numbering {
@@ -119,7 +119,7 @@ pub fn number_recursive(
         IsNumbering (types_system types.now) roots.now L → L ≡ n.order.items) }
     ensures steps { IfOk result (λ n. n.steps ≡ looks (types_system types.now) n.order.items) }
     ensures cause { IfErr result
-        (IsCause (types_system types.now) (length types.now) [] roots.now) }
+        (IsWalkError (types_system types.now) (length types.now) [] roots.now) }
 {
     let source = TypeReferences { types };
     let mut found = no_numbers(alloc, &source)?;
@@ -147,7 +147,7 @@ pub(crate) fn number_entries(
     ensures few { IfOk result (λ n. length types.now ≤ 4294967295) }
     ensures steps { IfOk result (λ n. n.steps ≡ looks (types_system types.now) n.order.items) }
     ensures cause { IfErr result
-        (IsCause (types_system types.now) (length types.now) [] roots.now) }
+        (IsWalkError (types_system types.now) (length types.now) [] roots.now) }
 {
     number_references(alloc, &TypeReferences { types }, roots)
 }
@@ -168,7 +168,7 @@ pub fn number_references<R: References>(
     ensures few { IfOk result (λ n. R.count source.now ≤ 4294967295) }
     ensures steps { IfOk result (λ n. n.steps ≡ looks (R.system source.now) n.order.items) }
     ensures cause { IfErr result
-        (IsCause (R.system source.now) (R.count source.now) [] roots.now) }
+        (IsWalkError (R.system source.now) (R.count source.now) [] roots.now) }
 {
     let mut found = no_numbers(alloc, source)?;
     for root in roots {
@@ -184,7 +184,7 @@ fn no_numbers<R: References>(alloc: Global, source: &R) -> Result<Renumbering, R
         n.order.items n.numbers.items n.steps) }
     ensures order { IfOk result (λ n. n.order.items ≡ []) }
     ensures steps { IfOk result (λ n. n.steps ≡ 0) }
-    ensures cause { IfErr result (IsCause (R.system source.now) (R.count source.now) [] []) }
+    ensures cause { IfErr result (IsWalkError (R.system source.now) (R.count source.now) [] []) }
 {
     let count = source.len();
     if count > 4294967295 {
@@ -215,7 +215,7 @@ fn visit<R: References>(
     ensures counted { OnOk result (walk.new.steps + looks (R.system source.now) walk.old.order.items
         ≡ walk.old.steps + looks (R.system source.now) walk.new.order.items) }
     ensures cause { IfErr result
-        (IsCause (R.system source.now) (R.count source.now) walk.old.order.items (id ∷ [])) }
+        (IsWalkError (R.system source.now) (R.count source.now) walk.old.order.items (id ∷ [])) }
 {
     let mut refs = Refs::new(alloc);
     look(alloc, source, id, walk, &mut refs)?;
@@ -241,7 +241,7 @@ fn visit_recursively<R: References>(
     ensures counted { OnOk result (walk.new.steps + looks (R.system source.now) walk.old.order.items
         ≡ walk.old.steps + looks (R.system source.now) walk.new.order.items) }
     ensures cause { IfErr result
-        (IsCause (R.system source.now) (R.count source.now) walk.old.order.items (id ∷ [])) }
+        (IsWalkError (R.system source.now) (R.count source.now) walk.old.order.items (id ∷ [])) }
 {
     let mut refs = Refs::new(alloc);
     look(alloc, source, id, walk, &mut refs)?;
@@ -267,7 +267,7 @@ fn look<R: References>(
         walk.old.order.items refs.old walk.new.order.items refs.new) }
     ensures steps { walk.new.steps ≡ walk.old.steps }
     ensures cause { IfErr result
-        (IsCause (R.system source.now) (R.count source.now) walk.old.order.items (id ∷ [])) }
+        (IsWalkError (R.system source.now) (R.count source.now) walk.old.order.items (id ∷ [])) }
 {
     let Some(number) = walk.numbers.get_mut(id as usize) else {
         return Err(RetainError::Dangling { id });

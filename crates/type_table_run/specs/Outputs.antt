@@ -11,7 +11,7 @@ use Rattle.scale_info_tables.specs.declared.portable.PortableRegistry.{PortableR
 use Rattle.type_table_run.specs.Commands.{given_ids}
 use Rattle.type_table_run.specs.declared.command.Command.{Command}
 use Rattle.type_table_run.specs.declared.command.Command.TheVariants.{Check, Prune, Json}
-use Rattle.type_table_run.specs.Tables.{IsTable}
+use Rattle.type_table_run.specs.Tables.{IsOneTable}
 use Rattle.type_table_run.specs.Reports.{AppendsPrefix}
 
 -- the input encodes one table, and the output is an encoding of the table of the numbering of it
@@ -38,7 +38,7 @@ pub record IsJsonOf (input output : List ℕ) : Type 0 where
 
 -- for the whole input the command has this output
 abbrev pub Outputs : Command → List ℕ → List ℕ → Type 0
-Outputs Check input output = IsTable input × (output ≡ input)
+Outputs Check input output = IsOneTable input × (output ≡ input)
 Outputs (Prune ids) input output = IsPrunedTo (given_ids (Prune ids)) input output
 Outputs Json input output = IsJsonOf input output
 

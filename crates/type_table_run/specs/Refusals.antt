@@ -13,25 +13,25 @@ use Rattle.type_table_run.specs.declared.error.RunError.TheVariants.{NoSuchType,
 use Rattle.type_table_run.specs.declared.error.RunError.TheVariants.{Memory, Input, Output}
 use Rattle.type_table_run.specs.Lines.{line_of}
 use Rattle.type_table_run.specs.Outputs.{WritesPrefix}
-use Rattle.type_table_run.specs.Tables.{HasTrailing}
+use Rattle.type_table_run.specs.Tables.{HasTrailingBytes}
 use Rattle.type_table_run.specs.Reports.{AppendsPrefix}
 
 -- why there is no output for the input, where these ids are given
-abbrev pub IsErrorOf : List ℕ → List ℕ → RunError → Type 0
-IsErrorOf given input Malformed = HasNoPrefix EncodesRegistry input
-IsErrorOf given input TrailingBytes = HasTrailing input
-IsErrorOf given input (NoSuchType id) = HasNoSuchType input given id
-IsErrorOf given input (Dangling id) = HasDangling input given id
-IsErrorOf given input Memory = Unit {0}
-IsErrorOf given input Input = ⊥
-IsErrorOf given input Output = ⊥
+abbrev pub IsCommandError : List ℕ → List ℕ → RunError → Type 0
+IsCommandError given input Malformed = HasNoPrefix EncodesRegistry input
+IsCommandError given input TrailingBytes = HasTrailingBytes input
+IsCommandError given input (NoSuchType id) = HasNoSuchType input given id
+IsCommandError given input (Dangling id) = HasDangling input given id
+IsCommandError given input Memory = Unit {0}
+IsCommandError given input Input = ⊥
+IsCommandError given input Output = ⊥
 
 -- what an error of a command says of the known input, and of the output's known bytes before and
 -- after
 abbrev pub Explains : Command → (input old new : Option (List ℕ)) → RunError → Type 0
 Explains command input old new Malformed =
     IfSome input (HasNoPrefix EncodesRegistry) × Keeps old new
-Explains command input old new TrailingBytes = IfSome input HasTrailing × Keeps old new
+Explains command input old new TrailingBytes = IfSome input HasTrailingBytes × Keeps old new
 Explains command input old new (NoSuchType id) =
     IfSome input (λ bytes. HasNoSuchType bytes (given_ids command) id) × Keeps old new
 Explains command input old new (Dangling id) =

@@ -9,23 +9,23 @@ use Rattle.type_table_run.specs.declared.error.RunError.TheVariants.{NoSuchType,
 use Rattle.type_table_run.specs.declared.error.RunError.TheVariants.{Memory, Input, Output}
 
 -- the input encodes one table, with nothing after it
-pub record IsTable (input : List ℕ) : Type 0 where
+pub record IsOneTable (input : List ℕ) : Type 0 where
   pub table : PortableRegistry
   pub encodes : EncodesRegistry table input
 
 -- the input begins with a table, and goes on
-pub record HasTrailing (input : List ℕ) : Type 0 where
+pub record HasTrailingBytes (input : List ℕ) : Type 0 where
   pub table : PortableRegistry
   pub rest : List ℕ
   pub prefix : HasPrefix (EncodesRegistry table) input rest
   pub more : rest ≢ []
 
 -- why the input is not found to be one table
-abbrev pub IsTableError : List ℕ → RunError → Type 0
-IsTableError input Malformed = HasNoPrefix EncodesRegistry input
-IsTableError input TrailingBytes = HasTrailing input
-IsTableError input (NoSuchType id) = ⊥
-IsTableError input (Dangling id) = ⊥
-IsTableError input Memory = Unit {0}
-IsTableError input Input = ⊥
-IsTableError input Output = ⊥
+abbrev pub IsCheckError : List ℕ → RunError → Type 0
+IsCheckError input Malformed = HasNoPrefix EncodesRegistry input
+IsCheckError input TrailingBytes = HasTrailingBytes input
+IsCheckError input (NoSuchType id) = ⊥
+IsCheckError input (Dangling id) = ⊥
+IsCheckError input Memory = Unit {0}
+IsCheckError input Input = ⊥
+IsCheckError input Output = ⊥

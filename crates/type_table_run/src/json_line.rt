@@ -3,7 +3,7 @@ ghost use Rattle.std.specs.Prelude.{IfErr, IfOk};
 ghost use Rattle.scale_info_bytes.specs.Encodings.{HasNoPrefix, IfMalformed};
 ghost use Rattle.scale_info_tables.specs.TableEncoding.{EncodesRegistry};
 ghost use Rattle.type_table_run.specs.Outputs.{BeginsWithJson, IsJsonOf};
-ghost use Rattle.type_table_run.specs.Tables.{IsTableError};
+ghost use Rattle.type_table_run.specs.Tables.{IsCheckError};
 
 use crate::error::RunError;
 use scale_info_codec::DecodeError;
@@ -29,7 +29,7 @@ fn json_line_of(alloc: Global, input: &[u8]) -> Result<(Vec<u8>, &[u8]), DecodeE
 /// the table; `Memory`, if an allocation failed.
 pub fn json_of(alloc: Global, input: &[u8]) -> Result<Vec<u8>, RunError>
     ensures ok { IfOk result (λ line. IsJsonOf input.now line.items) }
-    ensures err { IfErr result (IsTableError input.now) }
+    ensures err { IfErr result (IsCheckError input.now) }
 {
     match json_line_of(alloc, input) {
         Ok((line, rest)) => {

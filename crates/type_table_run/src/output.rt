@@ -3,7 +3,7 @@ ghost use Rattle.std.specs.Prelude.{All, IfOk, IfErr, map};
 ghost use Rattle.type_table_run.specs.Commands.{HasIdTexts, given_ids};
 ghost use Rattle.type_table_run.specs.Ids.{IsIdText, id_in};
 ghost use Rattle.type_table_run.specs.Outputs.{IsPrunedTo, Outputs};
-ghost use Rattle.type_table_run.specs.Refusals.{IsErrorOf};
+ghost use Rattle.type_table_run.specs.Refusals.{IsCommandError};
 
 use crate::command::Command;
 use crate::error::RunError;
@@ -20,7 +20,7 @@ use std::alloc::Global;
 fn pruned(alloc: Global, input: &[u8], ids: &[Text]) -> Result<Vec<u8>, RunError>
     requires { All IsIdText ids.now }
     ensures ok { IfOk result (λ output. IsPrunedTo (map id_in ids.now) input.now output.items) }
-    ensures err { IfErr result (IsErrorOf (map id_in ids.now) input.now) }
+    ensures err { IfErr result (IsCommandError (map id_in ids.now) input.now) }
 {
     let ids = ids_of(alloc, ids).map_err(|_| RunError::Memory)?;
     let mut output = Vec::new(alloc);
@@ -38,7 +38,7 @@ fn pruned(alloc: Global, input: &[u8], ids: &[Text]) -> Result<Vec<u8>, RunError
 pub fn output_of(alloc: Global, command: &Command, input: Vec<u8>) -> Result<Vec<u8>, RunError>
     requires { HasIdTexts command.now }
     ensures ok { IfOk result (λ output. Outputs command.now input.items output.items) }
-    ensures err { IfErr result (IsErrorOf (given_ids command.now) input.items) }
+    ensures err { IfErr result (IsCommandError (given_ids command.now) input.items) }
 {
     match command {
         Command::Check => {

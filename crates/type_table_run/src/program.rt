@@ -11,7 +11,7 @@ ghost use Rattle.type_table_run.specs.Lines.{out_of_memory_line, input_failed_li
 ghost use Rattle.type_table_run.specs.Lines.{output_failed_line};
 ghost use Rattle.type_table_run.specs.Outputs.{Writes, WritesPrefix};
 ghost use Rattle.type_table_run.specs.Refusals.{Explains, Refuses};
-ghost use Rattle.type_table_run.specs.Tables.{HasTrailing};
+ghost use Rattle.type_table_run.specs.Tables.{HasTrailingBytes};
 ghost use Rattle.type_table_run.specs.Reports.{AppendsPrefix, Reported};
 
 use crate::command::{Command, command_of};
@@ -111,7 +111,7 @@ pub fn run<R: Read, W: Write, F: Write>(
         × Keeps (W.contents output.old) (W.contents output.new) }
     ensures trailing_bytes { Reported (F.contents errors.old) (F.contents errors.new)
         trailing_bytes_line
-        → IfSome (R.remaining reader.old) HasTrailing
+        → IfSome (R.remaining reader.old) HasTrailingBytes
         × Keeps (W.contents output.old) (W.contents output.new) }
     ensures no_such_type { (id : ℕ) → id ≤ 4294967295
         → Reported (F.contents errors.old) (F.contents errors.new) (no_such_type_line id)

@@ -1,6 +1,6 @@
 //! Whether bytes are one table.
 ghost use Rattle.std.specs.Prelude.{IfErr, OnOk};
-ghost use Rattle.type_table_run.specs.Tables.{IsTable, IsTableError};
+ghost use Rattle.type_table_run.specs.Tables.{IsOneTable, IsCheckError};
 
 use crate::error::RunError;
 use scale_info_collections::items::Items;
@@ -12,8 +12,8 @@ use scale_info_types::ty::PortableType;
 /// Errors: `Malformed`, if no prefix of the input is a table; `TrailingBytes`, if bytes come after
 /// the table.
 pub fn check_table(input: &[u8]) -> Result<(), RunError>
-    ensures ok { OnOk result (IsTable input.now) }
-    ensures err { IfErr result (IsTableError input.now) }
+    ensures ok { OnOk result (IsOneTable input.now) }
+    ensures err { IfErr result (IsCheckError input.now) }
 {
     match skip::<Items<PortableType>>(input) {
         Some(rest) => {

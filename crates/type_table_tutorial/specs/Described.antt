@@ -21,18 +21,18 @@ abbrev pub tree_term : Term
 tree_term = named (codes "tutorial::Tree")
 
 -- a field with a name and a type, and the name of the type as the source writes it
-abbrev pub field : List ℕ → Term → List ℕ → Field (Unit {0}) Term (List ℕ)
-field name ty type_name =
+abbrev pub source_field : List ℕ → Term → List ℕ → Field (Unit {0}) Term (List ℕ)
+source_field name ty type_name =
     record { name = Some name; ty = ty; type_name = Some type_name; docs = [] }
 
 -- a variant with an index and fields
-abbrev pub variant :
+abbrev pub source_variant :
     List ℕ → ℕ → List (Field (Unit {0}) Term (List ℕ)) → Variant (Unit {0}) Term (List ℕ)
-variant name index fields = record { name = name; fields = fields; index = index; docs = [] }
+source_variant name index fields = record { name = name; fields = fields; index = index; docs = [] }
 
 -- a type of the module `tutorial` with this name and definition
-abbrev pub described : List ℕ → TypeDef (Unit {0}) Term (List ℕ) → Option MetaContent
-described name definition =
+abbrev pub tutorial_description : List ℕ → TypeDef (Unit {0}) Term (List ℕ) → Option MetaContent
+tutorial_description name definition =
     Some (record {
       path = record { segments = codes "tutorial" ∷ name ∷ []; form = tt };
       type_params = [];
@@ -43,24 +43,24 @@ described name definition =
 -- `struct Point { x: u32, y: u32 }`
 abbrev pub point_description : Option MetaContent
 point_description =
-    described (codes "Point")
+    tutorial_description (codes "Point")
     (def.Composite (record {
       fields =
-          field (codes "x") (primitive_term (codes "u32")) (codes "u32")
-          ∷ field (codes "y") (primitive_term (codes "u32")) (codes "u32")
+          source_field (codes "x") (primitive_term (codes "u32")) (codes "u32")
+          ∷ source_field (codes "y") (primitive_term (codes "u32")) (codes "u32")
           ∷ [];
     }))
 
 -- `enum Shape { Empty, Circle { center: Point, radius: u32 } }`
 abbrev pub shape_description : Option MetaContent
 shape_description =
-    described (codes "Shape")
+    tutorial_description (codes "Shape")
     (def.Variant (record {
       variants =
-          variant (codes "Empty") 0 []
-          ∷ variant (codes "Circle") 1
-          (field (codes "center") point_term (codes "Point")
-          ∷ field (codes "radius") (primitive_term (codes "u32")) (codes "u32")
+          source_variant (codes "Empty") 0 []
+          ∷ source_variant (codes "Circle") 1
+          (source_field (codes "center") point_term (codes "Point")
+          ∷ source_field (codes "radius") (primitive_term (codes "u32")) (codes "u32")
           ∷ [])
           ∷ [];
     }))
@@ -68,10 +68,10 @@ shape_description =
 -- `struct Tree { shape: Shape, branches: Vec<Tree> }`
 abbrev pub tree_description : Option MetaContent
 tree_description =
-    described (codes "Tree")
+    tutorial_description (codes "Tree")
     (def.Composite (record {
       fields =
-          field (codes "shape") shape_term (codes "Shape")
-          ∷ field (codes "branches") (slice_term tree_term) (codes "Vec<Tree>")
+          source_field (codes "shape") shape_term (codes "Shape")
+          ∷ source_field (codes "branches") (slice_term tree_term) (codes "Vec<Tree>")
           ∷ [];
     }))

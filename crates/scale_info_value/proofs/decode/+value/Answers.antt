@@ -1,7 +1,7 @@
 use Rattle.std.proofs.Common.{◌≡◌, ◌-◌, ◌+◌, Some, None, replicate, find, ◌==◌, arith, ap, sym, ◌∙◌}
 use Rattle.std.proofs.lemmas.Grind.{common_steps}
 use Rattle.scale_info_value.specs.declared.value.Dyn.TheVariants as dyn
-use Rattle.scale_info_value.specs.Outcomes.{decoded, outcome_map, in_order}
+use Rattle.scale_info_value.specs.Outcomes.{decoded, outcome_map, in_turn}
 use Rattle.scale_info_value.specs.Readings.{type_at, value_within, pair_within, fields_within}
 use Rattle.scale_info_value.proofs.Errors.{passed}
 use Rattle.scale_info_value.proofs.InOrder.{preceded, take_next, reads_one, first_fails}
@@ -36,7 +36,7 @@ items-returns-in_err-value-clause-err t c =
     passed c.from_residual.result c.in_err-value.field-0.0 c.from_residual.ensures.1 (read c.loop.rest.now) _
     (λ why e.
     c.loop.invariant
-    ∙ ap (λ rs. preceded c.loop.values (in_order rs c.loop.rest.now))
+    ∙ ap (λ rs. preceded c.loop.values (in_turn rs c.loop.rest.now))
     (take_next c.args.count c.loop.counter read (omega arith))
     ∙ first_fails c.loop.values read (replicate (c.args.count - (c.loop.counter + 1)) read) c.loop.rest.now why e)
     c.in_err-value.ensures.err
@@ -46,11 +46,11 @@ items-loop-preserved t c =
     let read = value_within (c.args.left - 1) c.args.table.now c.args.ty.now.id in
     let more = replicate (c.args.count - (c.loop.counter + 1)) read in
     c.loop.invariant
-    ∙ ap (λ rs. preceded c.loop.values (in_order rs c.loop.rest.now))
+    ∙ ap (λ rs. preceded c.loop.values (in_turn rs c.loop.rest.now))
     (take_next c.args.count c.loop.counter read (omega arith))
     ∙ reads_one c.loop.values read more c.loop.rest.now c.in_ok-value.value c.in_ok-value.after.now
     c.in_ok-value.ensures.ok
-    ∙ ap (λ vs. preceded vs (in_order more c.in_ok-value.after.now)) (sym c.in_ok-push_towards.ensures.list)
+    ∙ ap (λ vs. preceded vs (in_turn more c.in_ok-value.after.now)) (sym c.in_ok-push_towards.ensures.list)
 
 pub pairs-returns-in_err-pair-clause-err : goal.pairs-returns-in_err-pair-clause-err
 pairs-returns-in_err-pair-clause-err t c =
@@ -58,7 +58,7 @@ pairs-returns-in_err-pair-clause-err t c =
     passed c.from_residual.result c.in_err-pair.field-0.0 c.from_residual.ensures.1 (read c.loop.rest.now) _
     (λ why e.
     c.loop.invariant
-    ∙ ap (λ rs. preceded c.loop.values (in_order rs c.loop.rest.now))
+    ∙ ap (λ rs. preceded c.loop.values (in_turn rs c.loop.rest.now))
     (take_next c.args.count c.loop.counter read (omega arith))
     ∙ first_fails c.loop.values read (replicate (c.args.count - (c.loop.counter + 1)) read) c.loop.rest.now why e)
     c.in_err-pair.ensures.err
@@ -68,11 +68,11 @@ pairs-loop-preserved t c =
     let read = pair_within c.args.left c.args.table.now c.args.key.now c.args.value.now in
     let more = replicate (c.args.count - (c.loop.counter + 1)) read in
     c.loop.invariant
-    ∙ ap (λ rs. preceded c.loop.values (in_order rs c.loop.rest.now))
+    ∙ ap (λ rs. preceded c.loop.values (in_turn rs c.loop.rest.now))
     (take_next c.args.count c.loop.counter read (omega arith))
     ∙ reads_one c.loop.values read more c.loop.rest.now c.in_ok-pair.pair c.in_ok-pair.after.now
     c.in_ok-pair.ensures.ok
-    ∙ ap (λ vs. preceded vs (in_order more c.in_ok-pair.after.now)) (sym c.in_ok-push_towards.ensures.list)
+    ∙ ap (λ vs. preceded vs (in_turn more c.in_ok-pair.after.now)) (sym c.in_ok-push_towards.ensures.list)
 
 pub value_by-returns-in_err-values-in-Composite-clause-err : goal.value_by-returns-in_err-values-in-Composite-clause-err
 value_by-returns-in_err-values-in-Composite-clause-err t c =

@@ -8,7 +8,7 @@ use Rattle.scale_info_references.specs.Conversions.{number_of}
 use Rattle.scale_info_walk.specs.Kept.{AreKept}
 use Rattle.scale_info_walk.specs.Pruned.{IsChosen, IsRetainError}
 use Rattle.scale_info_walk.specs.TypeSystems.{types_system}
-use Rattle.scale_info_walk.specs.Walks.{IsCause}
+use Rattle.scale_info_walk.specs.Walks.{IsWalkError}
 use Rattle.scale_info_walk.specs.declared.walk.RetainError.{RetainError}
 use Rattle.scale_info_walk.specs.declared.walk.RetainError.TheVariants.{Dangling, TooManyTypes, Memory}
 use Rattle.scale_info_numberings.specs.Numberings.{IsNumbering}
@@ -23,7 +23,7 @@ retain_error :
     {F : Type 0} (step : F → ℕ → Bool → F → Type 0) (first : F) (types : List PortableType) (chosen roots : List ℕ) (last : F)
     (e : RetainError)
     → IsChosen step first (length types) chosen last → roots ≡ chosen
-    → IsCause (types_system types) (length types) [] roots e → IsRetainError step first types e
+    → IsWalkError (types_system types) (length types) [] roots e → IsRetainError step first types e
 retain_error step first types chosen roots last (Dangling id) x same c =
     (chosen, last, x, subst (λ (rs : List ℕ). IsReached (types_system types) rs id) same c.0, c.1)
 retain_error step first types chosen roots last TooManyTypes x same c = c
@@ -40,8 +40,8 @@ returns-in_err-found-clause-cause g c =
     let p = err_from_is_err_and c.from_residual-in_err-found.result c.from_residual-in_err-found.ensures.1 in
     let chosen = c.in_ok-chosen.ensures in
     let e = c.in_err-found.field-0.0 in
-    let cause : IsCause (types_system c.args.types.now) (length c.args.types.now) [] c.deref.result.now e =
-    subst (λ (ts : List PortableType). IsCause (types_system ts) (length ts) [] c.deref.result.now e) c.as_slice.ensures c.in_err-found.ensures.cause in
+    let cause : IsWalkError (types_system c.args.types.now) (length c.args.types.now) [] c.deref.result.now e =
+    subst (λ (ts : List PortableType). IsWalkError (types_system ts) (length ts) [] c.deref.result.now e) c.as_slice.ensures c.in_err-found.ensures.cause in
     rw (p.1, p.2)
     (retain_error _ c.args.filter c.args.types.now c.in_ok-chosen.chosen.items c.deref.result.now chosen.0 e
     (chosen_of _ c.args.filter c.len-2.result (length c.args.types.now) c.in_ok-chosen.chosen.items chosen.0 c.len-2.ensures chosen.1)

@@ -2,12 +2,12 @@ use Rattle.std.proofs.Common.{List, ℕ, [], ◌≡◌, ◌++◌, ◌≢◌, ◌
 use Rattle.scale_info_bytes.specs.Parts.{EncodesList}
 use Rattle.scale_info_codec.specs.Ty.{EncodesPortableType}
 use Rattle.scale_info_passes.specs.Pieces.{HasSomePrefix}
-use Rattle.type_table_run.specs.Tables.{IsTable}
+use Rattle.type_table_run.specs.Tables.{IsOneTable}
 use Rattle.type_table_run.proofs.Rests.{is_empty}
 use Rattle.type_table_run.proofs.table.check_table.Goals as goal
 
 -- a table after which nothing comes is the whole input
-is_table : (a r : List ℕ) → r ≡ [] → HasSomePrefix (EncodesList EncodesPortableType) a r → IsTable a
+is_table : (a r : List ℕ) → r ≡ [] → HasSomePrefix (EncodesList EncodesPortableType) a r → IsOneTable a
 is_table a r e p = record {
   table = record { types = p.value };
   encodes = subst (λ t. EncodesList EncodesPortableType p.value t) (sym (p.prefix.parts ∙ ap (λ t. p.prefix.encoding ++ t) e ∙ append-nil p.prefix.encoding)) p.prefix.encodes;
