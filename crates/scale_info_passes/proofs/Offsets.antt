@@ -5,6 +5,7 @@ use Rattle.std.proofs.Common.{append_assoc, length-append, length-take, length-d
 use Rattle.std.specs.List.{AllZip, slice_get, flat_map}
 use Rattle.std.proofs.lemmas.Grind.{flat_map-append}
 use Rattle.std.proofs.lemmas.List.{take_more, take_at, append-nil}
+use Rattle.scale_info_types.specs.Entries.{kept_entry}
 use Rattle.scale_info_types.specs.Portable.{Id}
 use Rattle.scale_info_types.specs.References.{references}
 use Rattle.scale_info_types.specs.Shapes.{map_description}
@@ -20,7 +21,7 @@ use Rattle.scale_info_codec.specs.TyLaws.{portable_type_law, description_law}
 use Rattle.scale_info_bytes.specs.CompactLaws.{compact_law}
 use Rattle.scale_info_bytes.specs.PartLaws.{through_law}
 use Rattle.scale_info_passes.specs.Pieces.{HasSomePrefix, HasNoItems}
-use Rattle.scale_info_passes.specs.Entries.{IsAtOffset, HasEntries, kept_entry, IsKeptEntry}
+use Rattle.scale_info_passes.specs.Entries.{IsAtOffset, HasEntries, IsKeptEntry}
 use Rattle.scale_info_passes.specs.Entries.{AreKeptEntries, AppendsKeptEntry, AppendsKeptEntries}
 use Rattle.scale_info_passes.specs.Entries.{reference_ids, AreStarts, IsEntryIndex}
 use Rattle.scale_info_bytes.proofs.Steps.{prefix_item, prefix_pair, same_prefix, appends_pair}

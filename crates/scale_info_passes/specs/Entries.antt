@@ -1,9 +1,9 @@
 -- The entries of a table, by the offsets of their descriptions.
 use Rattle.std.specs.Prelude.{◌≡◌, ℕ, ◌+◌, ◌≤◌, List, [], ◌∷◌, length, drop, Some, slice_get}
 use Rattle.std.specs.List.{AllZip, flat_map}
+use Rattle.scale_info_types.specs.Entries.{kept_entry}
 use Rattle.scale_info_types.specs.Portable.{Id}
 use Rattle.scale_info_types.specs.References.{references}
-use Rattle.scale_info_types.specs.Shapes.{map_description}
 use Rattle.scale_info_types.specs.declared.ty.PortableType.{PortableType}
 use Rattle.scale_info_bytes.specs.Encodings.{HasPrefix, AppendsEncoding}
 use Rattle.scale_info_bytes.specs.Parts.{EncodesItems}
@@ -51,10 +51,6 @@ pub record IsEntryIndex (n : ℕ) (input rest offsets starts ids : List ℕ) : T
   pub references : ids ≡ flat_map reference_ids at.entries
 
 -- ---- entries that are kept
-
--- the entry with id k, its references replaced
-abbrev pub kept_entry : (Id → Id) → ℕ → PortableType → PortableType
-kept_entry f k e = record { id = k; ty = map_description f (λ s. s) e.ty }
 
 -- the entry at index i, kept with id k
 pub record IsKeptEntry (entries : List PortableType) (f : Id → Id) (k i : ℕ)

@@ -11,10 +11,11 @@ use Rattle.scale_info_bytes.specs.Numbers.{EncodesCompact}
 use Rattle.scale_info_codec.specs.Ty.{EncodesPortableType}
 use Rattle.scale_info_passes.specs.Entries.{AreKeptEntries, AppendsKeptEntries, IsEntryIndex}
 use Rattle.scale_info_passes.specs.Visits.{renumbered}
+use Rattle.scale_info_types.specs.Entries.{kept_entry}
 use Rattle.scale_info_types.specs.Portable.{Id}
 use Rattle.scale_info_types.specs.declared.ty.PortableType.{PortableType}
 use Rattle.scale_info_walk.proofs.KeptEntries.{Agrees}
-use Rattle.scale_info_walk.specs.Kept.{AreKept, kept_entry}
+use Rattle.scale_info_walk.specs.Kept.{AreKept}
 use Rattle.scale_info_prune.specs.TableIndexes.{AppendsKeptTable, EncodesTypes, HasTrailing, IsTableIndex}
 
 -- the count and the entries are a table
@@ -91,7 +92,7 @@ kept_at :
     → AreKeptEntries entries (renumbered numbers) k is kept
     → (i n : ℕ) → slice_get is i ≡ Some n
     → (old : PortableType) × (slice_get entries n ≡ Some old)
-    × (slice_get kept i ≡ Some (kept_entry (written_number numbers) (k + i) old))
+    × (slice_get kept i ≡ Some (kept_entry (renumbered numbers) (k + i) old))
 kept_at entries numbers k [] kept a i n e = absurd (none-some n e)
 kept_at entries numbers k (x ∷ is) [] a i n e = absurd a
 kept_at entries numbers k (x ∷ is) (y ∷ ys) a zero n e =
@@ -99,12 +100,12 @@ kept_at entries numbers k (x ∷ is) (y ∷ ys) a zero n e =
     let first : k ≡ k + zero = omega arith in (
       a.0.entry,
       ap (λ j. slice_get entries j) (sym same) ∙ a.0.found,
-      ap Some (a.0.is ∙ ap (λ j. kept_entry (written_number numbers) j a.0.entry) first),
+      ap Some (a.0.is ∙ ap (λ j. kept_entry (renumbered numbers) j a.0.entry) first),
     )
 kept_at entries numbers k (x ∷ is) (y ∷ ys) a (suc i) n e =
     let r = kept_at entries numbers (k + 1) is ys a.1 i n e in
     let later : k + 1 + i ≡ k + suc i = omega arith in
-    (r.0, r.1, r.2 ∙ ap (λ j. Some (kept_entry (written_number numbers) j r.0)) later)
+    (r.0, r.1, r.2 ∙ ap (λ j. Some (kept_entry (renumbered numbers) j r.0)) later)
 
 -- entries that a pass keeps, with ids from 0 on, are kept with the numbers that it writes
 pub kept_entries :
@@ -116,5 +117,5 @@ kept_entries entries numbers indices kept a = (
   λ i n e.
       let r = kept_at entries numbers 0 indices kept a i n e in
       let first : 0 + i ≡ i = omega arith in
-      (r.0, r.1, r.2 ∙ ap (λ j. Some (kept_entry (written_number numbers) j r.0)) first),
+      (r.0, r.1, r.2 ∙ ap (λ j. Some (kept_entry (renumbered numbers) j r.0)) first),
 )

@@ -1,3 +1,4 @@
+pub mod Entries
 pub mod Iterators
 pub mod MetaDescriptions
 pub mod Orders

@@ -17,13 +17,14 @@ use Rattle.scale_info_numberings.specs.Numberings.{AreDistinct, IsNumbering}
 use Rattle.scale_info_numberings.specs.Systems.{next}
 use Rattle.scale_info_numberings.specs.Tables.{ArePlaces, IsTable}
 use Rattle.scale_info_references.proofs.Replaced.{shape_stays, ids_replaced}
+use Rattle.scale_info_types.specs.Entries.{kept_entry}
 use Rattle.scale_info_types.specs.Portable.{Id, Text}
 use Rattle.scale_info_types.specs.References.{references}
 use Rattle.scale_info_types.specs.declared.ty.PortableType.{PortableType}
 use Rattle.scale_info_walk.proofs.Visiting.{same_or_not, set_other}
-use Rattle.scale_info_walk.specs.Kept.{AreKept, kept_entry}
+use Rattle.scale_info_walk.specs.Kept.{AreKept}
 use Rattle.scale_info_walk.specs.Pruned.{IsPruned}
-use Rattle.scale_info_references.specs.Conversions.{ids_in, number_of}
+use Rattle.scale_info_references.specs.Conversions.{ids_in, number_of, symbol}
 use Rattle.scale_info_walk.specs.TypeSystems.{entry_of, types_system}
 use Rattle.scale_info_walk.specs.Walks.{AreNumbers}
 
@@ -32,7 +33,7 @@ pub kept_more :
     (types : List PortableType) (order : List ℕ) (f : Id → ℕ) (kept : List PortableType) (k : ℕ)
     (old new : PortableType)
     → slice_get types k ≡ Some old
-    → new ≡ kept_entry f (length kept) old
+    → new ≡ kept_entry (λ r. symbol (f r)) (length kept) old
     → AreKept types order f kept → AreKept types (order ++ k ∷ []) f (kept ++ new ∷ [])
 kept_more types order f kept k old new s e x =
     let a = length_push kept new in
@@ -55,7 +56,7 @@ kept_more types order f kept k old new s e x =
                   ap (λ j. slice_get types j) (sym key) ∙ s,
                   ap (λ j. slice_get (kept ++ new ∷ []) j) there
                       ∙ (at_seam kept [] new
-                      ∙ ap Some (e ∙ ap (λ j. kept_entry f j old) (sym there))),
+                      ∙ ap Some (e ∙ ap (λ j. kept_entry (λ r. symbol (f r)) j old) (sym there))),
                 )
           ],
     )
@@ -127,7 +128,7 @@ module _ (types : List PortableType) (roots order numbers : List ℕ) (f : Id �
         long = length-map kept entry_of ∙ x.0;
         entries = λ i n e.
             let r = x.1 i n e in
-            let new = kept_entry f i r.0 in (
+            let new = kept_entry (λ r. symbol (f r)) i r.0 in (
               entry_of r.0,
               entry_of new,
               ap (option_map entry_of) r.1,
@@ -147,7 +148,7 @@ module _ (types : List PortableType) (roots order numbers : List ℕ) (f : Id �
       let long = x.0 in
       let n = element_at order i (omega arith) in
       let r = x.1 i n.0 n.1 in
-      ap (λ (t : PortableType). t.id) (same_Some entry (kept_entry f i r.0) (sym e ∙ r.2))
+      ap (λ (t : PortableType). t.id) (same_Some entry (kept_entry (λ r. symbol (f r)) i r.0) (sym e ∙ r.2))
 
   -- a map with the dense list's numbers takes each index of the order to its place, and no other
   pub kept_indices :
