@@ -1,6 +1,6 @@
 //! Tables that a program puts together at run time.
 ghost use Rattle.std.specs.Prelude.{◌≡◌, ◌++◌, [], ◌∷◌, length, IfOk, OnErr, IsErrOf, slice_get};
-ghost use Rattle.std.specs.Prelude.{Some, Ok, ◌↔◌};
+ghost use Rattle.std.specs.Prelude.{Some, Ok, OnOk, ◌↔◌, ◌≤◌};
 ghost use Rattle.std.specs.Option.{option_copied};
 ghost use Rattle.scale_info_identities.specs.Interned.{IsNew, IsIndexOf};
 ghost use Rattle.scale_info_numberings.specs.Numberings.{AreDistinct};
@@ -99,13 +99,37 @@ impl PortableRegistryBuilder {
     pub fn finish(&self, alloc: Global) -> Result<PortableRegistry, AllocError>
         ensures { IfOk result (λ table. table.types ≡ numbered_from 0 self.now) }
     {
-        let mut types = Items::with_capacity(alloc, self.types.elements().len())?;
-        for ty in self.types.elements() {
-            let id = types.len() as u32;
-            types.push(PortableType::new(id, ty.try_clone(alloc)?))?;
-        }
-        Ok(PortableRegistry { types })
+        Ok(PortableRegistry {
+            types: numbered(alloc, self.types.elements())?,
+        })
     }
+}
+
+/// Copies of descriptions as the entries of a table.
+fn numbered(alloc: Global, types: &[Type<PortableForm>]) -> Result<Items<PortableType>, AllocError>
+    requires { length types.now ≤ 4294967295 }
+    ensures { IfOk result (λ entries. entries ≡ numbered_from 0 types.now) }
+{
+    let mut entries = Items::with_capacity(alloc, types.len())?;
+    for ty in types {
+        push_copy(alloc, ty, &mut entries)?;
+    }
+    Ok(entries)
+}
+
+/// Appends a copy of a description, with its index as its id.
+fn push_copy(
+    alloc: Global,
+    ty: &Type<PortableForm>,
+    entries: &mut Items<PortableType>,
+) -> Result<(), AllocError>
+    requires { length entries.old ≤ 4294967295 }
+    ensures { OnOk result (entries.new
+        ≡ entries.old ++ numbered_from (length entries.old) (ty.now ∷ [])) }
+{
+    let id = entries.len() as u32;
+    entries.push(PortableType::new(id, ty.try_clone(alloc)?))?;
+    Ok(())
 }
 
 /// The number of a value in an interner, where it goes last if it is new.
