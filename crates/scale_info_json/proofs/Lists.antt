@@ -113,8 +113,9 @@ all_taken W xs i ds h e = e ∙ ap (map W) (take_all i xs h)
 
 -- a tree more in the list that is built
 pub pushed :
-    {A : Type 0} (W : A → Data) (xs : List A) (i : ℕ) (x : A) (built now : List Value) (v : Value)
+    {A : Type 0} (W : A → Data) (xs : List A) (i : ℕ) (x : A) (built now : List Value)
     → i < length xs → x ≡ get_or xs i x
-    → map view built ≡ map W (take i xs) → now ≡ built ++ v ∷ [] → view v ≡ W x → map view now ≡ map W (take (i + 1) xs)
-pushed W xs i x built now v h e before is seen =
-    ap (map view) is ∙ map-append view built (v ∷ []) ∙ ap (λ l. l ++ view v ∷ []) before ∙ ap (λ d. map W (take i xs) ++ d ∷ []) seen ∙ sym (one_more W xs i x h e)
+    → map view built ≡ map W (take i xs) → map view now ≡ map view built ++ W x ∷ []
+    → map view now ≡ map W (take (i + 1) xs)
+pushed W xs i x built now h e before is =
+    is ∙ ap (λ l. l ++ W x ∷ []) before ∙ sym (one_more W xs i x h e)

@@ -1,7 +1,8 @@
 -- What a tree means. A tree is what `serde_json` shows of a `Value`.
-use Rattle.std.specs.Prelude.{◌≡◌, ℕ, ◌<◌, List, [], ◌∷◌, Option, Some, None}
+use Rattle.std.specs.Prelude.{◌≡◌, ℕ, ◌<◌, List, [], ◌∷◌, Option, Some, None, is_some}
+use Rattle.std.specs.Prelude.{if◌then◌else◌}
 use Rattle.serde_json.specs.Data.{Data, null, number, unsigned, string, array, object, Members}
-use Rattle.serde_json.specs.Find.{get}
+use Rattle.serde_json.specs.Find.{get, as_null}
 use Rattle.serde_json.specs.View.{items_of}
 use Rattle.scale_info_json.specs.declared.error.JsonError.{JsonError}
 use Rattle.scale_info_json.specs.declared.error.JsonError.TheVariants as error
@@ -45,6 +46,11 @@ pub record MeansList {A : Type 0} (M : Data → A → Type 0) (d : Data) (vs : L
   pub means : MeansEach M trees vs
 
 -- ---- what a key has: None is a missing key
+
+-- null counts as missing
+abbrev pub unless_null : Option Data → Option Data
+unless_null None = None
+unless_null (Some d) = if is_some (as_null d) then None else Some d
 
 -- the key is required
 abbrev pub MeansRequired : {A : Type 0} → (Data → A → Type 0) → Option Data → A → Type 0

@@ -1,5 +1,5 @@
 //! Lists as trees.
-ghost use Rattle.std.specs.Prelude.{◌≡◌, IfOk, map};
+ghost use Rattle.std.specs.Prelude.{◌≡◌, ◌++◌, ◌∷◌, [], IfOk, OnOk, map};
 ghost use Rattle.serde_json.specs.View.{view};
 ghost use Rattle.scale_info_json.specs.Meaning.{MeansEach, MeansList};
 ghost use Rattle.scale_info_json.specs.Written.{list_tree};
@@ -19,9 +19,19 @@ fn trees_of<T: Json>(alloc: Global, values: &[T]) -> Result<Vec<Value>, AllocErr
 {
     let mut trees = Vec::with_capacity(alloc, values.len())?;
     for value in values {
-        trees.push(value.to_json(alloc)?)?;
+        push_tree(alloc, value, &mut trees)?;
     }
     Ok(trees)
+}
+
+/// Appends the tree of a value.
+fn push_tree<T: Json>(alloc: Global, value: &T, trees: &mut Vec<Value>) -> Result<(), AllocError>
+    ensures ok { OnOk result (map view trees.new.items
+        ≡ map view trees.old.items ++ T.written value.now ∷ []) }
+    ensures means { OnOk result (T.meant (T.written value.now) value.now) }
+{
+    trees.push(value.to_json(alloc)?)?;
+    Ok(())
 }
 
 impl<T: Json> Json for Items<T> {

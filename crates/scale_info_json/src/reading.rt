@@ -1,7 +1,8 @@
 //! The members of an object that is read.
-ghost use Rattle.std.specs.Prelude.{IfOk, IfErr};
+ghost use Rattle.std.specs.Prelude.{◌≡◌, IfOk, IfErr, option_map};
+ghost use Rattle.serde_json.specs.Find.{get};
 ghost use Rattle.serde_json.specs.View.{view};
-ghost use Rattle.scale_info_json.specs.Meaning.{IsObject, HasValue, HasList, HasOption};
+ghost use Rattle.scale_info_json.specs.Meaning.{IsObject, HasValue, HasList, HasOption, unless_null};
 ghost use Rattle.scale_info_json.specs.Meaning.{IsMeaningless, IfShape};
 
 use crate::error::JsonError;
@@ -47,9 +48,20 @@ pub fn list_or_empty<T: Json>(alloc: Global, tree: &Value, key: &str) -> Result<
     ensures shape { IfErr result (IfShape
         (IsMeaningless (HasList key.now T.meant (view tree.now)))) }
 {
+    let Some(found) = tree.get(key) else {
+        return Ok(Items::new(alloc));
+    };
+    Items::<T>::from_json(alloc, found)
+}
+
+/// The tree of a key; None where the key is missing or has null.
+fn present<'t>(tree: &'t Value, key: &str) -> Option<&'t Value>
+    ensures { option_map (λ found. view found.now) result
+        ≡ unless_null (get key.now (view tree.now)) }
+{
     match tree.get(key) {
-        Some(found) => Items::<T>::from_json(alloc, found),
-        None => Ok(Items::new(alloc)),
+        Some(found) if !found.is_null() => Some(found),
+        _ => None,
     }
 }
 
@@ -66,13 +78,8 @@ pub fn value_or_none<T: Json>(
     ensures shape { IfErr result (IfShape
         (IsMeaningless (HasOption key.now T.meant (view tree.now)))) }
 {
-    match tree.get(key) {
-        Some(found) => {
-            if found.is_null() {
-                return Ok(None);
-            }
-            Ok(Some(T::from_json(alloc, found)?))
-        }
+    match present(tree, key) {
+        Some(found) => Ok(Some(T::from_json(alloc, found)?)),
         None => Ok(None),
     }
 }

@@ -1,14 +1,11 @@
 use Rattle.std.proofs.lemmas.Result.{IfOk-weaker}
 use Rattle.serde_json.specs.View.{view}
 use Rattle.scale_info_json.proofs.Errors.{shape_weaker}
-use Rattle.scale_info_json.proofs.Under.{list_missing, list_found, no_list_found}
+use Rattle.scale_info_json.proofs.Under.{list_found, no_list_found}
 use Rattle.scale_info_json.proofs.reading.list_or_empty.Goals as goal
 
-pub returns-in-Some-clause-ok : goal.returns-in-Some-clause-ok
-returns-in-Some-clause-ok g c = IfOk-weaker c.from_json.result _ _ (λ vs m. list_found g.T.Json.meant c.args.key.now (view c.args.tree.now) c.in-Some.ensures m) c.from_json.ensures.ok
+pub returns-clause-ok : goal.returns-clause-ok
+returns-clause-ok g c = IfOk-weaker c.from_json.result _ _ (λ vs m. list_found g.T.Json.meant c.args.key.now (view c.args.tree.now) c.in-Some.ensures m) c.from_json.ensures.ok
 
-pub returns-in-Some-clause-shape : goal.returns-in-Some-clause-shape
-returns-in-Some-clause-shape g c = shape_weaker c.from_json.result (λ n. no_list_found g.T.Json.meant c.args.key.now (view c.args.tree.now) c.in-Some.ensures n) c.from_json.ensures.shape
-
-pub returns-in-None-clause-ok : goal.returns-in-None-clause-ok
-returns-in-None-clause-ok g c = rw c.new.ensures (list_missing g.T.Json.meant c.args.key.now (view c.args.tree.now) c.in-None.ensures)
+pub returns-clause-shape : goal.returns-clause-shape
+returns-clause-shape g c = shape_weaker c.from_json.result (λ n. no_list_found g.T.Json.meant c.args.key.now (view c.args.tree.now) c.in-Some.ensures n) c.from_json.ensures.shape

@@ -1,10 +1,6 @@
-use Rattle.std.proofs.Common.{sym}
 use Rattle.serde_json.specs.View.{view}
-use Rattle.scale_info_json.proofs.Under.{option_missing, option_null, option_found}
+use Rattle.scale_info_json.proofs.Under.{option_missing, option_found}
 use Rattle.scale_info_json.proofs.reading.value_or_none.Goals as goal
-
-pub returns-then-is_null-clause-ok : goal.returns-then-is_null-clause-ok
-returns-then-is_null-clause-ok g c = option_null g.T.Json.meant c.args.key.now (view c.args.tree.now) c.in-Some.ensures (sym c.if-is_null.ensures)
 
 pub returns-in_ok-from_json-in-Some-clause-ok : goal.returns-in_ok-from_json-in-Some-clause-ok
 returns-in_ok-from_json-in-Some-clause-ok g c = option_found g.T.Json.meant c.args.key.now (view c.args.tree.now) c.in-Some.ensures c.in_ok-from_json-in-Some.ensures.ok
