@@ -7,7 +7,8 @@ ghost use Rattle.scale_info_identities.specs.TypeIds.{term_of};
 ghost use Rattle.scale_info_catalogue.specs.Catalogues.{AreSame, HasOneMore, HasOther};
 ghost use Rattle.scale_info_catalogue.specs.Catalogues.{catalogue_error, contents_of, described};
 ghost use Rattle.scale_info_catalogue.specs.Catalogues.{size};
-ghost use Rattle.scale_info_types.specs.MetaDescriptions.{MetaDescription, meta_content};
+ghost use Rattle.scale_info_types.specs.MetaDescriptions.{MetaContent, MetaDescription};
+ghost use Rattle.scale_info_types.specs.MetaDescriptions.{meta_content};
 ghost use Rattle.scale_info_catalogue.specs.declared.catalogue.CatalogueError.TheVariants as error;
 
 use scale_info_identities::type_id::TypeId;
@@ -104,7 +105,8 @@ impl Catalogue {
             → (d : MetaDescription) × (T.description ≡ Some (meta_content d))
             × HasOneMore self.old self.new T.Identity.own d) }
         ensures known { IfOk result (λ new. (new ≡ false)
-            ↔ (contents_of self.old T.Identity.own ≡ T.description)) }
+            ↔ ((content : MetaContent) × (T.description ≡ Some content)
+            × (contents_of self.old T.Identity.own ≡ Some content))) }
         ensures known_same { IfOk result (λ new. new ≡ false → AreSame self.old self.new) }
         ensures conflict { IsErrOf result CatalogueError.Conflict
             → (contents_of self.old T.Identity.own ≢ None)

@@ -2,3 +2,4 @@
 #![tactic(auto)]
 
 pub mod catalogue;
+pub mod laws;

@@ -151,24 +151,31 @@ index_prefix_free i v w b c x y (variant p) (variant q) e =
     (h.0, λ k. def.Variant (record { variants = h.1 k }))
 index_prefix_free i v w b c x y (sequence p) (sequence q) e =
     let h = id_law.prefix_free _ _ b c x y p q e in
-    (h.0, λ k. def.Sequence (record { type_param = h.1 k }))
+    (h.0, λ k. def.Sequence (record { type_param = h.1 k; form = tt }))
 index_prefix_free i v w b c x y (array p) (array q) e =
     let h = (pair_law u32_law id_law).prefix_free _ _ b c x y p q e in
-    (h.0, λ k. def.Array (record { len = (h.1 k).0; type_param = (h.1 k).1 }))
+    (h.0, λ k. def.Array (record { len = (h.1 k).0; type_param = (h.1 k).1; form = tt }))
 index_prefix_free i v w b c x y (tuple p) (tuple q) e =
     let h = (list_law id_law).prefix_free _ _ b c x y p q e in
-    (h.0, λ k. def.Tuple (record { fields = h.1 k }))
+    (h.0, λ k. def.Tuple (record { fields = h.1 k; form = tt }))
 index_prefix_free i v w b c x y (primitive p) (primitive q) e =
     let h = primitive_law.prefix_free _ _ b c x y p q e in (h.0, ap def.Primitive h.1)
 index_prefix_free i v w b c x y (compact p) (compact q) e =
     let h = id_law.prefix_free _ _ b c x y p q e in
-    (h.0, λ k. def.Compact (record { type_param = h.1 k }))
+    (h.0, λ k. def.Compact (record { type_param = h.1 k; form = tt }))
 index_prefix_free i v w b c x y (bit_sequence p) (bit_sequence q) e =
-    let h = (pair_law id_law id_law).prefix_free _ _ b c x y p q e in
-    (h.0, λ k. def.BitSequence (record { bit_store_type = (h.1 k).0; bit_order_type = (h.1 k).1 }))
+    let h = (pair_law id_law id_law).prefix_free _ _ b c x y p q e in (
+      h.0,
+      λ k.
+          def.BitSequence (record {
+            bit_store_type = (h.1 k).0;
+            bit_order_type = (h.1 k).1;
+            form = tt;
+          }),
+    )
 index_prefix_free i v w b c x y (map p) (map q) e =
     let h = (pair_law id_law id_law).prefix_free _ _ b c x y p q e in
-    (h.0, λ k. def.Map (record { key = (h.1 k).0; value = (h.1 k).1 }))
+    (h.0, λ k. def.Map (record { key = (h.1 k).0; value = (h.1 k).1; form = tt }))
 
 index_bytes :
     (i : ℕ) (v : portable.TypeDef) (b : List ℕ) → EncodesTypeDefWithIndex i v b

@@ -17,6 +17,7 @@ ghost use Rattle.scale_info_codec.specs.TyLaws.{description_law, portable_type_l
 use crate::scale::Scale;
 use crate::tuple::{encode_four, encode_two, encode_with_index};
 use scale_info_bytes::error::{DecodeError, EncodeError};
+use scale_info_collections::items::Items;
 use scale_info_type_ids::impls::Compact;
 use scale_info_types::form::PortableForm;
 use scale_info_types::ty::composite::TypeDefComposite;
@@ -84,8 +85,7 @@ impl Scale for TypeDefSequence<PortableForm> {
     ghost encodes = { λ v b. EncodesId v.type_param b };
 
     fn encode_to(&self, out: &mut Vec<u8>) -> Result<(), EncodeError> {
-        let TypeDefSequence { type_param } = self;
-        type_param.encode_to(out)
+        self.type_param.encode_to(out)
     }
 
     fn decode_from(
@@ -93,10 +93,11 @@ impl Scale for TypeDefSequence<PortableForm> {
         input: &[u8],
     ) -> Result<(TypeDefSequence<PortableForm>, &[u8]), DecodeError> {
         let (type_param, rest) = Scale::decode_from(alloc, input)?;
-        Ok((TypeDefSequence { type_param }, rest))
+        Ok((TypeDefSequence::new(type_param), rest))
     }
 
-    ghost law = { through_law (λ v. v.type_param) (λ v w e i. record { type_param = e i }) id_law };
+    ghost law = { through_law (λ v. v.type_param)
+        (λ v w e i. record { type_param = e i; form = tt }) id_law };
 }
 
 impl Scale for TypeDefArray<PortableForm> {
@@ -111,30 +112,30 @@ impl Scale for TypeDefArray<PortableForm> {
         input: &[u8],
     ) -> Result<(TypeDefArray<PortableForm>, &[u8]), DecodeError> {
         let ((len, type_param), rest) = Scale::decode_from(alloc, input)?;
-        Ok((TypeDefArray { len, type_param }, rest))
+        Ok((TypeDefArray::new(len, type_param), rest))
     }
 
     ghost law = { through_law array_parts
-        (λ v w e i. record { len = (e i).0; type_param = (e i).1 }) (pair_law u32_law id_law) };
+        (λ v w e i. record { len = (e i).0; type_param = (e i).1; form = tt })
+        (pair_law u32_law id_law) };
 }
 
 impl Scale for TypeDefTuple<PortableForm> {
     ghost encodes = { λ v b. EncodesList EncodesId v.fields b };
 
     fn encode_to(&self, out: &mut Vec<u8>) -> Result<(), EncodeError> {
-        let TypeDefTuple { fields } = self;
-        fields.encode_to(out)
+        self.fields.encode_to(out)
     }
 
     fn decode_from(
         alloc: Global,
         input: &[u8],
     ) -> Result<(TypeDefTuple<PortableForm>, &[u8]), DecodeError> {
-        let (fields, rest) = Scale::decode_from(alloc, input)?;
-        Ok((TypeDefTuple { fields }, rest))
+        let (fields, rest) = Items::decode_from(alloc, input)?;
+        Ok((TypeDefTuple::from(fields), rest))
     }
 
-    ghost law = { through_law (λ v. v.fields) (λ v w e i. record { fields = e i })
+    ghost law = { through_law (λ v. v.fields) (λ v w e i. record { fields = e i; form = tt })
         (list_law id_law) };
 }
 
@@ -214,8 +215,7 @@ impl Scale for TypeDefCompact<PortableForm> {
     ghost encodes = { λ v b. EncodesId v.type_param b };
 
     fn encode_to(&self, out: &mut Vec<u8>) -> Result<(), EncodeError> {
-        let TypeDefCompact { type_param } = self;
-        type_param.encode_to(out)
+        self.type_param.encode_to(out)
     }
 
     fn decode_from(
@@ -223,10 +223,11 @@ impl Scale for TypeDefCompact<PortableForm> {
         input: &[u8],
     ) -> Result<(TypeDefCompact<PortableForm>, &[u8]), DecodeError> {
         let (type_param, rest) = Scale::decode_from(alloc, input)?;
-        Ok((TypeDefCompact { type_param }, rest))
+        Ok((TypeDefCompact::new(type_param), rest))
     }
 
-    ghost law = { through_law (λ v. v.type_param) (λ v w e i. record { type_param = e i }) id_law };
+    ghost law = { through_law (λ v. v.type_param)
+        (λ v w e i. record { type_param = e i; form = tt }) id_law };
 }
 
 impl Scale for TypeDefBitSequence<PortableForm> {
@@ -240,16 +241,12 @@ impl Scale for TypeDefBitSequence<PortableForm> {
         alloc: Global,
         input: &[u8],
     ) -> Result<(TypeDefBitSequence<PortableForm>, &[u8]), DecodeError> {
-        let ((bit_store_type, bit_order_type), rest) = Scale::decode_from(alloc, input)?;
-        let def = TypeDefBitSequence {
-            bit_store_type,
-            bit_order_type,
-        };
-        Ok((def, rest))
+        let ((store, order), rest) = Scale::decode_from(alloc, input)?;
+        Ok((TypeDefBitSequence::new_portable(store, order), rest))
     }
 
     ghost law = { through_law bit_sequence_parts
-        (λ v w e i. record { bit_store_type = (e i).0; bit_order_type = (e i).1 })
+        (λ v w e i. record { bit_store_type = (e i).0; bit_order_type = (e i).1; form = tt })
         (pair_law id_law id_law) };
 }
 
@@ -265,10 +262,11 @@ impl Scale for TypeDefMap<PortableForm> {
         input: &[u8],
     ) -> Result<(TypeDefMap<PortableForm>, &[u8]), DecodeError> {
         let ((key, value), rest) = Scale::decode_from(alloc, input)?;
-        Ok((TypeDefMap { key, value }, rest))
+        Ok((TypeDefMap::new(key, value), rest))
     }
 
-    ghost law = { through_law map_parts (λ v w e i. record { key = (e i).0; value = (e i).1 })
+    ghost law = { through_law map_parts
+        (λ v w e i. record { key = (e i).0; value = (e i).1; form = tt })
         (pair_law id_law id_law) };
 }
 

@@ -1,11 +1,11 @@
-//! A field of no size that names a type, as `PhantomData` does in Rust.
+//! A field of no size that names a type, and that contracts see as a unit.
 
-use std::marker::Model;
+use std::marker::{Model, PhantomData};
 
 /// Names a type and holds nothing. Any two are equal.
 #[derive(Drop)]
 pub struct Marker<T> {
-    none: [T; 0],
+    named: PhantomData<T>,
 }
 
 impl<T> Model for Marker<T> {
@@ -17,6 +17,6 @@ impl<T> Model for Marker<T> {
 impl<T> Marker<T> {
     /// The only value.
     pub fn new() -> Self {
-        Marker { none: [] }
+        Marker { named: PhantomData }
     }
 }

@@ -59,3 +59,10 @@ IsNumberError c ids id Memory = ⊤
 IsNumberError c ids id (Undescribed other) =
     (other ≡ id) × IsNew equals.eq ids id × (described c (term_of id) ≡ None)
 IsNumberError c ids id Full = IsNew equals.eq ids id × (length ids ≡ 4294967295)
+
+-- the errors are of one variant, and the identities that they name, if any, have one term
+abbrev pub AreSameRegisterErrors : RegisterError → RegisterError → Type 0
+AreSameRegisterErrors Memory Memory = ⊤
+AreSameRegisterErrors (Undescribed a) (Undescribed b) = term_of a ≡ term_of b
+AreSameRegisterErrors Full Full = ⊤
+AreSameRegisterErrors _ _ = ⊥

@@ -9,6 +9,7 @@ use Rattle.scale_info_identities.specs.TypeIds.{Term}
 use Rattle.scale_info_numberings.specs.Numberings.{IsNumbering}
 use Rattle.scale_info_numberings.specs.Systems.{System}
 use Rattle.scale_info_numberings.specs.Tables.{ArePlaces, IsTable}
+use Rattle.scale_info_discovery.specs.Discoveries as discoveries
 use Rattle.scale_info_discovery.specs.Discoveries.{IsCause}
 use Rattle.scale_info_discovery.specs.declared.discovery.RegisterError.{RegisterError}
 use Rattle.scale_info_discovery.specs.declared.discovery.RegisterError.TheVariants as register
@@ -99,3 +100,12 @@ of_retain retain.Memory = Memory
 abbrev pub of_encode : EncodeError → ExportError
 of_encode encode.TooLong = Encode encode.TooLong
 of_encode encode.Memory = Memory
+
+-- the errors are of one variant, and what they hold is the same; an identity is compared as its
+-- term
+abbrev pub AreSameExportErrors : ExportError → ExportError → Type 0
+AreSameExportErrors (Register a) (Register b) = discoveries.AreSameRegisterErrors a b
+AreSameExportErrors (Retain a) (Retain b) = a ≡ b
+AreSameExportErrors (Encode a) (Encode b) = a ≡ b
+AreSameExportErrors Memory Memory = ⊤
+AreSameExportErrors _ _ = ⊥

@@ -26,8 +26,8 @@ use std::alloc::{AllocError, AllocFailed, Global};
 use std::collections::BTreeMap;
 use thiserror::Error;
 
-/// What [`export`] returns.
-#[derive(Debug, Drop)]
+/// What [`export`] returns. Two are equal where both fields are.
+#[derive(Drop, PartialEq, Eq)]
 pub struct Exported {
     /// The id that each given type got, before pruning, in the order in which they were given.
     pub ids: Vec<u32>,
@@ -121,10 +121,11 @@ impl From<EncodeError> for ExportError {
 ///
 /// ```text
 /// let types = [meta_type::<bool>(alloc)?, meta_type::<Vec<u32>>(alloc)?];
-/// export(&catalogue, &types, |id| id == 1, &mut out)?
+/// export(alloc, &catalogue, &types, |id| id == 1, &mut out)?
 /// // ids 0 and 1; the map {1: 0, 2: 1}; out grew by the table of Vec<u32> and u32
 /// ```
 pub fn export<F: FnMut(u32) -> bool>(
+    alloc: Global,
     catalogue: &Catalogue,
     types: &[MetaType],
     filter: F,
@@ -139,7 +140,6 @@ pub fn export<F: FnMut(u32) -> bool>(
     ensures cause { IfErr result
         (IsExportError (catalogue_system catalogue.now) (roots_of types.now) F.step filter) }
 {
-    let alloc = *out.allocator();
     let (mut table, ids) = registered_table(alloc, types, catalogue)?;
     let map = table.retain(alloc, filter)?;
     table.encode(out)?;

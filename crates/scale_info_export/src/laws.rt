@@ -1,4 +1,5 @@
 //! The law of the whole: what the bytes of a pruned table say of the types that were registered.
+//! Nothing here does any work when it runs.
 ghost use Rattle.std.specs.Prelude.{◌≡◌, ◌↔◌, [], Contains, List, map, ℕ};
 ghost use Rattle.scale_info_export.specs.Headline.{AreAccepted, AreChosenTypes, AreNewIds};
 ghost use Rattle.scale_info_export.specs.Headline.{History, IsTableOf, IsWritten, Pruning};
@@ -19,6 +20,10 @@ ghost use Rattle.scale_info_walk.specs.TypeSystems.{entry_of};
 use scale_info_registry::laws::{registered_afresh, registrations_afresh};
 use scale_info_tables::laws::one_text;
 use scale_info_types::laws::shape_and_references;
+
+mod equalities;
+
+pub use equalities::{equal_export_errors, equal_exported};
 
 /// After any list of accepted registrations and one successful `retain`, the bytes are the
 /// grammar's only text of the one depth-first numbering of what the chosen types reach, as if

@@ -1,5 +1,7 @@
-//! A program's body that registers types, prunes and writes, proved to do what the law of the whole
-//! says, from the contracts of its calls alone.
+//! What a program writes that exports types of its own, and one that registers, prunes and writes
+//! by itself and so does what the law of the whole says; proved from the contracts of the calls
+//! alone.
 #![tactic(auto)]
 
+pub mod exported;
 pub mod written;

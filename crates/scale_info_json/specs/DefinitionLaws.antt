@@ -47,6 +47,7 @@ sequence_law = record {
     type_param =
         value_unique MeansId id_law (codes "type") d v.type_param w.type_param p.type_param
         q.type_param i;
+    form = tt;
   };
   not_null = λ v p. no_object p.object;
 }
@@ -61,6 +62,7 @@ array_law = record {
     type_param =
         value_unique MeansId id_law (codes "type") d v.type_param w.type_param p.type_param
         q.type_param i;
+    form = tt;
   };
   not_null = λ v p. no_object p.object;
 }
@@ -72,6 +74,7 @@ compact_law = record {
     type_param =
         value_unique MeansId id_law (codes "type") d v.type_param w.type_param p.type_param
         q.type_param i;
+    form = tt;
   };
   not_null = λ v p. no_object p.object;
 }
@@ -86,6 +89,7 @@ bit_sequence_law = record {
     bit_order_type =
         value_unique MeansId id_law (codes "bit_order_type") d v.bit_order_type w.bit_order_type
         p.bit_order_type q.bit_order_type i;
+    form = tt;
   };
   not_null = λ v p. no_object p.object;
 }
@@ -96,6 +100,7 @@ map_law = record {
   unique = λ d v w p q i. record {
     key = value_unique MeansId id_law (codes "key") d v.key w.key p.key q.key i;
     value = value_unique MeansId id_law (codes "value") d v.value w.value p.value q.value i;
+    form = tt;
   };
   not_null = λ v p. no_object p.object;
 }
@@ -174,7 +179,8 @@ under_unique k t v w (variant p) (variant q) = ap def.Variant (variant_type_law.
 under_unique k t v w (sequence p) (sequence q) = ap def.Sequence (sequence_law.unique t _ _ p q)
 under_unique k t v w (array p) (array q) = ap def.Array (array_law.unique t _ _ p q)
 under_unique k t v w (tuple p) (tuple q) =
-    let e = (list_law id_law).unique t _ _ p q in λ i. def.Tuple (record { fields = e i })
+    let e = (list_law id_law).unique t _ _ p q in
+    λ i. def.Tuple (record { fields = e i; form = tt })
 under_unique k t v w (primitive p) (primitive q) = ap def.Primitive (primitive_law.unique t _ _ p q)
 under_unique k t v w (compact p) (compact q) = ap def.Compact (compact_law.unique t _ _ p q)
 under_unique k t v w (bit_sequence p) (bit_sequence q) =

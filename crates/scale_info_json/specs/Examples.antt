@@ -25,7 +25,7 @@ second = record { id = 1; marker = record {} }
 abbrev pub vec_u32 : PortableRegistry
 vec_u32 = record {
   types =
-      entry 0 (def.Sequence (record { type_param = second }))
+      entry 0 (def.Sequence (record { type_param = second; form = tt }))
       ∷ entry 1 (def.Primitive kind.U32)
       ∷ [];
 }

@@ -94,7 +94,7 @@ impl Object for TypeDefSequence<PortableForm> {
     ) -> Result<TypeDefSequence<PortableForm>, JsonError> {
         require_object(tree)?;
         let type_param = required(alloc, tree, "type")?;
-        Ok(TypeDefSequence { type_param })
+        Ok(TypeDefSequence::new(type_param))
     }
 
     ghost ordered = { λ v. refl };
@@ -116,7 +116,7 @@ impl Object for TypeDefArray<PortableForm> {
         require_object(tree)?;
         let len = required(alloc, tree, "len")?;
         let type_param = required(alloc, tree, "type")?;
-        Ok(TypeDefArray { len, type_param })
+        Ok(TypeDefArray::new(len, type_param))
     }
 
     ghost ordered = { λ v. refl };
@@ -139,7 +139,7 @@ impl Object for TypeDefCompact<PortableForm> {
     ) -> Result<TypeDefCompact<PortableForm>, JsonError> {
         require_object(tree)?;
         let type_param = required(alloc, tree, "type")?;
-        Ok(TypeDefCompact { type_param })
+        Ok(TypeDefCompact::new(type_param))
     }
 
     ghost ordered = { λ v. refl };
@@ -162,12 +162,9 @@ impl Object for TypeDefBitSequence<PortableForm> {
         tree: &Value,
     ) -> Result<TypeDefBitSequence<PortableForm>, JsonError> {
         require_object(tree)?;
-        let bit_store_type = required(alloc, tree, "bit_store_type")?;
-        let bit_order_type = required(alloc, tree, "bit_order_type")?;
-        Ok(TypeDefBitSequence {
-            bit_store_type,
-            bit_order_type,
-        })
+        let store = required(alloc, tree, "bit_store_type")?;
+        let order = required(alloc, tree, "bit_order_type")?;
+        Ok(TypeDefBitSequence::new_portable(store, order))
     }
 
     ghost ordered = { λ v. refl };
@@ -189,7 +186,7 @@ impl Object for TypeDefMap<PortableForm> {
         require_object(tree)?;
         let key = required(alloc, tree, "key")?;
         let value = required(alloc, tree, "value")?;
-        Ok(TypeDefMap { key, value })
+        Ok(TypeDefMap::new(key, value))
     }
 
     ghost ordered = { λ v. refl };
@@ -282,7 +279,7 @@ fn definition_under(
         "array" => Ok(TypeDef::Array(Json::from_json(alloc, tree)?)),
         "tuple" => {
             let fields = Items::from_json(alloc, tree)?;
-            Ok(TypeDef::Tuple(TypeDefTuple { fields }))
+            Ok(TypeDef::Tuple(TypeDefTuple::from(fields)))
         }
         "primitive" => Ok(TypeDef::Primitive(Json::from_json(alloc, tree)?)),
         "compact" => Ok(TypeDef::Compact(Json::from_json(alloc, tree)?)),

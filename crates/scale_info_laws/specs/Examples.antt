@@ -61,16 +61,21 @@ with_variants =
 -- a bit sequence with this store and order
 abbrev pub bit_sequence : ℕ → ℕ → portable.Description
 bit_sequence store order =
-    plain (def.BitSequence (record { bit_store_type = id store; bit_order_type = id order }))
+    plain (def.BitSequence (record {
+      bit_store_type = id store;
+      bit_order_type = id order;
+      form = tt;
+    }))
 
 -- a map with these keys and values
 abbrev pub key_values : ℕ → ℕ → portable.Description
-key_values key value = plain (def.Map (record { key = id key; value = id value }))
+key_values key value = plain (def.Map (record { key = id key; value = id value; form = tt }))
 
 -- a pair with these members
 abbrev pub example_pair : ℕ → ℕ → portable.Description
-example_pair first second = plain (def.Tuple (record { fields = id first ∷ id second ∷ [] }))
+example_pair first second =
+    plain (def.Tuple (record { fields = id first ∷ id second ∷ []; form = tt }))
 
 -- an array with this length and type
 abbrev pub array : ℕ → ℕ → portable.Description
-array length ty = plain (def.Array (record { len = length; type_param = id ty }))
+array length ty = plain (def.Array (record { len = length; type_param = id ty; form = tt }))

@@ -23,6 +23,7 @@ ghost use Rattle.scale_info_types.specs.declared.ty.path.Path as paths;
 ghost use Rattle.scale_info_types.specs.declared.ty.variant.TypeDefVariant as enums;
 ghost use Rattle.scale_info_types.specs.declared.ty.variant.Variant as variants;
 
+use scale_info_identities::laws::hashed_type_ids;
 use scale_info_types::form::Form;
 use scale_info_types::meta_type::{MetaType, TypeId};
 use scale_info_types::ty::path::Path;
@@ -39,6 +40,15 @@ pub fn ordered_meta_types()
     ensures ordered { (a b : meta_types.MetaType)
         → ⟦<MetaType as Ord>⟧.cmp a b ≡ ⟦<TypeId as Ord>⟧.cmp a.identity b.identity }
 {}
+
+/// Equal types of the program are hashed alike.
+pub fn hashed_meta_types()
+    ensures { (a b : meta_types.MetaType) → IsTrue (⟦<MetaType as PartialEq>⟧.eq a b)
+        → ⟦<MetaType as std::hash::Hash>⟧.hash_input a
+        ≡ ⟦<MetaType as std::hash::Hash>⟧.hash_input b }
+{
+    hashed_type_ids();
+}
 
 /// Texts are ordered by their bytes, in every form.
 pub fn ordered_texts<T: Form>()

@@ -65,18 +65,19 @@ module _ (F G H : Type 0) {T U V S R Q : Type 0} (g : U → V) (f : T → U) (k 
         variants =
             join_list (map_variant {F = G} {G = H} g t) (map_variant f s) (map_variant k w) join_variant d.variants i;
       })
-  join_definition (def.Sequence d) = λ i. def.Sequence (record { type_param = types d.type_param i })
-  join_definition (def.Array d) = λ i. def.Array (record { len = d.len; type_param = types d.type_param i })
-  join_definition (def.Tuple d) = λ i. def.Tuple (record { fields = join_list g f k types d.fields i })
+  join_definition (def.Sequence d) = λ i. def.Sequence (record { type_param = types d.type_param i; form = tt })
+  join_definition (def.Array d) = λ i. def.Array (record { len = d.len; type_param = types d.type_param i; form = tt })
+  join_definition (def.Tuple d) = λ i. def.Tuple (record { fields = join_list g f k types d.fields i; form = tt })
   join_definition (def.Primitive p) = refl
-  join_definition (def.Compact d) = λ i. def.Compact (record { type_param = types d.type_param i })
+  join_definition (def.Compact d) = λ i. def.Compact (record { type_param = types d.type_param i; form = tt })
   join_definition (def.BitSequence d) =
       λ i. def.BitSequence (record {
         bit_store_type =
             types d.bit_store_type i;
         bit_order_type = types d.bit_order_type i;
+        form = tt;
       })
-  join_definition (def.Map d) = λ i. def.Map (record { key = types d.key i; value = types d.value i })
+  join_definition (def.Map d) = λ i. def.Map (record { key = types d.key i; value = types d.value i; form = tt })
 
   pub join_description : Joins
       (map_description {F = G} {G = H} g t) (map_description {F = F} {G = G} f s) (map_description {F = F} {G = H} k w)

@@ -272,28 +272,26 @@ pub fn convert_definition<F: Form, N: Numbers<F>>(
         TypeDef::Variant(d) => Ok(TypeDef::Variant(TypeDefVariant {
             variants: convert_variants(alloc, numbers, &d.variants)?,
         })),
-        TypeDef::Sequence(d) => Ok(TypeDef::Sequence(TypeDefSequence {
-            type_param: numbers.id(&d.type_param),
-        })),
-        TypeDef::Array(d) => Ok(TypeDef::Array(TypeDefArray {
-            len: d.len,
-            type_param: numbers.id(&d.type_param),
-        })),
-        TypeDef::Tuple(d) => Ok(TypeDef::Tuple(TypeDefTuple {
-            fields: convert_types(alloc, numbers, &d.fields)?,
-        })),
+        TypeDef::Sequence(d) => Ok(TypeDef::Sequence(TypeDefSequence::new(numbers.id(
+            &d.type_param,
+        )))),
+        TypeDef::Array(d) => Ok(TypeDef::Array(TypeDefArray::new(
+            d.len,
+            numbers.id(&d.type_param),
+        ))),
+        TypeDef::Tuple(d) => Ok(TypeDef::Tuple(TypeDefTuple::from(convert_types(
+            alloc, numbers, &d.fields,
+        )?))),
         TypeDef::Primitive(d) => Ok(TypeDef::Primitive(*d)),
-        TypeDef::Compact(d) => Ok(TypeDef::Compact(TypeDefCompact {
-            type_param: numbers.id(&d.type_param),
-        })),
-        TypeDef::BitSequence(d) => Ok(TypeDef::BitSequence(TypeDefBitSequence {
-            bit_store_type: numbers.id(&d.bit_store_type),
-            bit_order_type: numbers.id(&d.bit_order_type),
-        })),
-        TypeDef::Map(d) => Ok(TypeDef::Map(TypeDefMap {
-            key: numbers.id(&d.key),
-            value: numbers.id(&d.value),
-        })),
+        TypeDef::Compact(d) => Ok(TypeDef::Compact(TypeDefCompact::new(numbers.id(&d.type_param)))),
+        TypeDef::BitSequence(d) => Ok(TypeDef::BitSequence(TypeDefBitSequence::new_portable(
+            numbers.id(&d.bit_store_type),
+            numbers.id(&d.bit_order_type),
+        ))),
+        TypeDef::Map(d) => Ok(TypeDef::Map(TypeDefMap::new(
+            numbers.id(&d.key),
+            numbers.id(&d.value),
+        ))),
     }
 }
 

@@ -102,28 +102,28 @@ fn renumbered_definition(numbers: &[u32], def: TypeDef<PortableForm>) -> TypeDef
         TypeDef::Variant(d) => TypeDef::Variant(TypeDefVariant {
             variants: renumbered_all(numbers, d.variants),
         }),
-        TypeDef::Sequence(d) => TypeDef::Sequence(TypeDefSequence {
-            type_param: renumbered_id(numbers, &d.type_param),
-        }),
-        TypeDef::Array(d) => TypeDef::Array(TypeDefArray {
-            len: d.len,
-            type_param: renumbered_id(numbers, &d.type_param),
-        }),
-        TypeDef::Tuple(d) => TypeDef::Tuple(TypeDefTuple {
-            fields: renumbered_all(numbers, d.fields),
-        }),
+        TypeDef::Sequence(d) => TypeDef::Sequence(TypeDefSequence::new(renumbered_id(
+            numbers,
+            &d.type_param,
+        ))),
+        TypeDef::Array(d) => TypeDef::Array(TypeDefArray::new(
+            d.len,
+            renumbered_id(numbers, &d.type_param),
+        )),
+        TypeDef::Tuple(d) => TypeDef::Tuple(TypeDefTuple::from(renumbered_all(numbers, d.fields))),
         TypeDef::Primitive(d) => TypeDef::Primitive(d),
-        TypeDef::Compact(d) => TypeDef::Compact(TypeDefCompact {
-            type_param: renumbered_id(numbers, &d.type_param),
-        }),
-        TypeDef::BitSequence(d) => TypeDef::BitSequence(TypeDefBitSequence {
-            bit_store_type: renumbered_id(numbers, &d.bit_store_type),
-            bit_order_type: renumbered_id(numbers, &d.bit_order_type),
-        }),
-        TypeDef::Map(d) => TypeDef::Map(TypeDefMap {
-            key: renumbered_id(numbers, &d.key),
-            value: renumbered_id(numbers, &d.value),
-        }),
+        TypeDef::Compact(d) => TypeDef::Compact(TypeDefCompact::new(renumbered_id(
+            numbers,
+            &d.type_param,
+        ))),
+        TypeDef::BitSequence(d) => TypeDef::BitSequence(TypeDefBitSequence::new_portable(
+            renumbered_id(numbers, &d.bit_store_type),
+            renumbered_id(numbers, &d.bit_order_type),
+        )),
+        TypeDef::Map(d) => TypeDef::Map(TypeDefMap::new(
+            renumbered_id(numbers, &d.key),
+            renumbered_id(numbers, &d.value),
+        )),
     }
 }
 

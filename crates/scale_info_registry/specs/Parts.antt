@@ -126,27 +126,31 @@ module _ (id_of : MetaType → ℕ) where
   -- the sequence with its id
   abbrev pub sequence_with_ids :
       TypeDefSequence MetaForm MetaType MetaText → portable.TypeDefSequence
-  sequence_with_ids def = record { type_param = id def.type_param }
+  sequence_with_ids def = record { type_param = id def.type_param; form = tt }
 
   -- the array with its id
   abbrev pub array_with_ids : TypeDefArray MetaForm MetaType MetaText → portable.TypeDefArray
-  array_with_ids def = record { len = def.len; type_param = id def.type_param }
+  array_with_ids def = record { len = def.len; type_param = id def.type_param; form = tt }
 
   -- the tuple with ids
   abbrev pub tuple_with_ids : TypeDefTuple MetaForm MetaType MetaText → portable.TypeDefTuple
-  tuple_with_ids def = record { fields = map id def.fields }
+  tuple_with_ids def = record { fields = map id def.fields; form = tt }
 
   -- the compact number with its id
   abbrev pub compact_with_ids :
       TypeDefCompact MetaForm MetaType MetaText → portable.TypeDefCompact
-  compact_with_ids def = record { type_param = id def.type_param }
+  compact_with_ids def = record { type_param = id def.type_param; form = tt }
 
   -- the bit sequence with its two ids
   abbrev pub bit_sequence_with_ids :
       TypeDefBitSequence MetaForm MetaType MetaText → portable.TypeDefBitSequence
   bit_sequence_with_ids def =
-      record { bit_store_type = id def.bit_store_type; bit_order_type = id def.bit_order_type }
+      record {
+        bit_store_type = id def.bit_store_type;
+        bit_order_type = id def.bit_order_type;
+        form = tt;
+      }
 
   -- the map with its two ids
   abbrev pub map_with_ids : TypeDefMap MetaForm MetaType MetaText → portable.TypeDefMap
-  map_with_ids def = record { key = id def.key; value = id def.value }
+  map_with_ids def = record { key = id def.key; value = id def.value; form = tt }

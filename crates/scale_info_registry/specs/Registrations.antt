@@ -70,6 +70,10 @@ Keeps old new =
     ((more : List TypeId) × (new.identities ≡ old.identities ++ more))
     × ((more : List portable.Description) × (new.types ≡ old.types ++ more))
 
+-- nothing has changed
+abbrev pub IsAsBefore : Registered → Registered → Type 0
+IsAsBefore old new = new ≡ old
+
 -- the output is the value with the ids of its roots in the registry in place of them
 abbrev pub IsConverted :
     {X O : Type 0}

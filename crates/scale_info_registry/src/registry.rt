@@ -23,7 +23,6 @@ ghost use Rattle.std.specs.Prelude.{
   slice_get,
   take,
 };
-ghost use Rattle.scale_info_identities.specs.Interned.{AreDistinctBy};
 ghost use Rattle.scale_info_identities.specs.TypeIds.{term_of};
 ghost use Rattle.scale_info_identities.specs.declared.interner.UntrackedSymbol.{UntrackedSymbol};
 ghost use Rattle.scale_info_identities.specs.declared.type_id.TypeId.{TypeId};
@@ -228,17 +227,10 @@ impl Registry {
         }
     }
 
-    /// The allocator.
-    pub(crate) fn allocator(&self) -> Global
-        ensures distinct { AreDistinctBy ⟦<TypeId as PartialEq>⟧.eq self.now.identities }
-    {
-        let _distinct = self.identities.elements();
-        *self.types.allocator()
-    }
-
     /// Registers the types that a value holds, and puts their ids in place of them.
     pub(crate) fn convert_value<T: HasTypes + Drop>(
         &mut self,
+        alloc: Global,
         value: T,
         catalogue: &Catalogue,
     ) -> Result<T::Output, RegisterError>
@@ -251,10 +243,10 @@ impl Registry {
         ensures cause { IfErr result (IsCause (catalogue_system catalogue.now)
             (nodes_of self.old.identities) (roots_of (T.types value))) }
     {
-        let alloc = *self.types.allocator();
+        let own = *self.types.allocator();
         let known = self.types.len();
         let pending = stack_up(value.types(alloc)?, Vec::new(alloc))?;
-        self.register(alloc, pending, catalogue)?;
+        self.register(own, pending, catalogue)?;
         let ids = Identities {
             interner: &self.identities,
         };
@@ -288,7 +280,7 @@ impl Registry {
         let _distinct = self.identities.elements();
         let mut outputs = Vec::new(alloc);
         for item in given {
-            outputs.push(item.into_portable(self, catalogue)?)?;
+            outputs.push(item.into_portable(alloc, self, catalogue)?)?;
         }
         Ok(outputs)
     }

@@ -1,10 +1,13 @@
 //! A value of a program's own that leaves it with an id in place of a type.
-ghost use Rattle.std.specs.Prelude.{◌≡◌, ◌∷◌, []};
+ghost use Rattle.std.specs.Prelude.{◌≡◌, ◌∷◌, [], OnErr};
+ghost use Rattle.scale_info_registry.specs.Registrations.{IsAsBefore};
 ghost use Rattle.scale_info_types.specs.MetaDescriptions.{type_term};
 
+use scale_info::form::PortableForm;
 use scale_info::meta_type::Catalogue;
 use scale_info::registry::RegisterError;
-use scale_info::{IntoPortable, MetaType, Registry, TypeId, UntrackedSymbol};
+use scale_info::{Field, IntoPortable, MetaType, Registry, TypeId, UntrackedSymbol};
+use std::alloc::Global;
 
 /// A call that a runtime offers: its name, and the type of its argument.
 #[derive(Drop)]
@@ -31,8 +34,11 @@ impl IntoPortable for Call {
 
     ghost replaced = { λ call ids output. (output.name ≡ call.name) × (ids ≡ output.arg.id ∷ []) };
 
+    ghost refused = { IsAsBefore };
+
     fn into_portable(
         self,
+        _alloc: Global,
         registry: &mut Registry,
         catalogue: &Catalogue,
     ) -> Result<PortableCall, RegisterError> {
@@ -42,4 +48,16 @@ impl IntoPortable for Call {
             arg,
         })
     }
+}
+
+/// The portable form of a field. If it is refused, the registry is as it was, for every error.
+pub fn portable_field(
+    alloc: Global,
+    registry: &mut Registry,
+    catalogue: &Catalogue,
+    field: Field,
+) -> Result<Field<PortableForm>, RegisterError>
+    ensures { OnErr result (registry.new ≡ registry.old) }
+{
+    field.into_portable(alloc, registry, catalogue)
 }

@@ -19,7 +19,6 @@ use scale_info_registry::registry::Registry;
 use scale_info_types::form::PortableForm;
 use scale_info_types::ty::{PortableType, Type};
 use scale_info_walk::pruned::retain_types;
-use scale_info_walk::walk::RetainError;
 use std::alloc::{AllocError, Global};
 use std::collections::BTreeMap;
 
@@ -29,6 +28,7 @@ mod entries;
 
 pub use builder::PortableRegistryBuilder;
 pub use entries::Entries;
+pub use scale_info_walk::walk::RetainError;
 
 /// A table of descriptions, in which an id is an index.
 ///

@@ -21,8 +21,12 @@ use std::ops::{Range, RangeInclusive};
 use std::rc::Rc;
 use std::time::Duration;
 
-/// Types that are known by themselves: built-in types, arrays, tuples, compact numbers, and the two
-/// types that stand for others, `SliceOf<T>` and `StrType`.
+mod tuples;
+
+pub use tuples::own_tuple_identities;
+
+/// Types that are known by themselves: built-in types, arrays, tuples of up to two members, compact
+/// numbers, and the two types that stand for others, `SliceOf<T>` and `StrType`.
 pub fn own_identities<T: Identified, U: Identified, const N: usize>()
     ensures bool_itself { ⟦<<bool as HasIdentity>::Identity as Identified>⟧.own
         ≡ primitive_term (codes "bool") }

@@ -122,21 +122,21 @@ duration_description =
 abbrev pub array_description : ℕ → Term → Option MetaContent
 array_description n t =
     if nat_le n 4294967295
-    then Some (defined (def.Array (record { len = n; type_param = t })))
+    then Some (defined (def.Array (record { len = n; type_param = t; form = tt })))
     else None
 
 -- tuples of 0 to 20 members, by the terms of the identities of the members
 abbrev pub tuple_description : List Term → Option MetaContent
 tuple_description members =
-    Some (defined (def.Tuple (record { fields = without_phantoms members })))
+    Some (defined (def.Tuple (record { fields = without_phantoms members; form = tt })))
 
 -- `SliceOf<T>`, `Vec<T>`, `VecDeque<T>`, `&[T]`
 abbrev pub slice_description : Term → Option MetaContent
-slice_description t = Some (defined (def.Sequence (record { type_param = t })))
+slice_description t = Some (defined (def.Sequence (record { type_param = t; form = tt })))
 
 -- `Compact<T>`
 abbrev pub compact_description : Term → Option MetaContent
-compact_description t = Some (defined (def.Compact (record { type_param = t })))
+compact_description t = Some (defined (def.Compact (record { type_param = t; form = tt })))
 
 -- `Box<T>`, `Rc<T>`, `&T`, `&mut T`, by the description of `T`
 abbrev pub pointer_description : Option MetaContent → Option MetaContent

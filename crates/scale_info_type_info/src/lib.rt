@@ -2,4 +2,5 @@
 #![tactic(auto)]
 
 pub mod impls;
+pub mod laws;
 pub mod type_info;

@@ -60,7 +60,8 @@ impl<T: Drop> From<AllocFailed<T>> for InfoError {
 ///     ghost description = { slice_description ⟦<Tree as Identified>⟧.own };
 ///
 ///     fn type_info(alloc: Global) -> Result<Type, InfoError> {
-///         Ok(Type::from_def(alloc, TypeDefSequence::of::<Box<Tree>>(alloc)?))
+///         let items = TypeDefSequence::of::<Box<Tree>>(alloc)?;
+///         Ok(Type::from_def(alloc, items.into()))
 ///     }
 /// }
 /// ```

@@ -67,19 +67,19 @@ module _ {F T U S R : Type 0} (to_type : U → T) (on_type : T → U) (to_text :
       def.Variant
       (record { variants = undo_list (map_variant {F = Unit {0}} to_type to_text) (map_variant on_type on_text) undo_variant d.variants i })
   undo_definition (def.Sequence d) =
-      λ i. def.Sequence (record { type_param = types d.type_param i })
+      λ i. def.Sequence (record { type_param = types d.type_param i; form = tt })
   undo_definition (def.Array d) =
-      λ i. def.Array (record { len = d.len; type_param = types d.type_param i })
+      λ i. def.Array (record { len = d.len; type_param = types d.type_param i; form = tt })
   undo_definition (def.Tuple d) =
-      λ i. def.Tuple (record { fields = undo_list to_type on_type types d.fields i })
+      λ i. def.Tuple (record { fields = undo_list to_type on_type types d.fields i; form = tt })
   undo_definition (def.Primitive p) = refl
-  undo_definition (def.Compact d) = λ i. def.Compact (record { type_param = types d.type_param i })
+  undo_definition (def.Compact d) = λ i. def.Compact (record { type_param = types d.type_param i; form = tt })
   undo_definition (def.BitSequence d) =
       λ i.
       def.BitSequence
-      (record { bit_store_type = types d.bit_store_type i; bit_order_type = types d.bit_order_type i })
+      (record { bit_store_type = types d.bit_store_type i; bit_order_type = types d.bit_order_type i; form = tt })
   undo_definition (def.Map d) =
-      λ i. def.Map (record { key = types d.key i; value = types d.value i })
+      λ i. def.Map (record { key = types d.key i; value = types d.value i; form = tt })
 
   -- reading a description and then reading it back gives the description
   pub undo_description :

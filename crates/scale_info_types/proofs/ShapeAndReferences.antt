@@ -176,8 +176,8 @@ module _ {F T S R : Type 0} (f g : T → R) (text : S → List ℕ) where
         ]
         | def.Sequence a ↦ elim [
           | def.Sequence b ↦ λ x y.
-              agree_inside (λ p. def.Sequence (record { type_param = p }))
-              (λ p. def.Sequence (record { type_param = p }))
+              agree_inside (λ p. def.Sequence (record { type_param = p; form = tt }))
+              (λ p. def.Sequence (record { type_param = p; form = tt }))
               (λ e. ap (λ d. d.type_param) (sequence_parts _ _ e)) (λ e. ap (λ d. d.type_param) (sequence_parts _ _ e))
               (agree_type f g a.type_param b.type_param x y)
           | _ ↦ λ x y. ((λ h. cc), (λ h. cc))
@@ -188,17 +188,17 @@ module _ {F T S R : Type 0} (f g : T → R) (text : S → List ℕ) where
                 (λ h.
                     let same = array_parts _ _ h.0 in
                     let e = law.0 (refl, h.1) in
-                    (λ i. def.Array (record { len = (same i).len; type_param = e.0 i }), e.1)),
+                    (λ i. def.Array (record { len = (same i).len; type_param = e.0 i; form = tt }), e.1)),
                 (λ h.
                     let same = array_parts _ _ h.0 in
-                    (λ i. def.Array (record { len = (same i).len; type_param = tt }), (law.1 (ap (λ d. d.type_param) same, h.1)).1)),
+                    (λ i. def.Array (record { len = (same i).len; type_param = tt; form = tt }), (law.1 (ap (λ d. d.type_param) same, h.1)).1)),
               )
           | _ ↦ λ x y. ((λ h. cc), (λ h. cc))
         ]
         | def.Tuple a ↦ elim [
           | def.Tuple b ↦ λ x y.
-              agree_inside (λ p. def.Tuple (record { fields = p }))
-              (λ p. def.Tuple (record { fields = p }))
+              agree_inside (λ p. def.Tuple (record { fields = p; form = tt }))
+              (λ p. def.Tuple (record { fields = p; form = tt }))
               (λ e. ap (λ d. d.fields) (tuple_parts _ _ e)) (λ e. ap (λ d. d.fields) (tuple_parts _ _ e))
               (agree_types f g a.fields b.fields x y)
           | _ ↦ λ x y. ((λ h. cc), (λ h. cc))
@@ -210,8 +210,8 @@ module _ {F T S R : Type 0} (f g : T → R) (text : S → List ℕ) where
         ]
         | def.Compact a ↦ elim [
           | def.Compact b ↦ λ x y.
-              agree_inside (λ p. def.Compact (record { type_param = p }))
-              (λ p. def.Compact (record { type_param = p }))
+              agree_inside (λ p. def.Compact (record { type_param = p; form = tt }))
+              (λ p. def.Compact (record { type_param = p; form = tt }))
               (λ e. ap (λ d. d.type_param) (compact_parts _ _ e)) (λ e. ap (λ d. d.type_param) (compact_parts _ _ e))
               (agree_type f g a.type_param b.type_param x y)
           | _ ↦ λ x y. ((λ h. cc), (λ h. cc))
@@ -226,7 +226,7 @@ module _ {F T S R : Type 0} (f g : T → R) (text : S → List ℕ) where
                 (λ h.
                     let e = store.0 (refl, h.1) in
                     let o = order.0 (refl, e.1) in
-                    (λ i. def.BitSequence (record { bit_store_type = e.0 i; bit_order_type = o.0 i }), o.1)),
+                    (λ i. def.BitSequence (record { bit_store_type = e.0 i; bit_order_type = o.0 i; form = tt }), o.1)),
                 (λ h.
                     let same = bit_sequence_parts _ _ h.0 in
                     (refl, (store.1 (ap (λ d. d.bit_store_type) same, (order.1 (ap (λ d. d.bit_order_type) same, h.1)).1)).1)),
@@ -242,7 +242,7 @@ module _ {F T S R : Type 0} (f g : T → R) (text : S → List ℕ) where
                 (λ h.
                     let e = keys.0 (refl, h.1) in
                     let v = values.0 (refl, e.1) in
-                    (λ i. def.Map (record { key = e.0 i; value = v.0 i }), v.1)),
+                    (λ i. def.Map (record { key = e.0 i; value = v.0 i; form = tt }), v.1)),
                 (λ h.
                     let same = map_parts _ _ h.0 in
                     let rest = (values.1 (ap (λ d. d.value) same, h.1)).1 in

@@ -46,18 +46,22 @@ module _ {F G T U S R : Type 0} (on_type : T → U) (on_text : S → R) where
   abbrev pub map_definition : TypeDef F T S → TypeDef G U R
   map_definition (def.Composite d) = def.Composite (record { fields = map map_field d.fields })
   map_definition (def.Variant d) = def.Variant (record { variants = map map_variant d.variants })
-  map_definition (def.Sequence d) = def.Sequence (record { type_param = on_type d.type_param })
+  map_definition (def.Sequence d) =
+      def.Sequence (record { type_param = on_type d.type_param; form = tt })
   map_definition (def.Array d) =
-      def.Array (record { len = d.len; type_param = on_type d.type_param })
-  map_definition (def.Tuple d) = def.Tuple (record { fields = map on_type d.fields })
+      def.Array (record { len = d.len; type_param = on_type d.type_param; form = tt })
+  map_definition (def.Tuple d) = def.Tuple (record { fields = map on_type d.fields; form = tt })
   map_definition (def.Primitive p) = def.Primitive p
-  map_definition (def.Compact d) = def.Compact (record { type_param = on_type d.type_param })
+  map_definition (def.Compact d) =
+      def.Compact (record { type_param = on_type d.type_param; form = tt })
   map_definition (def.BitSequence d) =
       def.BitSequence (record {
         bit_store_type = on_type d.bit_store_type;
         bit_order_type = on_type d.bit_order_type;
+        form = tt;
       })
-  map_definition (def.Map d) = def.Map (record { key = on_type d.key; value = on_type d.value })
+  map_definition (def.Map d) =
+      def.Map (record { key = on_type d.key; value = on_type d.value; form = tt })
 
   -- the description with all its parts read
   abbrev pub map_description : Description F T S → Description G U R

@@ -146,14 +146,16 @@ impl<F: Form> TypeBuilder<F, PathAssigned<F>> {
     {
         defined(self, TypeDef::Composite(fields.into()))
     }
+}
 
+impl TypeBuilder<MetaForm, PathAssigned<MetaForm>> {
     /// The description of an enum with these variants, from a builder of variants.
-    pub fn variant<V: Into<TypeDefVariant<F>>>(self, variants: V) -> Type<F>
-        ensures path { result.path ≡ self.path.path }
-        ensures type_params { result.type_params ≡ self.type_params }
+    pub fn variant<V: Into<TypeDefVariant>>(self, variants: V) -> Type
+        ensures path { result.path ≡ self.entry.path.path }
+        ensures type_params { result.type_params ≡ self.entry.type_params }
         ensures type_def { (variants' : _) × V.converts variants variants'
             × (result.type_def ≡ def.Variant variants') }
-        ensures docs { result.docs ≡ self.docs }
+        ensures docs { result.docs ≡ self.entry.docs }
     {
         defined(self, TypeDef::Variant(variants.into()))
     }

@@ -10,6 +10,7 @@ ghost use Rattle.scale_info_types.specs.declared.ty.TypeDef.TheVariants as def;
 
 use crate::form::{Form, MetaForm, PortableForm, copy_optional_type, copy_strings, copy_types};
 use scale_info_collections::items::Items;
+use scale_info_collections::marker::Marker;
 use scale_info_collections::text::Text;
 use scale_info_collections::try_clone::TryClone;
 use scale_info_identities::interner::UntrackedSymbol;
@@ -331,6 +332,8 @@ impl<T: Form> TryClone for TypeDef<T> {
 pub struct TypeDefSequence<T: Form = MetaForm> {
     /// The items' type.
     pub type_param: T::Ty,
+    #[derive_where(skip(EqHashOrd))]
+    form: Marker<T::String>,
 }
 
 impl<T: Form> TypeDefSequence<T> {
@@ -338,7 +341,10 @@ impl<T: Form> TypeDefSequence<T> {
     pub fn new(type_param: T::Ty) -> TypeDefSequence<T>
         ensures { result.type_param ≡ type_param }
     {
-        TypeDefSequence { type_param }
+        TypeDefSequence {
+            type_param,
+            form: Marker::new(),
+        }
     }
 
     /// The items' type.
@@ -351,9 +357,8 @@ impl<T: Form> TypeDefSequence<T> {
 
 impl<T: Form> TryClone for TypeDefSequence<T> {
     fn try_clone(&self, alloc: Global) -> Result<TypeDefSequence<T>, AllocError> {
-        Ok(TypeDefSequence {
-            type_param: T::copy_type(alloc, &self.type_param)?,
-        })
+        let type_param = T::copy_type(alloc, &self.type_param)?;
+        Ok(TypeDefSequence::new(type_param))
     }
 }
 
@@ -365,14 +370,21 @@ pub struct TypeDefArray<T: Form = MetaForm> {
     pub len: u32,
     /// The items' type.
     pub type_param: T::Ty,
+    #[derive_where(skip(EqHashOrd))]
+    form: Marker<T::String>,
 }
 
 impl<T: Form> TypeDefArray<T> {
     /// The array of this many items of this type.
     pub fn new(len: u32, type_param: T::Ty) -> TypeDefArray<T>
-        ensures { result ≡ record { len = len; type_param = type_param } }
+        ensures len { result.len ≡ len }
+        ensures type_param { result.type_param ≡ type_param }
     {
-        TypeDefArray { len, type_param }
+        TypeDefArray {
+            len,
+            type_param,
+            form: Marker::new(),
+        }
     }
 
     /// The number of items.
@@ -392,10 +404,8 @@ impl<T: Form> TypeDefArray<T> {
 
 impl<T: Form> TryClone for TypeDefArray<T> {
     fn try_clone(&self, alloc: Global) -> Result<TypeDefArray<T>, AllocError> {
-        Ok(TypeDefArray {
-            len: self.len,
-            type_param: T::copy_type(alloc, &self.type_param)?,
-        })
+        let type_param = T::copy_type(alloc, &self.type_param)?;
+        Ok(TypeDefArray::new(self.len, type_param))
     }
 }
 
@@ -405,6 +415,8 @@ impl<T: Form> TryClone for TypeDefArray<T> {
 pub struct TypeDefTuple<T: Form = MetaForm> {
     /// The members' types, in order.
     pub fields: Items<T::Ty>,
+    #[derive_where(skip(EqHashOrd))]
+    form: Marker<T::String>,
 }
 
 impl<T: Form> TypeDefTuple<T> {
@@ -430,17 +442,25 @@ impl TypeDefTuple<PortableForm> {
         ensures { IfOk result
             (λ d. GivesAll I.into_iter_gives I.IntoIter.next_gives fields d.fields) }
     {
-        Ok(TypeDefTuple {
-            fields: Items::from_iter(alloc, fields)?,
-        })
+        Ok(TypeDefTuple::from(Items::from_iter(alloc, fields)?))
+    }
+}
+
+/// The tuple of members of these types, in order. None is dropped. Does not allocate.
+impl<T: Form> From<Items<T::Ty>> for TypeDefTuple<T> {
+    ghost from_gives = { λ fields tuple. tuple.fields ≡ fields };
+
+    fn from(fields: Items<T::Ty>) -> TypeDefTuple<T> {
+        TypeDefTuple {
+            fields,
+            form: Marker::new(),
+        }
     }
 }
 
 impl<T: Form> TryClone for TypeDefTuple<T> {
     fn try_clone(&self, alloc: Global) -> Result<TypeDefTuple<T>, AllocError> {
-        Ok(TypeDefTuple {
-            fields: copy_types::<T>(alloc, &self.fields)?,
-        })
+        Ok(TypeDefTuple::from(copy_types::<T>(alloc, &self.fields)?))
     }
 }
 
@@ -451,6 +471,8 @@ impl<T: Form> TryClone for TypeDefTuple<T> {
 pub struct TypeDefCompact<T: Form = MetaForm> {
     /// The number's type.
     pub type_param: T::Ty,
+    #[derive_where(skip(EqHashOrd))]
+    form: Marker<T::String>,
 }
 
 impl<T: Form> TypeDefCompact<T> {
@@ -458,7 +480,10 @@ impl<T: Form> TypeDefCompact<T> {
     pub fn new(type_param: T::Ty) -> TypeDefCompact<T>
         ensures { result.type_param ≡ type_param }
     {
-        TypeDefCompact { type_param }
+        TypeDefCompact {
+            type_param,
+            form: Marker::new(),
+        }
     }
 
     /// The number's type.
@@ -471,9 +496,8 @@ impl<T: Form> TypeDefCompact<T> {
 
 impl<T: Form> TryClone for TypeDefCompact<T> {
     fn try_clone(&self, alloc: Global) -> Result<TypeDefCompact<T>, AllocError> {
-        Ok(TypeDefCompact {
-            type_param: T::copy_type(alloc, &self.type_param)?,
-        })
+        let type_param = T::copy_type(alloc, &self.type_param)?;
+        Ok(TypeDefCompact::new(type_param))
     }
 }
 
@@ -489,6 +513,8 @@ pub struct TypeDefBitSequence<T: Form = MetaForm> {
     pub bit_store_type: T::Ty,
     /// The type that names the order of the bits in such a number.
     pub bit_order_type: T::Ty,
+    #[derive_where(skip(EqHashOrd))]
+    form: Marker<T::String>,
 }
 
 impl<T: Form> TypeDefBitSequence<T> {
@@ -507,28 +533,38 @@ impl<T: Form> TypeDefBitSequence<T> {
     }
 }
 
+impl<T: Form> TypeDefBitSequence<T> {
+    /// The bit sequence with this store and order, in any form.
+    pub(crate) fn of_types(bit_store_type: T::Ty, bit_order_type: T::Ty) -> TypeDefBitSequence<T>
+        ensures store { result.bit_store_type ≡ bit_store_type }
+        ensures order { result.bit_order_type ≡ bit_order_type }
+    {
+        TypeDefBitSequence {
+            bit_store_type,
+            bit_order_type,
+            form: Marker::new(),
+        }
+    }
+}
+
 impl TypeDefBitSequence<PortableForm> {
     /// The bit sequence with this store and order.
     pub fn new_portable(
         bit_store_type: UntrackedSymbol<TypeId>,
         bit_order_type: UntrackedSymbol<TypeId>,
     ) -> TypeDefBitSequence<PortableForm>
-        ensures { result
-            ≡ record { bit_store_type = bit_store_type; bit_order_type = bit_order_type } }
+        ensures store { result.bit_store_type ≡ bit_store_type }
+        ensures order { result.bit_order_type ≡ bit_order_type }
     {
-        TypeDefBitSequence {
-            bit_store_type,
-            bit_order_type,
-        }
+        TypeDefBitSequence::of_types(bit_store_type, bit_order_type)
     }
 }
 
 impl<T: Form> TryClone for TypeDefBitSequence<T> {
     fn try_clone(&self, alloc: Global) -> Result<TypeDefBitSequence<T>, AllocError> {
-        Ok(TypeDefBitSequence {
-            bit_store_type: T::copy_type(alloc, &self.bit_store_type)?,
-            bit_order_type: T::copy_type(alloc, &self.bit_order_type)?,
-        })
+        let store = T::copy_type(alloc, &self.bit_store_type)?;
+        let order = T::copy_type(alloc, &self.bit_order_type)?;
+        Ok(TypeDefBitSequence::of_types(store, order))
     }
 }
 
@@ -543,14 +579,21 @@ pub struct TypeDefMap<T: Form = MetaForm> {
     pub key: T::Ty,
     /// The values' type.
     pub value: T::Ty,
+    #[derive_where(skip(EqHashOrd))]
+    form: Marker<T::String>,
 }
 
 impl<T: Form> TypeDefMap<T> {
     /// The map from keys of the first type to values of the second.
     pub fn new(key: T::Ty, value: T::Ty) -> TypeDefMap<T>
-        ensures { result ≡ record { key = key; value = value } }
+        ensures key { result.key ≡ key }
+        ensures value { result.value ≡ value }
     {
-        TypeDefMap { key, value }
+        TypeDefMap {
+            key,
+            value,
+            form: Marker::new(),
+        }
     }
 
     /// The keys' type.
@@ -570,10 +613,9 @@ impl<T: Form> TypeDefMap<T> {
 
 impl<T: Form> TryClone for TypeDefMap<T> {
     fn try_clone(&self, alloc: Global) -> Result<TypeDefMap<T>, AllocError> {
-        Ok(TypeDefMap {
-            key: T::copy_type(alloc, &self.key)?,
-            value: T::copy_type(alloc, &self.value)?,
-        })
+        let key = T::copy_type(alloc, &self.key)?;
+        let value = T::copy_type(alloc, &self.value)?;
+        Ok(TypeDefMap::new(key, value))
     }
 }
 

@@ -6,3 +6,4 @@ mod InOrder
 mod Steps
 mod Texts
 mod Unfolded
+mod Equal

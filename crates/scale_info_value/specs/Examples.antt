@@ -14,7 +14,8 @@ table_of ds = record { types = map (λ d. record { id = 0; ty = plain d }) ds }
 
 -- a list of `u32`, and `u32`
 abbrev pub list_of_u32 : PortableRegistry
-list_of_u32 = table_of (def.Sequence (record { type_param = id 1 }) ∷ def.Primitive kind.U32 ∷ [])
+list_of_u32 =
+    table_of (def.Sequence (record { type_param = id 1; form = tt }) ∷ def.Primitive kind.U32 ∷ [])
 
 -- a composite of one field, which is of this very type
 abbrev pub own_field : PortableRegistry
@@ -44,15 +45,33 @@ equal_indices =
 
 -- a compact number of a primitive
 abbrev pub compact_of : TypeDefPrimitive → PortableRegistry
-compact_of p = table_of (def.Compact (record { type_param = id 1 }) ∷ def.Primitive p ∷ [])
+compact_of p =
+    table_of (def.Compact (record { type_param = id 1; form = tt }) ∷ def.Primitive p ∷ [])
+
+-- a compact number of `u8` inside two composites of one field each
+abbrev pub compact_of_wrapped : PortableRegistry
+compact_of_wrapped =
+    table_of
+    (def.Compact (record { type_param = id 1; form = tt })
+    ∷ def.Composite (record { fields = example_tuple_field 2 ∷ [] })
+    ∷ def.Composite (record { fields = example_tuple_field 3 ∷ [] })
+    ∷ def.Primitive kind.U8 ∷ [])
 
 -- an array of so many of a type that is missing
 abbrev pub array_of_missing : ℕ → PortableRegistry
-array_of_missing n = table_of (def.Array (record { len = n; type_param = id 9 }) ∷ [])
+array_of_missing n = table_of (def.Array (record { len = n; type_param = id 9; form = tt }) ∷ [])
 
 -- a map from `u32` to `bool`, `u32` and `bool`
 abbrev pub map_of_u32_to_bool : PortableRegistry
 map_of_u32_to_bool =
     table_of
-    (def.Map (record { key = id 1; value = id 2 })
+    (def.Map (record { key = id 1; value = id 2; form = tt })
     ∷ def.Primitive kind.U32 ∷ def.Primitive kind.Bool ∷ [])
+
+-- a map from `u8` to maps from `u8` to `bool`, such a map, `u8` and `bool`
+abbrev pub map_of_maps : PortableRegistry
+map_of_maps =
+    table_of
+    (def.Map (record { key = id 2; value = id 1; form = tt })
+    ∷ def.Map (record { key = id 2; value = id 3; form = tt })
+    ∷ def.Primitive kind.U8 ∷ def.Primitive kind.Bool ∷ [])

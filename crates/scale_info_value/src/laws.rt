@@ -1,6 +1,6 @@
 //! Laws of the values that are decoded by a table. A law does nothing when it runs: its contract is
 //! the law.
-ghost use Rattle.std.specs.Prelude.{◌≡◌, ◌-◌, ◌++◌, Some, List, ℕ, map, slice_get};
+ghost use Rattle.std.specs.Prelude.{◌≡◌, ◌↔◌, ◌-◌, ◌++◌, IsTrue, Some, List, ℕ, map, slice_get};
 ghost use Rattle.std.specs.List.{AllByRecursion};
 ghost use Rattle.scale_info_bytes.specs.Encodings.{HasPrefix, IsByte};
 ghost use Rattle.scale_info_bytes.specs.Numbers.{EncodesCompact};
@@ -10,13 +10,17 @@ ghost use Rattle.scale_info_numberings.specs.Unfoldings.{unfold_to};
 ghost use Rattle.scale_info_tables.specs.TableSystems.{system_of};
 ghost use Rattle.scale_info_walk.specs.TypeSystems.{entry_of};
 ghost use Rattle.scale_info_tables.specs.declared.portable.PortableRegistry.{PortableRegistry};
+ghost use Rattle.scale_info_value.specs.declared.value.Dyn as dyns;
 ghost use Rattle.scale_info_value.specs.declared.value.Dyn.TheVariants as dyn;
+ghost use Rattle.scale_info_value.specs.declared.value.ValueError as value_errors;
 ghost use Rattle.scale_info_value.specs.Definitions.{text};
 ghost use Rattle.scale_info_value.specs.Numbers.{count};
 ghost use Rattle.scale_info_value.specs.Outcomes.{decoded};
 ghost use Rattle.scale_info_value.specs.Readings.{reading};
 
 pub mod examples;
+
+use crate::value::{Dyn, ValueError};
 
 /// What is decoded at an id depends on nothing but what the id unfolds to: where two ids, in one
 /// table or in two, unfold to the same tree, each input is decoded alike at both. At depth 1 the
@@ -65,4 +69,22 @@ pub fn texts_as_in_tables()
         → EncodesText t b → text (b ++ rest) ≡ decoded (dyn.Text t) rest }
     ensures nothing_else { (input rest t : List ℕ) → AllByRecursion IsByte input
         → text input ≡ decoded (dyn.Text t) rest → HasPrefix (EncodesText t) input rest }
+{}
+
+/// Decoded values are equal exactly where they are one value.
+pub fn equal_values()
+    ensures { (a b : dyns.Dyn) → IsTrue (⟦<Dyn as PartialEq>⟧.eq a b) ↔ (a ≡ b) }
+{
+    equals_itself::<Dyn>()
+}
+
+/// A value equals itself.
+fn equals_itself<T: Eq>()
+    ensures { (a : T) → IsTrue (T.eq a a) }
+{}
+
+/// Errors of decoding values are equal exactly where they are one value.
+pub fn equal_value_errors()
+    ensures { (a b : value_errors.ValueError)
+        → IsTrue (⟦<ValueError as PartialEq>⟧.eq a b) ↔ (a ≡ b) }
 {}

@@ -69,7 +69,7 @@ pub struct Renumbering {
     pub order: Vec<u32>,
     /// For each old index its place in `order`, or 4294967295 where it has none.
     pub numbers: Vec<u32>,
-    /// How often the walk looked at a reference.
+    /// As the steps of a [`Numbering`].
     pub steps: u128,
 }
 

@@ -1,5 +1,5 @@
 -- What is written of a line, part by part.
-use Rattle.std.proofs.Common.{◌≡◌, ℕ, zero, suc, List, [], ◌∷◌, ◌++◌, Option, length, ◌+◌, take, refl, sym, ap, ◌∙◌, subst}
+use Rattle.std.proofs.Common.{◌≡◌, ℕ, zero, suc, List, [], ◌∷◌, ◌++◌, Option, length, ◌+◌, take, refl, sym, ap, ◌∙◌, subst, OnOk, Result, Ok, Err}
 use Rattle.std.proofs.Math.Seq.{take-append-add}
 use Rattle.std.proofs.KnownBytes.{Appends-trans}
 use Rattle.std.specs.Io.KnownBytes.{Appends}
@@ -29,3 +29,9 @@ first_and_part a b c bytes first rest is x p =
           subst (Appends a c) (sym (take-append-add first rest p.count))
           (Appends-trans a b c first (take p.count rest) (subst (Appends a b) is x) p.appends);
     }
+
+-- the first part was written, and, on an Ok, then the rest
+pub first_and_rest : {A E : Type 0} (a b c : Option (List ℕ)) (bytes first rest : List ℕ) (r : Result A E) → bytes ≡ first → Appends a b bytes
+    → OnOk r (Appends b c rest) → OnOk r (Appends a c (first ++ rest))
+first_and_rest a b c bytes first rest (Ok x) is y z = Appends-trans a b c first rest (subst (Appends a b) is y) z
+first_and_rest a b c bytes first rest (Err e) is y z = tt

@@ -1,14 +1,16 @@
 -- What a line on the writer for errors says.
-use Rattle.std.proofs.Common.{◌≡◌, ℕ, ◌+◌, ◌*◌, ◌<◌, ◌≤◌, ◌^◌, List, [], ◌∷◌, ◌++◌, Option, None, Some, Bool, true, false, get_or, if◌then◌else◌, ◌==◌, refl, sym, ap, ◌∙◌, arith, append-nil, append_assoc, take, drop, take-append-drop, codes, subst}
+use Rattle.std.proofs.Common.{◌≡◌, ℕ, zero, suc, ◌+◌, ◌*◌, ◌<◌, ◌≤◌, ◌^◌, List, [], ◌∷◌, ◌++◌, Option, None, Some, Bool, true, false, get_or, if◌then◌else◌, ◌==◌, refl, sym, ap, ◌∙◌, arith, append-nil, append_assoc, take, drop, take-append-drop, codes, subst}
 use Rattle.std.proofs.lemmas.Bool.{false≢true}
 use Rattle.std.proofs.lemmas.Fmt.{decimal_injective, decimal_is_IsNumeral}
 use Rattle.std.proofs.lemmas.List.{append_cancel_left}
 use Rattle.std.specs.Char.{digit_value}
 use Rattle.std.specs.Fmt.{decimal}
 use Rattle.std.specs.Str.Parse.{AllDigits}
+use Rattle.type_table_run.specs.Commands.{HasCommand}
 use Rattle.type_table_run.specs.declared.error.RunError.{RunError}
 use Rattle.type_table_run.specs.declared.error.RunError.TheVariants.{Malformed, TrailingBytes, NoSuchType, Dangling, Memory, Input, Output}
 use Rattle.type_table_run.specs.Lines.{HasSmallId, line_of, usage_line}
+use Rattle.type_table_run.specs.Refusals.{Explains, Refuses}
 use Rattle.type_table_run.specs.Reports.{AppendsPrefix, Reported}
 
 -- an error without its id
@@ -175,19 +177,43 @@ reported_prefix (Some x) (Some y) line text a reported =
     sym (take-append-drop a.count text) ∙ ap (λ l. l ++ drop a.count text) (sym (append_cancel_left x line (take a.count text) (sym reported.appends ∙ a.appends)))
 
 -- the line that was reported is that of the error of which a prefix was written
-pub reported_error : (old new : Option (List ℕ)) (f g : RunError) → HasSmallId f → HasSmallId g → Reported old new (line_of g) → AppendsPrefix old new (line_of f) → f ≡ g
+reported_error : (old new : Option (List ℕ)) (f g : RunError) → HasSmallId f → HasSmallId g → Reported old new (line_of g) → AppendsPrefix old new (line_of f) → f ≡ g
 reported_error old new f g sf sg reported a = same_error f g (drop a.count (line_of f)) sf sg (reported_prefix old new (line_of g) (line_of f) a reported)
 
 -- a prefix of the usage line reports no error
-pub usage_reports_none : (old new : Option (List ℕ)) (g : RunError) → Reported old new (line_of g) → AppendsPrefix old new usage_line → ⊥
+usage_reports_none : (old new : Option (List ℕ)) (g : RunError) → Reported old new (line_of g) → AppendsPrefix old new usage_line → ⊥
 usage_reports_none old new g reported a =
     let first : 117 ≡ get_or (line_of g ++ drop a.count usage_line) 0 0 = ap (λ l. get_or l 0 0) (reported_prefix old new (line_of g) usage_line a reported) in
     omega (arith, first-append g (drop a.count usage_line))
 
 -- a writer that is as before reports no error
-pub unchanged_reports_none : (old : Option (List ℕ)) (g : RunError) → Reported old old (line_of g) → ⊥
+unchanged_reports_none : (old : Option (List ℕ)) (g : RunError) → Reported old old (line_of g) → ⊥
 unchanged_reports_none None g reported = let known = reported.is_known in cc
 unchanged_reports_none (Some x) g reported =
     let none : line_of g ≡ [] = append_cancel_left x (line_of g) [] (sym reported.appends ∙ sym (append-nil x)) in
     let first : get_or (line_of g ++ []) 0 0 ≡ 0 = ap (λ l. get_or (l ++ []) 0 0) none in
     omega (arith, first-append g [])
+
+-- an error whose line was reported explains what the command did, by what is known of each status
+pub explained : {F : Type 0} (contents : F → Option (List ℕ)) (errors_old errors_new : F) (status : ℕ) (arguments : List (List ℕ)) (input output_old output_new : Option (List ℕ)) (g : RunError)
+    → HasSmallId g
+    → status ≤ 2
+    → (status ≡ 0 → errors_new ≡ errors_old)
+    → (status ≡ 1 → HasCommand arguments (λ command. Refuses command input output_old output_new (contents errors_old) (contents errors_new)))
+    → (status ≡ 2 → AppendsPrefix (contents errors_old) (contents errors_new) usage_line)
+    → Reported (contents errors_old) (contents errors_new) (line_of g)
+    → HasCommand arguments (λ command. Explains command input output_old output_new g)
+explained contents errors_old errors_new zero arguments input output_old output_new g small bound done refused usage reported =
+    absurd (unchanged_reports_none (contents errors_old) g (subst (λ new. Reported (contents errors_old) (contents new) (line_of g)) (done refl) reported))
+explained contents errors_old errors_new (suc zero) arguments input output_old output_new g small bound done refused usage reported =
+    let it = refused refl in
+    let same = reported_error (contents errors_old) (contents errors_new) it.holds.error g it.holds.small small reported it.holds.reports in
+    record {
+      command = it.command;
+      names = it.names;
+      holds = subst (Explains it.command input output_old output_new) same it.holds.explains;
+    }
+explained contents errors_old errors_new (suc (suc zero)) arguments input output_old output_new g small bound done refused usage reported =
+    absurd (usage_reports_none (contents errors_old) (contents errors_new) g reported (usage refl))
+explained contents errors_old errors_new (suc (suc (suc n))) arguments input output_old output_new g small bound done refused usage reported =
+    absurd (omega (arith, bound))

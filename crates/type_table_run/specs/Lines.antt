@@ -1,10 +1,13 @@
 -- The lines for errors.
-use Rattle.std.specs.Prelude.{ℕ, ◌≤◌, List, ◌++◌, codes}
+use Rattle.std.specs.Prelude.{ℕ, ◌≤◌, List, [], ◌++◌, codes, None, Some}
+use Rattle.std.specs.declared.option.Option.{Option}
 use Rattle.std.specs.Fmt.{decimal}
 use Rattle.type_table_run.specs.declared.error.RunError.{RunError}
 use Rattle.type_table_run.specs.declared.error.RunError.TheVariants.{Malformed, TrailingBytes}
 use Rattle.type_table_run.specs.declared.error.RunError.TheVariants.{NoSuchType, Dangling}
 use Rattle.type_table_run.specs.declared.error.RunError.TheVariants.{Memory, Input, Output}
+use Rattle.type_table_run.specs.declared.message.Message.{Message}
+use Rattle.type_table_run.specs.declared.message.Message.TheVariants.{Usage, Refused}
 
 -- the line of arguments that are not a command
 abbrev pub usage_line : List ℕ
@@ -51,6 +54,16 @@ line_of (Dangling id) = dangling_line id
 line_of Memory = out_of_memory_line
 line_of Input = input_failed_line
 line_of Output = output_failed_line
+
+-- the line of a message
+abbrev pub message_line : Message → List ℕ
+message_line Usage = usage_line
+message_line (Refused error) = line_of error
+
+-- the line of a message that was kept; nothing, where there was none
+abbrev pub kept_line : Option Message → List ℕ
+kept_line None = []
+kept_line (Some message) = message_line message
 
 -- the id of an error, if it has one, is at most 4294967295
 abbrev pub HasSmallId : RunError → Type 0

@@ -11,7 +11,7 @@ use Rattle.type_table_run.specs.declared.error.RunError.{RunError}
 use Rattle.type_table_run.specs.declared.error.RunError.TheVariants.{Malformed, TrailingBytes}
 use Rattle.type_table_run.specs.declared.error.RunError.TheVariants.{NoSuchType, Dangling}
 use Rattle.type_table_run.specs.declared.error.RunError.TheVariants.{Memory, Input, Output}
-use Rattle.type_table_run.specs.Lines.{line_of}
+use Rattle.type_table_run.specs.Lines.{HasSmallId, line_of}
 use Rattle.type_table_run.specs.Outputs.{WritesPrefix}
 use Rattle.type_table_run.specs.Tables.{HasTrailingBytes}
 use Rattle.type_table_run.specs.Reports.{AppendsPrefix}
@@ -40,9 +40,16 @@ Explains command input old new Memory = Keeps old new
 Explains command input old new Input = Keeps old new
 Explains command input old new Output = IfSome input (WritesPrefix command old new)
 
--- one error holds, and known bytes of the writer for errors grow by a prefix of its line
-pub record Refuses (command : Command)
-    (input output_old output_new errors_old errors_new : Option (List ℕ)) : Type 0 where
+-- one error holds, and its line was reported; `IsReported` says of a line that it was
+pub record RefusesBy (command : Command) (input output_old output_new : Option (List ℕ))
+    (IsReported : List ℕ → Type 0) : Type 0 where
   pub error : RunError
+  pub small : HasSmallId error
   pub explains : Explains command input output_old output_new error
-  pub reports : AppendsPrefix errors_old errors_new (line_of error)
+  pub reports : IsReported (line_of error)
+
+-- one error holds, and known bytes of the writer for errors grow by a prefix of its line
+abbrev pub Refuses : Command
+    → (input output_old output_new errors_old errors_new : Option (List ℕ)) → Type 0
+Refuses command input output_old output_new errors_old errors_new =
+    RefusesBy command input output_old output_new (AppendsPrefix errors_old errors_new)

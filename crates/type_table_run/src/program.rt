@@ -1,30 +1,31 @@
 //! The program over any reader and any writers.
-ghost use Rattle.std.specs.Prelude.{◌≡◌, ◌≢◌, ◌≤◌, ℕ, IfSome, IfErr, OnOk};
+ghost use Rattle.std.specs.Prelude.{◌≡◌, ◌≢◌, ◌≤◌, ℕ, IfSome, IfErr, OnOk, IsNone};
 ghost use Rattle.std.specs.Io.KnownBytes.{IsAtEnd, Keeps};
 ghost use Rattle.scale_info_bytes.specs.Encodings.{HasNoPrefix};
 ghost use Rattle.scale_info_prune.specs.Prunes.{HasDangling, HasNoSuchType};
 ghost use Rattle.scale_info_tables.specs.TableEncoding.{EncodesRegistry};
 ghost use Rattle.type_table_run.specs.Commands.{HasCommand, HasIdTexts, IsCommand, given_ids};
-ghost use Rattle.type_table_run.specs.Lines.{usage_line, malformed_line, trailing_bytes_line};
+ghost use Rattle.type_table_run.specs.Lines.{kept_line, usage_line};
+ghost use Rattle.type_table_run.specs.Lines.{malformed_line, trailing_bytes_line};
 ghost use Rattle.type_table_run.specs.Lines.{no_such_type_line, dangling_line};
 ghost use Rattle.type_table_run.specs.Lines.{out_of_memory_line, input_failed_line};
 ghost use Rattle.type_table_run.specs.Lines.{output_failed_line};
 ghost use Rattle.type_table_run.specs.Outputs.{Writes, WritesPrefix};
-ghost use Rattle.type_table_run.specs.Refusals.{Explains, Refuses};
+ghost use Rattle.type_table_run.specs.Refusals.{Explains, Refuses, RefusesBy};
 ghost use Rattle.type_table_run.specs.Tables.{HasTrailingBytes};
 ghost use Rattle.type_table_run.specs.Reports.{AppendsPrefix, Reported};
 
 use crate::command::{Command, command_of};
 use crate::error::RunError;
+use crate::message::Message;
 use crate::output::output_of;
 use crate::reading::read_to_end;
-use crate::report::{report, report_error};
+use crate::report::ErrorWriter;
+use crate::reporter::{Kept, Reporter};
 use crate::writing::write_all;
 use scale_info_collections::text::Text;
 use std::alloc::Global;
 use std::io::{Read, Write};
-
-const USAGE: &str = "usage: type_table check | prune ID .. | json\n";
 
 /// Reads the input whole, and writes what the command writes for it.
 ///
@@ -51,6 +52,86 @@ fn perform<R: Read, W: Write>(
         Ok(()) => Ok(()),
         Err(_) => Err(RunError::Output),
     }
+}
+
+/// Runs the command that the arguments name, as [`run`], and gives its message to any reporter in
+/// the place of a writer for errors.
+///
+/// The status is that of [`run`]. The reporter is given one message in one call:
+/// [`Message::Usage`] at status 2, and the error at status 1. At status 0 it is given none. So a
+/// reporter that takes all that it is given has the whole line: [`Kept`] is one.
+pub fn run_with<R: Read, W: Write, T: Reporter>(
+    alloc: Global,
+    arguments: &[Text],
+    reader: &mut R,
+    output: &mut W,
+    reporter: &mut T,
+) -> u8
+    ensures status { result ≤ 2 }
+
+    // Arguments that name no command: nothing is read, and nothing is written to the output.
+    ensures usage { result ≡ 2 → ¬ IsCommand arguments.now }
+    ensures command { result ≢ 2 → IsCommand arguments.now }
+    ensures unread { result ≡ 2 → reader.new ≡ reader.old }
+    ensures unwritten { result ≡ 2 → output.new ≡ output.old }
+    ensures usage_reported { result ≡ 2 → T.reported reporter.old reporter.new usage_line }
+
+    // A command that was done: the output grew by exactly what the command writes for the input.
+    ensures read { result ≡ 0 → IsAtEnd (R.remaining reader.new) }
+    ensures done { result ≡ 0 → HasCommand arguments.now (λ command. IfSome (R.remaining reader.old)
+        (Writes command (W.contents output.old) (W.contents output.new))) }
+    ensures unreported { result ≡ 0 → reporter.new ≡ reporter.old }
+
+    // A command that is refused: one error is so, and its line was reported.
+    ensures refused { result ≡ 1 → HasCommand arguments.now (λ command. RefusesBy command
+        (R.remaining reader.old) (W.contents output.old) (W.contents output.new)
+        (T.reported reporter.old reporter.new)) }
+{
+    let command = match command_of(arguments) {
+        Some(command) => command,
+        None => {
+            reporter.report(Message::Usage);
+            return 2;
+        }
+    };
+    match perform(alloc, &command, reader, output) {
+        Ok(()) => 0,
+        Err(error) => {
+            reporter.report(Message::Refused(error));
+            1
+        }
+    }
+}
+
+/// Runs the command that the arguments name, as [`run`], and returns the status and the message.
+///
+/// The message is None at status 0, and else the one whose line [`run`] writes, which
+/// [`crate::report_message`] writes to a writer of the caller's. For example, without arguments it is
+/// `(2, Some(Message::Usage))`.
+pub fn run_and_keep<R: Read, W: Write>(
+    alloc: Global,
+    arguments: &[Text],
+    reader: &mut R,
+    output: &mut W,
+) -> (u8, Option<Message>)
+    ensures status { result.0 ≤ 2 }
+    ensures usage { result.0 ≡ 2 → ¬ IsCommand arguments.now }
+    ensures command { result.0 ≢ 2 → IsCommand arguments.now }
+    ensures unread { result.0 ≡ 2 → reader.new ≡ reader.old }
+    ensures unwritten { result.0 ≡ 2 → output.new ≡ output.old }
+    ensures usage_kept { result.0 ≡ 2 → kept_line result.1 ≡ usage_line }
+    ensures read { result.0 ≡ 0 → IsAtEnd (R.remaining reader.new) }
+    ensures done { result.0 ≡ 0 → HasCommand arguments.now (λ command.
+        IfSome (R.remaining reader.old)
+        (Writes command (W.contents output.old) (W.contents output.new))) }
+    ensures none_kept { result.0 ≡ 0 → IsNone result.1 }
+    ensures refused { result.0 ≡ 1 → HasCommand arguments.now (λ command. RefusesBy command
+        (R.remaining reader.old) (W.contents output.old) (W.contents output.new)
+        (λ line. kept_line result.1 ≡ line)) }
+{
+    let mut kept = Kept { message: None };
+    let status = run_with(alloc, arguments, reader, output, &mut kept);
+    (status, kept.message)
 }
 
 /// Runs the command that the arguments name, and returns the status.
@@ -134,18 +215,9 @@ pub fn run<R: Read, W: Write, F: Write>(
         → HasCommand arguments.now (λ command. IfSome (R.remaining reader.old)
         (WritesPrefix command (W.contents output.old) (W.contents output.new))) }
 {
-    let command = match command_of(arguments) {
-        Some(command) => command,
-        None => {
-            report(errors, USAGE);
-            return 2;
-        }
-    };
-    match perform(alloc, &command, reader, output) {
-        Ok(()) => 0,
-        Err(error) => {
-            report_error(errors, &error);
-            1
-        }
-    }
+    let mut reporter = ErrorWriter { errors };
+    let status = run_with(alloc, arguments, reader, output, &mut reporter);
+    // No effect at run time. The proof reads what `errors` holds from this use.
+    let _ = &*reporter.errors;
+    status
 }

@@ -36,7 +36,7 @@ fn main(rt: HostRuntime) -> Result<()> {
     }
     let mut bytes = Vec::new(alloc);
     let roots = vec![in alloc; meta_type::<Tree>(alloc)?]?;
-    let exported = export(&catalogue, &roots, |id| id == 2, &mut bytes)?;
+    let exported = export(alloc, &catalogue, &roots, |id| id == 2, &mut bytes)?;
     println!(rt; "{} types in {} bytes", exported.map.len(), bytes.len())?;
     Ok(())
 }

@@ -34,7 +34,9 @@ ghost use Rattle.scale_info_discovery.specs.CatalogueSystems.{catalogue_system};
 ghost use Rattle.scale_info_types.specs.MetaDescriptions.{type_term};
 ghost use Rattle.scale_info_discovery.specs.Discoveries.{nodes_of, IsCause, roots_of};
 ghost use Rattle.scale_info_registry.specs.Registrations.{
+  Registered,
   IsRegistration,
+  IsAsBefore,
   Keeps,
   IsConverted,
   HasIds,
@@ -55,6 +57,7 @@ use scale_info_types::ty::{
     Field, Type, TypeDef, TypeDefArray, TypeDefBitSequence, TypeDefCompact, TypeDefComposite,
     TypeDefMap, TypeDefSequence, TypeDefTuple, TypeDefVariant, TypeParameter,
 };
+use std::alloc::Global;
 
 /// A value that holds types, and has a portable form with ids in their place.
 ///
@@ -71,13 +74,20 @@ pub trait IntoPortable {
     /// each root, in order.
     ghost replaced: { Self → List ℕ → Self.Output → Type 0 };
 
+    /// What an Err leaves: the registry as it was, and as it may be then. It has what it had in any
+    /// case. The implementors of this library leave it as it was, so `IsAsBefore`; one that makes
+    /// several calls of a registry may say `Keeps`.
+    ghost refused: { Registered → Registered → Type 0 };
+
     /// Registers the types that the value holds, and puts their ids in place of them.
     ///
     /// Errors: `Undescribed`, if a type that is new is reached and has no description in the
     /// catalogue; `Full`, if there would be more than 4294967295 identities; `Memory`, if an
-    /// allocation failed. On an Err the registry has what it had, and perhaps more.
+    /// allocation failed. On an Err the registry has what it had, and perhaps more, as the
+    /// implementor says.
     fn into_portable(
         self,
+        alloc: Global,
         registry: &mut Registry,
         catalogue: &Catalogue,
     ) -> Result<Self::Output, RegisterError>
@@ -86,6 +96,7 @@ pub trait IntoPortable {
         ensures output { IfOk result
             (λ output. IsConverted replaced (roots self) registry.new self output) }
         ensures err { OnErr result (Keeps registry.old registry.new) }
+        ensures refused { OnErr result (refused registry.old registry.new) }
         ensures cause { IfErr result (IsCause (catalogue_system catalogue.now)
             (nodes_of registry.old.identities) (roots self)) };
 }
@@ -98,12 +109,16 @@ impl IntoPortable for &'static str {
 
     ghost replaced = { λ text ids output. (ids ≡ []) × (output ≡ text.now) };
 
+    ghost refused = { IsAsBefore };
+
     fn into_portable(
         self,
+        alloc: Global,
         registry: &mut Registry,
         _catalogue: &Catalogue,
     ) -> Result<Text, RegisterError> {
-        Ok(Text::from(String::from_str(registry.allocator(), self)?))
+        let _distinct = registry.identities.elements();
+        Ok(Text::from(String::from_str(alloc, self)?))
     }
 }
 
@@ -115,8 +130,11 @@ impl IntoPortable for MetaType {
 
     ghost replaced = { λ _ ids symbol. ids ≡ symbol.id ∷ [] };
 
+    ghost refused = { IsAsBefore };
+
     fn into_portable(
         self,
+        _alloc: Global,
         registry: &mut Registry,
         catalogue: &Catalogue,
     ) -> Result<UntrackedSymbol<TypeId>, RegisterError> {
@@ -131,12 +149,15 @@ impl IntoPortable for Type {
 
     ghost replaced = { HasIds references type_with_ids };
 
+    ghost refused = { IsAsBefore };
+
     fn into_portable(
         self,
+        alloc: Global,
         registry: &mut Registry,
         catalogue: &Catalogue,
     ) -> Result<Type<PortableForm>, RegisterError> {
-        registry.convert_value(self, catalogue)
+        registry.convert_value(alloc, self, catalogue)
     }
 }
 
@@ -147,12 +168,15 @@ impl IntoPortable for Path {
 
     ghost replaced = { HasIds path_types path_with_ids };
 
+    ghost refused = { IsAsBefore };
+
     fn into_portable(
         self,
+        alloc: Global,
         registry: &mut Registry,
         catalogue: &Catalogue,
     ) -> Result<Path<PortableForm>, RegisterError> {
-        registry.convert_value(self, catalogue)
+        registry.convert_value(alloc, self, catalogue)
     }
 }
 
@@ -163,12 +187,15 @@ impl IntoPortable for TypeParameter {
 
     ghost replaced = { HasIds parameter_types parameter_with_ids };
 
+    ghost refused = { IsAsBefore };
+
     fn into_portable(
         self,
+        alloc: Global,
         registry: &mut Registry,
         catalogue: &Catalogue,
     ) -> Result<TypeParameter<PortableForm>, RegisterError> {
-        registry.convert_value(self, catalogue)
+        registry.convert_value(alloc, self, catalogue)
     }
 }
 
@@ -179,12 +206,15 @@ impl IntoPortable for TypeDef {
 
     ghost replaced = { HasIds definition_references definition_with_ids };
 
+    ghost refused = { IsAsBefore };
+
     fn into_portable(
         self,
+        alloc: Global,
         registry: &mut Registry,
         catalogue: &Catalogue,
     ) -> Result<TypeDef<PortableForm>, RegisterError> {
-        registry.convert_value(self, catalogue)
+        registry.convert_value(alloc, self, catalogue)
     }
 }
 
@@ -195,12 +225,15 @@ impl IntoPortable for Field {
 
     ghost replaced = { HasIds field_types field_with_ids };
 
+    ghost refused = { IsAsBefore };
+
     fn into_portable(
         self,
+        alloc: Global,
         registry: &mut Registry,
         catalogue: &Catalogue,
     ) -> Result<Field<PortableForm>, RegisterError> {
-        registry.convert_value(self, catalogue)
+        registry.convert_value(alloc, self, catalogue)
     }
 }
 
@@ -211,12 +244,15 @@ impl IntoPortable for Variant {
 
     ghost replaced = { HasIds variant_types variant_with_ids };
 
+    ghost refused = { IsAsBefore };
+
     fn into_portable(
         self,
+        alloc: Global,
         registry: &mut Registry,
         catalogue: &Catalogue,
     ) -> Result<Variant<PortableForm>, RegisterError> {
-        registry.convert_value(self, catalogue)
+        registry.convert_value(alloc, self, catalogue)
     }
 }
 
@@ -227,12 +263,15 @@ impl IntoPortable for TypeDefComposite {
 
     ghost replaced = { HasIds composite_types composite_with_ids };
 
+    ghost refused = { IsAsBefore };
+
     fn into_portable(
         self,
+        alloc: Global,
         registry: &mut Registry,
         catalogue: &Catalogue,
     ) -> Result<TypeDefComposite<PortableForm>, RegisterError> {
-        registry.convert_value(self, catalogue)
+        registry.convert_value(alloc, self, catalogue)
     }
 }
 
@@ -243,12 +282,15 @@ impl IntoPortable for TypeDefVariant {
 
     ghost replaced = { HasIds enum_types enum_with_ids };
 
+    ghost refused = { IsAsBefore };
+
     fn into_portable(
         self,
+        alloc: Global,
         registry: &mut Registry,
         catalogue: &Catalogue,
     ) -> Result<TypeDefVariant<PortableForm>, RegisterError> {
-        registry.convert_value(self, catalogue)
+        registry.convert_value(alloc, self, catalogue)
     }
 }
 
@@ -259,13 +301,16 @@ impl IntoPortable for TypeDefSequence {
 
     ghost replaced = { HasIds sequence_types sequence_with_ids };
 
+    ghost refused = { IsAsBefore };
+
     fn into_portable(
         self,
+        alloc: Global,
         registry: &mut Registry,
         catalogue: &Catalogue,
     ) -> Result<TypeDefSequence<PortableForm>, RegisterError> {
-        let id = self.type_param.into_portable(registry, catalogue)?;
-        Ok(TypeDefSequence { type_param: id })
+        let id = self.type_param.into_portable(alloc, registry, catalogue)?;
+        Ok(TypeDefSequence::new(id))
     }
 }
 
@@ -276,17 +321,17 @@ impl IntoPortable for TypeDefArray {
 
     ghost replaced = { HasIds array_types array_with_ids };
 
+    ghost refused = { IsAsBefore };
+
     fn into_portable(
         self,
+        alloc: Global,
         registry: &mut Registry,
         catalogue: &Catalogue,
     ) -> Result<TypeDefArray<PortableForm>, RegisterError> {
-        let TypeDefArray { len, type_param } = self;
-        let id = type_param.into_portable(registry, catalogue)?;
-        Ok(TypeDefArray {
-            len,
-            type_param: id,
-        })
+        let len = self.len;
+        let id = self.type_param.into_portable(alloc, registry, catalogue)?;
+        Ok(TypeDefArray::new(len, id))
     }
 }
 
@@ -297,13 +342,16 @@ impl IntoPortable for TypeDefCompact {
 
     ghost replaced = { HasIds compact_types compact_with_ids };
 
+    ghost refused = { IsAsBefore };
+
     fn into_portable(
         self,
+        alloc: Global,
         registry: &mut Registry,
         catalogue: &Catalogue,
     ) -> Result<TypeDefCompact<PortableForm>, RegisterError> {
-        let id = self.type_param.into_portable(registry, catalogue)?;
-        Ok(TypeDefCompact { type_param: id })
+        let id = self.type_param.into_portable(alloc, registry, catalogue)?;
+        Ok(TypeDefCompact::new(id))
     }
 }
 
@@ -314,14 +362,16 @@ impl IntoPortable for TypeDefTuple {
 
     ghost replaced = { HasIds tuple_types tuple_with_ids };
 
+    ghost refused = { IsAsBefore };
+
     fn into_portable(
         self,
+        alloc: Global,
         registry: &mut Registry,
         catalogue: &Catalogue,
     ) -> Result<TypeDefTuple<PortableForm>, RegisterError> {
-        let TypeDefTuple { fields } = self;
-        let ids = registry.convert_value(fields, catalogue)?;
-        Ok(TypeDefTuple { fields: ids })
+        let ids = registry.convert_value(alloc, self.fields, catalogue)?;
+        Ok(TypeDefTuple::from(ids))
     }
 }
 
@@ -332,24 +382,20 @@ impl IntoPortable for TypeDefBitSequence {
 
     ghost replaced = { HasIds bit_sequence_types bit_sequence_with_ids };
 
+    ghost refused = { IsAsBefore };
+
     fn into_portable(
         self,
+        alloc: Global,
         registry: &mut Registry,
         catalogue: &Catalogue,
     ) -> Result<TypeDefBitSequence<PortableForm>, RegisterError> {
-        let TypeDefBitSequence {
-            bit_store_type,
-            bit_order_type,
-        } = self;
         let pair = TypePair {
-            first: bit_store_type,
-            second: bit_order_type,
+            first: self.bit_store_type,
+            second: self.bit_order_type,
         };
-        let ids = registry.convert_value(pair, catalogue)?;
-        Ok(TypeDefBitSequence {
-            bit_store_type: ids.first,
-            bit_order_type: ids.second,
-        })
+        let ids = registry.convert_value(alloc, pair, catalogue)?;
+        Ok(TypeDefBitSequence::new_portable(ids.first, ids.second))
     }
 }
 
@@ -360,20 +406,19 @@ impl IntoPortable for TypeDefMap {
 
     ghost replaced = { HasIds map_types map_with_ids };
 
+    ghost refused = { IsAsBefore };
+
     fn into_portable(
         self,
+        alloc: Global,
         registry: &mut Registry,
         catalogue: &Catalogue,
     ) -> Result<TypeDefMap<PortableForm>, RegisterError> {
-        let TypeDefMap { key, value } = self;
         let pair = TypePair {
-            first: key,
-            second: value,
+            first: self.key,
+            second: self.value,
         };
-        let ids = registry.convert_value(pair, catalogue)?;
-        Ok(TypeDefMap {
-            key: ids.first,
-            value: ids.second,
-        })
+        let ids = registry.convert_value(alloc, pair, catalogue)?;
+        Ok(TypeDefMap::new(ids.first, ids.second))
     }
 }

@@ -9,7 +9,7 @@ use super::built_in;
 use crate::type_info::{InfoError, TypeInfo};
 use scale_info_type_ids::identified::{HasIdentity, Identified};
 use scale_info_types::meta_type::MetaType;
-use scale_info_types::ty::{Type, TypeDefTuple};
+use scale_info_types::ty::{Type, TypeDef, TypeDefTuple};
 use std::alloc::{AllocError, Global};
 
 /// The description of the tuple with members of these types; an Err stays as it is.
@@ -20,7 +20,8 @@ fn tuple_of(types: Result<Vec<MetaType>, AllocError>) -> Result<Type, InfoError>
 {
     let types = types?;
     let alloc = *types.allocator();
-    Ok(built_in(alloc, TypeDefTuple::new(alloc, types)?))
+    let members = TypeDefTuple::new(alloc, types)?;
+    Ok(built_in(alloc, TypeDef::from(members)))
 }
 
 /// The list of no types.

@@ -51,9 +51,9 @@ pub struct FieldBuilder<F: Form, N, T> {
     form: PhantomData<F::Ty>,
 }
 
-impl Field<MetaForm> {
+impl<F: Form> Field<F> {
     /// A builder of a field, which has no part yet.
-    pub fn builder() -> FieldBuilder<MetaForm, NameNotAssigned, TypeNotAssigned>
+    pub fn builder() -> FieldBuilder<F, NameNotAssigned, TypeNotAssigned>
         ensures { result.type_name ≡ None }
     {
         FieldBuilder::new()

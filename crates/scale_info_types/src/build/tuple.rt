@@ -1,66 +1,50 @@
-//! Definitions of tuples by the types of their members.
+//! Tuples by the types of their members.
 ghost use Rattle.std.specs.Prelude.{◌≡◌, [], List, IfOk, map};
 ghost use Rattle.std.specs.Iterator.{IsFinite};
 ghost use Rattle.scale_info_types.specs.Iterators.{GivesAll};
-ghost use Rattle.scale_info_types.specs.MetaDescriptions.{meta_definition, type_term};
+ghost use Rattle.scale_info_types.specs.MetaDescriptions.{type_term};
 ghost use Rattle.scale_info_types.specs.Phantoms.{without_phantoms};
 ghost use Rattle.scale_info_types.specs.declared.meta_type.MetaType.{MetaType};
-ghost use Rattle.scale_info_types.specs.declared.ty.TypeDef.TheVariants as def;
 
 use super::phantom::IdentityForm;
-use crate::form::{Form, MetaForm};
+use crate::form::MetaForm;
 use crate::meta_type::MetaType;
-use crate::ty::{TypeDef, TypeDefTuple};
+use crate::ty::TypeDefTuple;
 use scale_info_collections::items::Items;
 use std::alloc::{AllocError, Global};
 
 impl TypeDefTuple<MetaForm> {
-    /// The definition of a tuple with members of these types, in order. A type whose identity is
-    /// `PhantomData<()>` is left out.
+    /// The tuple with members of these types, in order. A type whose identity is `PhantomData<()>`
+    /// is left out.
     ///
     /// Errors: `AllocError`, if an allocation failed.
     pub fn new<I: IntoIterator<Item = MetaType>>(
         alloc: Global,
         fields: I,
-    ) -> Result<TypeDef, AllocError>
+    ) -> Result<TypeDefTuple, AllocError>
         requires can { (it : I.IntoIter) → I.into_iter_gives fields it → I.IntoIter.can_next it }
         requires ends { (it : I.IntoIter) → I.into_iter_gives fields it
             → IsFinite (I.IntoIter.remaining it) }
         ensures { IfOk result (λ d. (given : List MetaType)
             × GivesAll I.into_iter_gives I.IntoIter.next_gives fields given
-            × (meta_definition d
-            ≡ def.Tuple (record { fields = without_phantoms (map type_term given) }))) }
+            × (map type_term d.fields ≡ without_phantoms (map type_term given))) }
     {
-        Ok(tuple::<MetaForm>(Vec::from_iter(alloc, fields)?))
+        let members = without_phantom_types(Vec::from_iter(alloc, fields)?);
+        Ok(TypeDefTuple::from(Items::from(members)))
     }
 
-    /// The definition of the tuple without members.
-    pub fn unit(alloc: Global) -> TypeDef
-        ensures { result ≡ def.Tuple (record { fields = [] }) }
+    /// The tuple without members.
+    pub fn unit(alloc: Global) -> TypeDefTuple
+        ensures { result.fields ≡ [] }
     {
-        unit::<MetaForm>(alloc)
+        TypeDefTuple::from(Items::new(alloc))
     }
 }
 
-// The functions below are generic, since the borrow checker does not cover a struct of the meta
-// form alone that has no text.
-
-/// The tuple of the types that are no phantoms.
-fn tuple<F: IdentityForm>(mut types: Vec<F::Ty>) -> TypeDef<F>
-    ensures { (members : _) × (result ≡ def.Tuple (record { fields = members }))
-        × (map F.identity members ≡ without_phantoms (map F.identity types.items)) }
+/// The types that are no phantoms, in order.
+fn without_phantom_types(mut types: Vec<MetaType>) -> Vec<MetaType>
+    ensures { map type_term result.items ≡ without_phantoms (map type_term types.items) }
 {
-    types.retain(|ty| !F::is_phantom(ty));
-    TypeDef::Tuple(TypeDefTuple {
-        fields: Items::from(types),
-    })
-}
-
-/// The tuple without members.
-fn unit<F: Form>(alloc: Global) -> TypeDef<F>
-    ensures { result ≡ def.Tuple (record { fields = [] }) }
-{
-    TypeDef::Tuple(TypeDefTuple {
-        fields: Items::new(alloc),
-    })
+    types.retain(|ty| !MetaForm::is_phantom(ty));
+    types
 }

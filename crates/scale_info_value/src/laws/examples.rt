@@ -7,6 +7,7 @@ ghost use Rattle.scale_info_value.specs.declared.value.Dyn.TheVariants as dyn;
 ghost use Rattle.scale_info_value.specs.Examples.{table_of, list_of_u32, own_field, compact_of};
 ghost use Rattle.scale_info_value.specs.Examples.{array_of_missing, map_of_u32_to_bool};
 ghost use Rattle.scale_info_value.specs.Examples.{named_fields, equal_indices};
+ghost use Rattle.scale_info_value.specs.Examples.{compact_of_wrapped, map_of_maps};
 ghost use Rattle.scale_info_value.specs.Outcomes.{decoded, failed, malformed, too_deep};
 ghost use Rattle.scale_info_value.specs.Outcomes.{no_such_type, unsupported};
 ghost use Rattle.scale_info_value.specs.Readings.{reading};
@@ -32,7 +33,7 @@ pub fn depths()
     ensures past { reading list_of_u32 0 129 (0 ∷ []) ≡ failed too_deep }
 {}
 
-/// Compact numbers and numbers with a sign.
+/// Compact numbers, also of a type that two composites of one field hold, and numbers with a sign.
 pub fn numbers()
     ensures one { reading (compact_of kind.U64) 0 1 (4 ∷ []) ≡ decoded (dyn.Unsigned 1) [] }
     ensures four_bytes { reading (compact_of kind.U64) 0 1 (3 ∷ 0 ∷ 0 ∷ 0 ∷ 64 ∷ [])
@@ -44,6 +45,9 @@ pub fn numbers()
         ≡ failed malformed }
     ensures wide { reading (compact_of kind.U8) 0 1 (1 ∷ 4 ∷ []) ≡ failed malformed }
     ensures signed { reading (compact_of kind.I32) 0 1 (4 ∷ []) ≡ failed unsupported }
+    ensures wrapped { reading compact_of_wrapped 0 1 (253 ∷ 3 ∷ 9 ∷ [])
+        ≡ decoded (dyn.Unsigned 255) (9 ∷ []) }
+    ensures wrapped_wide { reading compact_of_wrapped 0 1 (1 ∷ 4 ∷ []) ≡ failed malformed }
     ensures minus_one { reading (table_of (def.Primitive kind.I8 ∷ [])) 0 1 (255 ∷ [])
         ≡ decoded (dyn.Signed (negsuc 0)) [] }
     ensures least { reading (table_of (def.Primitive kind.I16 ∷ [])) 0 1 (0 ∷ 128 ∷ [])
@@ -61,7 +65,7 @@ pub fn fields()
 {}
 
 /// A map is a list of lists of two, each one deeper than the map, and key and value one deeper than
-/// that.
+/// that; a value may be a map in turn.
 pub fn maps()
     ensures one { reading map_of_u32_to_bool 0 1 (4 ∷ 7 ∷ 0 ∷ 0 ∷ 0 ∷ 1 ∷ [])
         ≡ decoded (dyn.List (dyn.List (dyn.Unsigned 7 ∷ dyn.Bool true ∷ []) ∷ [])) [] }
@@ -70,4 +74,7 @@ pub fn maps()
     ensures deeper { reading map_of_u32_to_bool 0 127 (4 ∷ 7 ∷ 0 ∷ 0 ∷ 0 ∷ 1 ∷ [])
         ≡ failed too_deep }
     ensures empty { reading map_of_u32_to_bool 0 128 (0 ∷ []) ≡ decoded (dyn.List []) [] }
+    ensures nested { reading map_of_maps 0 1 (4 ∷ 5 ∷ 4 ∷ 6 ∷ 1 ∷ [])
+        ≡ decoded (dyn.List (dyn.List (dyn.Unsigned 5
+        ∷ dyn.List (dyn.List (dyn.Unsigned 6 ∷ dyn.Bool true ∷ []) ∷ []) ∷ []) ∷ [])) [] }
 {}

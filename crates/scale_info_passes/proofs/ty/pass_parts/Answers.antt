@@ -35,7 +35,7 @@ returns-in-1-clause-none g c =
 pub returns-in-2-clause-some : goal.returns-in-2-clause-some
 returns-in-2-clause-some g c =
     some_on c.pass-in-2.result
-    (λ rest p. visited_into (λ q. def.Sequence (record { type_param = q })) (λ q x s. at_index c.args.index 2 (omega arith) (sequence s)) (λ q. refl) (λ f q. refl) p) c.pass-in-2.ensures.some
+    (λ rest p. visited_into (λ q. def.Sequence (record { type_param = q; form = tt })) (λ q x s. at_index c.args.index 2 (omega arith) (sequence s)) (λ q. refl) (λ f q. refl) p) c.pass-in-2.ensures.some
 
 pub returns-in-2-clause-none : goal.returns-in-2-clause-none
 returns-in-2-clause-none g c =
@@ -45,7 +45,7 @@ returns-in-2-clause-none g c =
 pub returns-in-3-clause-some : goal.returns-in-3-clause-some
 returns-in-3-clause-some g c =
     some_on c.pass-in-3.result
-    (λ rest p. visited_into (λ q. def.Array (record { len = q.0; type_param = q.1 })) (λ q x s. at_index c.args.index 3 (omega arith) (array s)) (λ q. refl) (λ f q. refl) p) c.pass-in-3.ensures.some
+    (λ rest p. visited_into (λ q. def.Array (record { len = q.0; type_param = q.1; form = tt })) (λ q x s. at_index c.args.index 3 (omega arith) (array s)) (λ q. refl) (λ f q. refl) p) c.pass-in-3.ensures.some
 
 pub returns-in-3-clause-none : goal.returns-in-3-clause-none
 returns-in-3-clause-none g c =
@@ -55,7 +55,7 @@ returns-in-3-clause-none g c =
 pub returns-in-4-clause-some : goal.returns-in-4-clause-some
 returns-in-4-clause-some g c =
     some_on c.pass-in-4.result
-    (λ rest p. visited_into (λ q. def.Tuple (record { fields = q })) (λ q x s. at_index c.args.index 4 (omega arith) (tuple s)) (λ q. own_references q) (λ f q. refl) p) c.pass-in-4.ensures.some
+    (λ rest p. visited_into (λ q. def.Tuple (record { fields = q; form = tt })) (λ q x s. at_index c.args.index 4 (omega arith) (tuple s)) (λ q. own_references q) (λ f q. refl) p) c.pass-in-4.ensures.some
 
 pub returns-in-4-clause-none : goal.returns-in-4-clause-none
 returns-in-4-clause-none g c =
@@ -75,7 +75,7 @@ returns-in-5-clause-none g c =
 pub returns-in-6-clause-some : goal.returns-in-6-clause-some
 returns-in-6-clause-some g c =
     some_on c.pass-in-6.result
-    (λ rest p. visited_into (λ q. def.Compact (record { type_param = q })) (λ q x s. at_index c.args.index 6 (omega arith) (compact s)) (λ q. refl) (λ f q. refl) p) c.pass-in-6.ensures.some
+    (λ rest p. visited_into (λ q. def.Compact (record { type_param = q; form = tt })) (λ q x s. at_index c.args.index 6 (omega arith) (compact s)) (λ q. refl) (λ f q. refl) p) c.pass-in-6.ensures.some
 
 pub returns-in-6-clause-none : goal.returns-in-6-clause-none
 returns-in-6-clause-none g c =
@@ -85,7 +85,7 @@ returns-in-6-clause-none g c =
 pub returns-in-7-clause-some : goal.returns-in-7-clause-some
 returns-in-7-clause-some g c =
     some_on c.pass-in-7.result
-    (λ rest p. visited_into (λ q. def.BitSequence (record { bit_store_type = q.0; bit_order_type = q.1 })) (λ q x s. at_index c.args.index 7 (omega arith) (bit_sequence s)) (λ q. refl) (λ f q. refl) p) c.pass-in-7.ensures.some
+    (λ rest p. visited_into (λ q. def.BitSequence (record { bit_store_type = q.0; bit_order_type = q.1; form = tt })) (λ q x s. at_index c.args.index 7 (omega arith) (bit_sequence s)) (λ q. refl) (λ f q. refl) p) c.pass-in-7.ensures.some
 
 pub returns-in-7-clause-none : goal.returns-in-7-clause-none
 returns-in-7-clause-none g c =
@@ -95,7 +95,7 @@ returns-in-7-clause-none g c =
 pub returns-in-8-clause-some : goal.returns-in-8-clause-some
 returns-in-8-clause-some g c =
     some_on c.pass-in-8.result
-    (λ rest p. visited_into (λ q. def.Map (record { key = q.0; value = q.1 })) (λ q x s. at_index c.args.index 8 (omega arith) (map s)) (λ q. refl) (λ f q. refl) p) c.pass-in-8.ensures.some
+    (λ rest p. visited_into (λ q. def.Map (record { key = q.0; value = q.1; form = tt })) (λ q x s. at_index c.args.index 8 (omega arith) (map s)) (λ q. refl) (λ f q. refl) p) c.pass-in-8.ensures.some
 
 pub returns-in-8-clause-none : goal.returns-in-8-clause-none
 returns-in-8-clause-none g c =

@@ -17,3 +17,7 @@ returns-clause-deeper c = refl
 pub returns-clause-empty : goal.returns-clause-empty
 unfolding value_within compact_within
 returns-clause-empty c = refl
+
+pub returns-clause-nested : goal.returns-clause-nested
+unfolding value_within compact_within
+returns-clause-nested c = refl

@@ -33,3 +33,11 @@ returns-clause-minus_one c = refl
 pub returns-clause-least : goal.returns-clause-least
 unfolding value_within compact_within
 returns-clause-least c = refl
+
+pub returns-clause-wrapped : goal.returns-clause-wrapped
+unfolding value_within compact_within
+returns-clause-wrapped c = refl
+
+pub returns-clause-wrapped_wide : goal.returns-clause-wrapped_wide
+unfolding value_within compact_within
+returns-clause-wrapped_wide c = refl

@@ -1,5 +1,0 @@
-use Rattle.std.proofs.Common.{refl}
-use Rattle.scale_info_types.proofs.ty.TypeDefMap.new.Goals as goal
-
-pub returns : goal.returns
-returns g c = refl
