@@ -1,5 +1,5 @@
 //! Fields by their builders.
-use scale_info::build::{FieldBuilder, Fields, FieldsBuilder, NameNotAssigned, TypeNotAssigned};
+use scale_info::build::{Fields, FieldsBuilder};
 use scale_info::form::{Form, MetaForm, PortableForm};
 use scale_info::{Field, TypeDefComposite};
 use std::alloc::AllocError;
@@ -65,7 +65,9 @@ pub fn portable_unnamed(rt: &HostRuntime) -> Result<Outcome, Fail> {
 pub fn ty(rt: &HostRuntime) -> Result<Outcome, Fail> {
     let alloc = rt.alloc();
     begin(rt);
-    let returned = Field::builder().name("data").ty::<Vec<u32>>(alloc);
+    let returned = Field::<MetaForm>::builder()
+        .name("data")
+        .ty::<Vec<u32>>(alloc);
     end(rt);
     let field = match returned {
         Ok(built) => Ok(built.finalize(alloc)),
@@ -78,8 +80,7 @@ pub fn ty(rt: &HostRuntime) -> Result<Outcome, Fail> {
 pub fn moved(rt: &HostRuntime) -> Result<Outcome, Fail> {
     let (name, type_name) = (text(rt.alloc(), "data")?, text(rt.alloc(), "T")?);
     begin(rt);
-    let builder = FieldBuilder::<PortableForm, NameNotAssigned, TypeNotAssigned>::new();
-    let field = builder
+    let field = Field::<PortableForm>::builder()
         .name(name)
         .type_name(type_name)
         .ty(3)

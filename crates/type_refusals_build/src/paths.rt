@@ -64,6 +64,7 @@ pub fn from_segments(rt: &HostRuntime, name: &str) -> Result<Outcome, Fail> {
     match name {
         "hello::Planet" => checked(rt, vec![in rt.alloc(); "hello", "Planet"]?),
         "r#mod" => checked(rt, vec![in rt.alloc(); "r#mod"]?),
+        "nothing" => checked(rt, Vec::new(rt.alloc())),
         _ => checked(rt, vec![in rt.alloc(); "a", "1"]?),
     }
 }

@@ -62,7 +62,7 @@ where
     match catalogue(alloc) {
         Ok(known) => {
             let mut registry = Registry::new(alloc);
-            encoded(alloc, value.into_portable(&mut registry, &known))
+            encoded(alloc, value.into_portable(alloc, &mut registry, &known))
         }
         Err(error) => failed(alloc, &error),
     }

@@ -29,3 +29,5 @@ pub type Bits = Own<1>;
 pub type Mapping = Own<2>;
 /// A type that no catalogue of [`catalogue`](crate::types::catalogue) has.
 pub type Missing = Own<3>;
+/// A composite of `u32` and of [`Missing`].
+pub type Referring = Own<4>;

@@ -1,20 +1,26 @@
 //! Types by their names, what they are described as, and a catalogue of them.
-use crate::own::{Bits, Mapping, Recursive};
-use scale_info::form::Form;
+use crate::own::{Bits, Mapping, Missing, Recursive, Referring};
 use scale_info::impls::{Compact, meta_type};
-use scale_info::meta_type::{Catalogue, CatalogueError, Identified};
+use scale_info::meta_type::{Catalogue, CatalogueError, HasIdentity, Identified};
 use scale_info::{
-    Field, MetaType, Path, Type, TypeDef, TypeDefBitSequence, TypeDefMap, TypeDefVariant, TypeInfo,
-    TypeParameter, Variant,
+    Field, MetaType, Path, Type, TypeDef, TypeDefBitSequence, TypeDefComposite, TypeDefMap,
+    TypeDefVariant, TypeInfo, TypeParameter, Variant,
 };
 use std::alloc::{AllocError, Global};
 use std::ops::Range;
 use std::test::Fail;
 use type_vectors_common::catalogues::add_own;
 use type_vectors_common::lists::{list_of, with};
+use type_vectors_common::results::both;
 
 /// A pair of `u32` and `bool`.
 pub type Pair = (u32, bool);
+
+/// An array that is longer than descriptions can say.
+pub type TooLong = [u8; 4294967296];
+
+/// A box in a box, whose identity is that of the inner box.
+pub type Boxes = Box<Box<u8>>;
 
 /// The type of this name. There is one of each kind of definition.
 pub fn type_named(alloc: Global, name: &str) -> Result<MetaType, Fail> {
@@ -26,9 +32,20 @@ pub fn type_named(alloc: Global, name: &str) -> Result<MetaType, Fail> {
         "Option<(u32, bool)>" => meta_type::<Option<Pair>>(alloc),
         "Compact<u32>" => meta_type::<Compact<u32>>(alloc),
         "Range<u8>" => meta_type::<Range<u8>>(alloc),
+        "Box<Box<u8>>" => meta_type::<Boxes>(alloc),
+        _ => return own_type_named(alloc, name),
+    };
+    Ok(ty?)
+}
+
+/// The program's own type of this name.
+fn own_type_named(alloc: Global, name: &str) -> Result<MetaType, Fail> {
+    let ty = match name {
         "Recursive" => meta_type::<Recursive>(alloc),
         "Bits" => meta_type::<Bits>(alloc),
         "Mapping" => meta_type::<Mapping>(alloc),
+        "Missing" => meta_type::<Missing>(alloc),
+        "Referring" => meta_type::<Referring>(alloc),
         _ => return Err(Fail::new("no type has this name")),
     };
     Ok(ty?)
@@ -44,27 +61,39 @@ pub fn description_named(alloc: Global, name: &str) -> Result<Type, Fail> {
         "Option<(u32, bool)>" => <Option<Pair>>::type_info(alloc),
         "Compact<u32>" => <Compact<u32>>::type_info(alloc),
         "Range<u8>" => <Range<u8>>::type_info(alloc),
+        "Box<Box<u8>>" => <Boxes>::type_info(alloc),
         _ => return own_description_named(alloc, name),
     };
     Ok(description?)
 }
 
-/// A map of these types.
-///
-/// It is generic, since the borrow checker does not cover a map of the meta form alone.
-fn map<F: Form>(key: F::Ty, value: F::Ty) -> TypeDef<F> {
-    TypeDef::from(TypeDefMap::new(key, value))
+/// A map from `u32` to `bool`.
+pub fn map(alloc: Global) -> Result<TypeDefMap, AllocError> {
+    let (key, value) = both(meta_type::<u32>(alloc), meta_type::<bool>(alloc))?;
+    Ok(TypeDefMap::new(key, value))
 }
 
-/// A map from `u32` to `bool`.
+/// What is described as a map from `u32` to `bool`.
 fn mapping(alloc: Global) -> Result<Type, AllocError> {
-    let (key, value) = (meta_type::<u32>(alloc)?, meta_type::<bool>(alloc)?);
-    Ok(Type::from_def(alloc, map(key, value)))
+    Ok(Type::from_def(alloc, map(alloc)?.into()))
 }
 
 /// A sequence of bits, stored as `u8`.
 fn bits(alloc: Global) -> Result<Type, AllocError> {
-    Ok(Type::from_def(alloc, TypeDefBitSequence::new::<u8, u32>(alloc)?))
+    Ok(Type::from_def(alloc, TypeDefBitSequence::new::<u8, u32>(alloc)?.into()))
+}
+
+/// A field of this type, with nothing else.
+pub fn unnamed_field<T: HasIdentity>(alloc: Global) -> Result<Field, AllocError> {
+    let ty = meta_type::<T>(alloc)?;
+    Ok(Field::new(None, ty, None, Vec::new(alloc)))
+}
+
+/// A composite of `u32` and of a type that is not described.
+fn referring(alloc: Global) -> Result<Type, AllocError> {
+    let first = list_of(alloc, unnamed_field::<u32>(alloc)?);
+    let fields = with(first, unnamed_field::<Missing>(alloc))?;
+    Ok(Type::from_def(alloc, TypeDefComposite::from(fields).into()))
 }
 
 /// A field with a name, a name of its type, and docs.
@@ -116,6 +145,7 @@ fn own_description_named(alloc: Global, name: &str) -> Result<Type, Fail> {
         "Recursive" => recursive(alloc),
         "Bits" => bits(alloc),
         "Mapping" => mapping(alloc),
+        "Referring" => referring(alloc),
         _ => return Err(Fail::new("no type has this name")),
     };
     Ok(description?)
@@ -138,6 +168,7 @@ fn add_generic(catalogue: &mut Catalogue) -> Result<(), CatalogueError> {
     catalogue.add::<Option<Pair>>()?;
     catalogue.add::<Compact<u32>>()?;
     catalogue.add::<Range<u8>>()?;
+    catalogue.add::<Boxes>()?;
     Ok(())
 }
 
@@ -146,6 +177,7 @@ fn add_own_types(alloc: Global, catalogue: &mut Catalogue) -> Result<(), Catalog
     add_own(catalogue, Recursive::type_id(alloc)?, recursive(alloc))?;
     add_own(catalogue, Bits::type_id(alloc)?, bits(alloc))?;
     add_own(catalogue, Mapping::type_id(alloc)?, mapping(alloc))?;
+    add_own(catalogue, Referring::type_id(alloc)?, referring(alloc))?;
     Ok(())
 }
 

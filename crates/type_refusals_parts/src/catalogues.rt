@@ -10,7 +10,7 @@ use type_refusals_common::answers::{Answer, done, shown};
 use type_refusals_common::marks::{begin, end};
 use type_refusals_common::outcomes::Outcome;
 use type_refusals_common::own::Missing;
-use type_refusals_common::types::{Pair, catalogue, description_named, type_named};
+use type_refusals_common::types::{Pair, TooLong, catalogue, description_named, type_named};
 use type_vectors_common::catalogues::add_own;
 
 /// The identity of this number.
@@ -42,12 +42,13 @@ fn kept(alloc: Global, known: &Catalogue) -> Result<u32, AllocError> {
     Ok(kept)
 }
 
-/// How many descriptions a catalogue has, whether it has one of this identity, and how many of the
-/// fifteen it has.
+/// How many descriptions a catalogue has, whether it has one of this identity and that is the one of
+/// `u32`, and how many of the fifteen it has.
 fn state(alloc: Global, known: &Catalogue, identity: &TypeId) -> Result<String, AllocError> {
-    let (len, new) = (known.len(), known.get(identity).is_some());
-    let kept = kept(alloc, known)?;
-    format!(in alloc; "{len} {new} {kept}")
+    let (len, kept) = (known.len(), kept(alloc, known)?);
+    let plain = plain(alloc);
+    let found = known.get(identity).map(|ty| *ty == plain);
+    format!(in alloc; "{len} {found:?} {kept}")
 }
 
 /// Adds a type.
@@ -72,6 +73,7 @@ pub fn add(rt: &HostRuntime, name: &str) -> Result<Outcome, Fail> {
         "Option<(u32, bool)>" => add_of::<Option<Pair>>(rt),
         "Compact<u32>" => add_of::<Compact<u32>>(rt),
         "Range<u8>" => add_of::<Range<u8>>(rt),
+        "[u8; 4294967296]" => add_of::<TooLong>(rt),
         _ => Err(Fail::new("no type has this name")),
     }
 }
@@ -106,11 +108,11 @@ pub fn add_first_described(rt: &HostRuntime, name: &str) -> Result<Outcome, Fail
     add_to(rt, Catalogue::new(rt.alloc()), name)
 }
 
-/// Adds the description of this name under an identity that has it.
-pub fn add_described_again(rt: &HostRuntime, name: &str) -> Result<Outcome, Fail> {
+/// Adds the description of this name under an identity that has the other one.
+pub fn add_described_after(rt: &HostRuntime, other: &str, name: &str) -> Result<Outcome, Fail> {
     let mut known = fifteen(rt.alloc())?;
     let identity = Missing::type_id(rt.alloc())?;
-    known.add_described(identity, description_named(rt.alloc(), name)?)?;
+    known.add_described(identity, description_named(rt.alloc(), other)?)?;
     add_to(rt, known, name)
 }
 

@@ -7,7 +7,7 @@ use std::test::Fail;
 use type_refusals_common::answers::{registered, shown};
 use type_refusals_common::marks::{begin, end};
 use type_refusals_common::outcomes::Outcome;
-use type_refusals_common::types::Pair;
+use type_refusals_common::types::{Pair, TooLong};
 
 /// Makes the identity of a type.
 fn identity<T: Identified>(rt: &HostRuntime) -> Result<Outcome, Fail> {
@@ -73,6 +73,7 @@ pub fn type_info(rt: &HostRuntime, name: &str) -> Result<Outcome, Fail> {
         "Option<(u32, bool)>" => description::<Option<Pair>>(rt),
         "Compact<u32>" => description::<Compact<u32>>(rt),
         "Range<u8>" => description::<Range<u8>>(rt),
+        "[u8; 4294967296]" => description::<TooLong>(rt),
         _ => Err(Fail::new("no type has this name")),
     }
 }

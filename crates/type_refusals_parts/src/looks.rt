@@ -2,7 +2,7 @@
 use crate::asked::{Asked, ask};
 use scale_info::form::PortableForm;
 use scale_info::utils::is_rust_identifier;
-use scale_info::{Field, Path, Type, TypeDefArray, TypeDefBitSequence, TypeDefMap, Variant};
+use scale_info::{Field, Path, PortableType, Scale, Type, TypeDef, TypeParameter, Variant};
 use std::alloc::Global;
 use std::hash::{FoldHasher, Hash, Hasher};
 use std::test::Fail;
@@ -11,6 +11,7 @@ use type_refusals_common::marks::{begin, end};
 use type_refusals_common::outcomes::Outcome;
 use type_refusals_common::types::{description_named, type_named};
 use type_vectors_common::parts;
+use type_vectors_common::rows::row_named;
 
 impl Asked for Field<PortableForm> {
     type Parts = (bool, bool, u32, usize);
@@ -36,6 +37,40 @@ impl Asked for Path<PortableForm> {
     fn parts(&self) -> (usize, usize, bool) {
         let (segments, modules) = (self.segments().len(), self.namespace().len());
         (segments, modules, self.is_empty())
+    }
+}
+
+impl Asked for TypeParameter<PortableForm> {
+    type Parts = (usize, Option<u32>);
+
+    fn parts(&self) -> (usize, Option<u32>) {
+        (self.name().len(), self.ty().map(|ty| ty.id()))
+    }
+}
+
+impl Asked for PortableType {
+    type Parts = (u32, bool);
+
+    fn parts(&self) -> (u32, bool) {
+        (self.id(), self.ty().path().is_empty())
+    }
+}
+
+impl Asked for TypeDef<PortableForm> {
+    type Parts = (u32, u32);
+
+    fn parts(&self) -> (u32, u32) {
+        match self {
+            TypeDef::Composite(it) => (it.fields().len() as u32, 0),
+            TypeDef::Variant(it) => (it.variants().len() as u32, 0),
+            TypeDef::Sequence(it) => (it.type_param().id(), 0),
+            TypeDef::Array(it) => (it.len(), it.type_param().id()),
+            TypeDef::Tuple(it) => (it.fields().len() as u32, 0),
+            TypeDef::Primitive(_) => (0, 0),
+            TypeDef::Compact(it) => (it.type_param().id(), 0),
+            TypeDef::BitSequence(it) => (it.bit_store_type().id(), it.bit_order_type().id()),
+            TypeDef::Map(it) => (it.key().id(), it.value().id()),
+        }
     }
 }
 
@@ -77,17 +112,40 @@ pub fn description(rt: &HostRuntime, name: &str) -> Result<Outcome, Fail> {
     ask(rt, description_named(rt.alloc(), name))
 }
 
-/// Asks definitions for their parts.
-pub fn definitions(rt: &HostRuntime) -> Result<Outcome, Fail> {
-    let array = TypeDefArray::<PortableForm>::new(32, parts::id(1));
-    let map = TypeDefMap::<PortableForm>::new(parts::id(1), parts::id(2));
-    let bits = TypeDefBitSequence::new_portable(parts::id(3), parts::id(4));
-    begin(rt);
-    let (len, item) = (array.len(), array.type_param().id());
-    let (key, value) = (map.key().id(), map.value().id());
-    let (store, order) = (bits.bit_store_type().id(), bits.bit_order_type().id());
-    end(rt);
-    Outcome::of(done(format!(in rt.alloc(); "{len} {item} {key} {value} {store} {order}")))
+/// Asks a parameter for its parts.
+pub fn parameter(rt: &HostRuntime) -> Result<Outcome, Fail> {
+    ask(rt, Ok(parts::parameter(rt.alloc(), "T", Some(7))?))
+}
+
+/// Asks an entry for its parts.
+pub fn entry(rt: &HostRuntime) -> Result<Outcome, Fail> {
+    let ty = Type::from_def(rt.alloc(), parts::sequence(2));
+    ask(rt, Ok(PortableType::new(9, ty)))
+}
+
+/// The definition of each kind: a row is a name, a colon and the encoding.
+const DEFINITIONS: &str = "\
+composite: 00 04 00040000
+enum: 01 08 0456000000 0457000100
+sequence: 0204
+array: 0320000000 08
+tuple: 0408 0800
+primitive: 0505
+compact: 060c
+bit sequence: 07 0c10
+map: 08 1014
+";
+
+/// The definition of the row of this name.
+fn definition_of(alloc: Global, name: &str) -> Result<TypeDef<PortableForm>, Fail> {
+    let row = row_named(alloc, DEFINITIONS, name)?;
+    let (definition, _) = TypeDef::decode_from(alloc, &row.bytes)?;
+    Ok(definition)
+}
+
+/// Asks the definition of this kind for its parts.
+pub fn definition(rt: &HostRuntime, kind: &str) -> Result<Outcome, Fail> {
+    ask(rt, definition_of(rt.alloc(), kind))
 }
 
 /// Descriptions of the types of these names, in order.
@@ -121,6 +179,7 @@ pub fn types(rt: &HostRuntime, name: &str) -> Result<Outcome, Fail> {
     begin(rt);
     let (same, order) = (left == right, left.type_id().cmp(right.type_id()));
     left.hash(&mut hasher);
+    left.type_id().hash(&mut hasher);
     let hash = hasher.finish();
     end(rt);
     Outcome::of(done(format!(in rt.alloc(); "{same} {order:?} {hash}")))

@@ -5,14 +5,18 @@ use scale_info::meta_type::Catalogue;
 use scale_info::walk::Refs;
 use scale_info::{
     Field, Items, Path, PortableRegistryBuilder, PortableType, Registry, Text, Type, TypeDef,
-    TypeDefArray, TypeDefCompact, TypeDefMap, TypeDefPrimitive, TypeId, TypeParameter, Variant,
+    TypeDefArray, TypeDefBitSequence, TypeDefCompact, TypeDefComposite, TypeDefMap,
+    TypeDefPrimitive, TypeDefSequence, TypeDefTuple, TypeDefVariant, TypeId, TypeParameter,
+    UntrackedSymbol, Variant,
 };
 use std::alloc::{AllocError, Global};
 use std::test::Fail;
 use type_refusals_common::answers::{digits, done};
 use type_refusals_common::marks::{begin, end};
 use type_refusals_common::outcomes::Outcome;
+use type_vectors_common::lists::with;
 use type_vectors_common::parts;
+use type_vectors_common::results::both;
 
 /// Makes a field.
 pub fn field(rt: &HostRuntime) -> Result<Outcome, Fail> {
@@ -56,13 +60,15 @@ pub fn entry(rt: &HostRuntime) -> Result<Outcome, Fail> {
     Outcome::of(done(digits(rt.alloc(), &made)))
 }
 
-/// Definitions of four kinds that hold no list.
-fn four_definitions() -> [TypeDef<PortableForm>; 4] {
+/// Definitions of the six kinds that hold no list.
+fn six_definitions() -> [TypeDef<PortableForm>; 6] {
     [
         TypeDef::from(TypeDefArray::new(32, parts::id(1))),
         TypeDef::from(TypeDefCompact::new(parts::id(1))),
         TypeDef::from(TypeDefMap::new(parts::id(1), parts::id(2))),
         TypeDef::from(TypeDefPrimitive::U8),
+        TypeDef::from(TypeDefSequence::new(UntrackedSymbol::from(1))),
+        TypeDef::from(TypeDefBitSequence::new_portable(parts::id(3), parts::id(4))),
     ]
 }
 
@@ -81,9 +87,42 @@ fn all_digits(alloc: Global, definitions: &[TypeDef<PortableForm>]) -> Result<St
 /// Makes definitions.
 pub fn definitions(rt: &HostRuntime) -> Result<Outcome, Fail> {
     begin(rt);
-    let made = four_definitions();
+    let made = six_definitions();
     end(rt);
     Outcome::of(done(all_digits(rt.alloc(), &made)))
+}
+
+/// Makes the definitions that hold lists.
+pub fn definitions_of_lists(rt: &HostRuntime) -> Result<Outcome, Fail> {
+    let one = parts::variant(rt.alloc(), "V", &[], 7, &[]);
+    let variants = with(Ok(Vec::new(rt.alloc())), one);
+    let lists = both(parts::unnamed_fields(rt.alloc(), &[1, 2]), variants);
+    let members = TypeDefTuple::new_portable(rt.alloc(), [parts::id(3), parts::id(0)]);
+    let ((fields, variants), members) = both(lists, members)?;
+    begin(rt);
+    let made = [
+        TypeDef::from(TypeDefComposite::from(fields)),
+        TypeDef::from(TypeDefVariant::from(variants)),
+        TypeDef::from(members),
+    ];
+    end(rt);
+    Outcome::of(done(all_digits(rt.alloc(), &made)))
+}
+
+/// Turns four parts into a description, and a pair into a parameter.
+pub fn description(rt: &HostRuntime) -> Result<Outcome, Fail> {
+    let (path, name) = (
+        parts::path(rt.alloc(), &["p"])?,
+        parts::text(rt.alloc(), "T")?,
+    );
+    let docs = parts::texts(rt.alloc(), &["d"])?;
+    begin(rt);
+    let param = TypeParameter::<PortableForm>::from((name, Some(parts::id(7))));
+    let params = Vec::new(rt.alloc());
+    let made = Type::<PortableForm>::from((path, params, parts::sequence(2), docs));
+    end(rt);
+    let (param, made) = (digits(rt.alloc(), &param)?, digits(rt.alloc(), &made)?);
+    Outcome::of(done(format!(in rt.alloc(); "{param} {made}")))
 }
 
 /// Turns a list and a text into those of this library, and back.

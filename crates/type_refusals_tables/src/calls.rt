@@ -1,7 +1,9 @@
 //! The calls of this library, by their names.
 use crate::{builders, bytes, conversions, json, looks, prunings, registrations, values};
+use scale_info::meta_type::Catalogue;
 use std::test::Fail;
 use type_refusals_common::outcomes::Outcome;
+use type_refusals_common::types::catalogue;
 
 /// Makes the call of this name; None if there is none.
 pub fn call(rt: &HostRuntime, name: &str, input: &str) -> Option<Result<Outcome, Fail>> {
@@ -43,10 +45,13 @@ fn call_of_registries(rt: &HostRuntime, name: &str, input: &str) -> Option<Resul
     let outcome = match name {
         "register_type" => registrations::register_type(rt, input),
         "register_types" => registrations::register_types(rt, input),
-        "map_into_portable" => registrations::map_into_portable(rt),
+        "map_into_portable" => registrations::map_into_portable(rt, input),
         "from_registry" => registrations::from_registry(rt, input),
         "export" => registrations::export_types(rt, input),
-        "into_portable" => conversions::part(rt, input),
+        "into_portable" => conversions::part(rt, catalogue(rt.alloc()), input),
+        "into_portable_undescribed" => {
+            conversions::part(rt, Ok(Catalogue::new(rt.alloc())), input)
+        }
         "MetaType::into_portable" => conversions::meta_type(rt, input),
         "Type::into_portable" => conversions::description(rt, input),
         "TypeDef::into_portable" => conversions::definition(rt, input),

@@ -7,6 +7,29 @@ use type_refusals_common::answers::{digits, done, failed, shown};
 use type_refusals_common::inputs::{bytes_of, output, table_of};
 use type_refusals_common::marks::{begin, end};
 use type_refusals_common::outcomes::Outcome;
+use type_vectors_common::rows::{numbers, parted};
+
+/// Calls of `prune` that are refused: a row is a name, a colon, the ids, a semicolon and the name
+/// of the bytes.
+const REFUSED: &str = "\
+no table: 0; a table without its last byte
+a byte after the table: 0; a table and a byte
+no such type: 0 7 9; Vec<u32>
+a dangling id: 1; reference outside the table
+";
+
+/// The name of bytes, and the ids that they are pruned to: those of the row of this name, or else
+/// every second index of the table of this name.
+fn given<'a>(alloc: Global, row: &'a str) -> Result<(&'a str, Vec<u32>), Fail> {
+    for line in REFUSED.lines() {
+        let (name, rest) = parted(line, ':')?;
+        if name == row {
+            let (ids, bytes) = parted(rest, ';')?;
+            return Ok((bytes.trim(), numbers(alloc, ids)?));
+        }
+    }
+    Ok((row, chosen(alloc, &table_of(alloc, row)?)?))
+}
 
 /// Every second index of a table.
 fn chosen(alloc: Global, table: &PortableRegistry) -> Result<Vec<u32>, Fail> {
@@ -37,8 +60,8 @@ pub fn retain(rt: &HostRuntime, row: &str) -> Result<Outcome, Fail> {
 
 /// Appends the table of what every second entry reaches, with the new ids.
 pub fn prune_bytes(rt: &HostRuntime, row: &str) -> Result<Outcome, Fail> {
-    let bytes = bytes_of(rt.alloc(), row)?;
-    let ids = chosen(rt.alloc(), &table_of(rt.alloc(), row)?)?;
+    let (name, ids) = given(rt.alloc(), row)?;
+    let bytes = bytes_of(rt.alloc(), name)?;
     let mut out = output(rt.alloc())?;
     let before = hex::encode(rt.alloc(), out.as_slice());
     begin(rt);
@@ -50,8 +73,8 @@ pub fn prune_bytes(rt: &HostRuntime, row: &str) -> Result<Outcome, Fail> {
 
 /// Appends the table of what every second entry reaches.
 pub fn append_pruned_bytes(rt: &HostRuntime, row: &str) -> Result<Outcome, Fail> {
-    let bytes = bytes_of(rt.alloc(), row)?;
-    let ids = chosen(rt.alloc(), &table_of(rt.alloc(), row)?)?;
+    let (name, ids) = given(rt.alloc(), row)?;
+    let bytes = bytes_of(rt.alloc(), name)?;
     let mut out = output(rt.alloc())?;
     let before = hex::encode(rt.alloc(), out.as_slice());
     begin(rt);

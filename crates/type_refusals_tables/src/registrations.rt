@@ -9,7 +9,8 @@ use type_refusals_common::answers::{Answer, done, encoded, failed};
 use type_refusals_common::inputs::output;
 use type_refusals_common::marks::{begin, end};
 use type_refusals_common::outcomes::Outcome;
-use type_refusals_common::types::{catalogue, documented_field, type_named};
+use type_refusals_common::own::Missing;
+use type_refusals_common::types::{catalogue, documented_field, type_named, unnamed_field};
 use type_vectors_common::lists::{list_of, with};
 
 /// Registers a type.
@@ -58,15 +59,18 @@ pub fn register_types(rt: &HostRuntime, name: &str) -> Result<Outcome, Fail> {
     Outcome::lending(before, after, encoded(rt.alloc(), listed(returned)))
 }
 
-/// Two fields.
-fn two_fields(alloc: Global) -> Result<Vec<Field>, AllocError> {
+/// Two fields, of which the second is one of a type that is not described where the name says so.
+fn two_fields(alloc: Global, name: &str) -> Result<Vec<Field>, AllocError> {
     let first = list_of(alloc, documented_field(alloc)?);
-    with(first, documented_field(alloc))
+    match name {
+        "two fields" => with(first, documented_field(alloc)),
+        _ => with(first, unnamed_field::<Missing>(alloc)),
+    }
 }
 
 /// Converts two fields.
-pub fn map_into_portable(rt: &HostRuntime) -> Result<Outcome, Fail> {
-    let fields = two_fields(rt.alloc())?;
+pub fn map_into_portable(rt: &HostRuntime, name: &str) -> Result<Outcome, Fail> {
+    let fields = two_fields(rt.alloc(), name)?;
     let known = catalogue(rt.alloc())?;
     let mut registry = registry_of_u8(rt.alloc(), &known)?;
     let before = state(rt.alloc(), &registry, &known);
@@ -77,18 +81,22 @@ pub fn map_into_portable(rt: &HostRuntime) -> Result<Outcome, Fail> {
     Outcome::lending(before, after, encoded(rt.alloc(), listed(returned)))
 }
 
-/// Converts a value.
-pub fn into_portable<T: IntoPortable + Drop>(rt: &HostRuntime, value: T) -> Result<Outcome, Fail>
+/// Converts a value by a catalogue.
+pub fn into_portable<T: IntoPortable + Drop>(
+    rt: &HostRuntime,
+    known: &Catalogue,
+    value: T,
+) -> Result<Outcome, Fail>
 where
     T::Output: Scale,
 {
-    let known = catalogue(rt.alloc())?;
-    let mut registry = registry_of_u8(rt.alloc(), &known)?;
-    let before = descriptions(rt.alloc(), &registry);
+    let described = catalogue(rt.alloc())?;
+    let mut registry = registry_of_u8(rt.alloc(), &described)?;
+    let before = state(rt.alloc(), &registry, &described);
     begin(rt);
-    let returned = value.into_portable(&mut registry, &known);
+    let returned = value.into_portable(rt.alloc(), &mut registry, known);
     end(rt);
-    let after = descriptions(rt.alloc(), &registry);
+    let after = state(rt.alloc(), &registry, &described);
     Outcome::lending(before, after, encoded(rt.alloc(), returned))
 }
 
@@ -116,6 +124,7 @@ pub fn export_types(rt: &HostRuntime, name: &str) -> Result<Outcome, Fail> {
     let mut asked = 0usize;
     begin(rt);
     let returned = export(
+        rt.alloc(),
         &known,
         &types,
         |id| {

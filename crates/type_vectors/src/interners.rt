@@ -110,8 +110,10 @@ fn what_was_truncated_is_new_again(rt: HostRuntime) -> Result<(), Fail> {
         "truncated",
         interner == interned(rt.alloc(), &["Hello"])?,
     );
-    let (is_new, symbol) = interner.intern_or_get("1 2 3")?;
-    is(&rt, "1 2 3", (is_new, symbol.id()), (true, 1));
+    for (value, number) in [(", World!", 1), ("1 2 3", 2)] {
+        let (is_new, symbol) = interner.intern_or_get(value)?;
+        is(&rt, value, (is_new, symbol.id()), (true, number));
+    }
     Ok(())
 }
 

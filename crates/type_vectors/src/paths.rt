@@ -114,8 +114,15 @@ fn each_segment_is_replaced_once_by_the_first_pair(rt: HostRuntime) -> Result<()
 
 #[test]
 fn a_replacement_must_be_an_identifier(rt: HostRuntime) {
-    let refused = Path::new_with_replace(rt.alloc(), "Planet", "a::b", &[("b", "9")]);
-    is(&rt, "error", refused.err(), bad_at(1));
+    let rows: [(&'static str, Pairs, usize); 3] = [
+        ("hello::world", &[("hello", "9")], 0),
+        ("a::b", &[("b", "9")], 1),
+        ("a::b", &[("Planet", "9")], 2),
+    ];
+    for (module_path, pairs, segment) in rows {
+        let refused = Path::new_with_replace(rt.alloc(), "Planet", module_path, pairs);
+        is(&rt, module_path, refused.err(), bad_at(segment));
+    }
 }
 
 #[test]

@@ -83,6 +83,90 @@ use scale_info::interner::InternError;
 use scale_info::interner::Interner;
 use scale_info::interner::Symbol;
 use scale_info::items::Items as ListOfItems;
+use scale_info::laws::any_registrations;
+use scale_info::laws::catalogue_grows;
+use scale_info::laws::closed;
+use scale_info::laws::counts_as_in_tables;
+use scale_info::laws::equal_catalogue_errors;
+use scale_info::laws::equal_codec_errors;
+use scale_info::laws::equal_contents;
+use scale_info::laws::equal_definition_parts;
+use scale_info::laws::equal_definitions;
+use scale_info::laws::equal_export_errors;
+use scale_info::laws::equal_exported;
+use scale_info::laws::equal_fields;
+use scale_info::laws::equal_info_errors;
+use scale_info::laws::equal_intern_errors;
+use scale_info::laws::equal_json_errors;
+use scale_info::laws::equal_numberings;
+use scale_info::laws::equal_parameters;
+use scale_info::laws::equal_path_errors;
+use scale_info::laws::equal_paths;
+use scale_info::laws::equal_portable;
+use scale_info::laws::equal_primitives;
+use scale_info::laws::equal_prune_errors;
+use scale_info::laws::equal_register_errors;
+use scale_info::laws::equal_registries;
+use scale_info::laws::equal_retain_errors;
+use scale_info::laws::equal_tables;
+use scale_info::laws::equal_type_ids;
+use scale_info::laws::equal_value_errors;
+use scale_info::laws::equal_values;
+use scale_info::laws::equal_variants;
+use scale_info::laws::extension_composes;
+use scale_info::laws::extension_unfolds;
+use scale_info::laws::fresh_equals_pruned;
+use scale_info::laws::growth_keeps;
+use scale_info::laws::hashed_type_ids;
+use scale_info::laws::headline;
+use scale_info::laws::ids_of_references;
+use scale_info::laws::keep_all_is_identity;
+use scale_info::laws::match_carries;
+use scale_info::laws::match_exactly;
+use scale_info::laws::match_found;
+use scale_info::laws::numbering_extends_nothing;
+use scale_info::laws::old_entries_stay;
+use scale_info::laws::old_texts_stay;
+use scale_info::laws::one_extension;
+use scale_info::laws::one_list_of_pieces;
+use scale_info::laws::one_list_of_places;
+use scale_info::laws::one_meaning;
+use scale_info::laws::one_numbering;
+use scale_info::laws::one_table;
+use scale_info::laws::one_text;
+use scale_info::laws::ordered_definition_parts;
+use scale_info::laws::ordered_definitions;
+use scale_info::laws::ordered_descriptions;
+use scale_info::laws::ordered_fields;
+use scale_info::laws::ordered_meta_types;
+use scale_info::laws::ordered_parameters;
+use scale_info::laws::ordered_paths;
+use scale_info::laws::ordered_primitives;
+use scale_info::laws::ordered_texts;
+use scale_info::laws::ordered_type_ids;
+use scale_info::laws::ordered_variants;
+use scale_info::laws::own_identities;
+use scale_info::laws::own_standard_identities;
+use scale_info::laws::own_tuple_identities;
+use scale_info::laws::reached_by_path;
+use scale_info::laws::reached_exactly;
+use scale_info::laws::reached_inside;
+use scale_info::laws::reads_alike;
+use scale_info::laws::registered_afresh;
+use scale_info::laws::registered_tables;
+use scale_info::laws::registrations_afresh;
+use scale_info::laws::registrations_compose;
+use scale_info::laws::same_shape;
+use scale_info::laws::same_shape_same_counts;
+use scale_info::laws::shape_and_references;
+use scale_info::laws::shape_and_references_of;
+use scale_info::laws::shared_identities;
+use scale_info::laws::spelled_within_limits;
+use scale_info::laws::symbols_by_number;
+use scale_info::laws::texts_as_in_tables;
+use scale_info::laws::tracked_symbols_by_number;
+use scale_info::laws::unfolding_decides;
+use scale_info::laws::unfolds_alike;
 use scale_info::meta_type::Catalogue;
 use scale_info::meta_type::CatalogueError;
 use scale_info::meta_type::Describes;
@@ -96,6 +180,7 @@ use scale_info::named_type_params;
 use scale_info::portable::Entries;
 use scale_info::portable::PortableRegistry as TableOfModule;
 use scale_info::portable::PortableRegistryBuilder as BuilderOfModule;
+use scale_info::portable::RetainError as RetainErrorOfTables;
 use scale_info::prune;
 use scale_info::registry::IntoPortable as IntoPortableOfModule;
 use scale_info::registry::RegisterError;
@@ -317,8 +402,12 @@ fn is_written_alike(alloc: Global, table: &PortableRegistry, bytes: &[u8]) -> Re
 }
 
 /// Exports no types of a catalogue, after what the output has.
-fn export_nothing(catalogue: &Catalogue, output: &mut Vec<u8>) -> Result<Exported, ExportError> {
-    export(catalogue, &[], |_| true, output)
+fn export_nothing(
+    alloc: Global,
+    catalogue: &Catalogue,
+    output: &mut Vec<u8>,
+) -> Result<Exported, ExportError> {
+    export(alloc, catalogue, &[], |_| true, output)
 }
 
 /// What the functions of the root that write bytes append in turn, each called once.
@@ -326,7 +415,7 @@ fn appended(alloc: Global, bytes: &[u8]) -> Result<Vec<u8>, Fail> {
     let mut pruned = Vec::new(alloc);
     let _ = prune(alloc, bytes, &[0], &mut pruned)?;
     append_pruned(alloc, bytes, &[0], &mut pruned)?;
-    let _ = export_nothing(&Catalogue::new(alloc), &mut pruned)?;
+    let _ = export_nothing(alloc, &Catalogue::new(alloc), &mut pruned)?;
     Ok(pruned)
 }
 

@@ -98,17 +98,27 @@ fn each_constructor_makes_its_kind_with_its_parts(rt: HostRuntime) -> Result<(),
     Ok(())
 }
 
+/// Whether a list equals one that is made.
+fn are<T: PartialEq + Drop>(found: &[T], made: Result<Vec<T>, AllocError>) -> bool {
+    match made {
+        Ok(made) => found == made.as_slice(),
+        Err(_) => false,
+    }
+}
+
 #[test]
 fn composites_return_their_fields(rt: HostRuntime) -> Result<(), Fail> {
     let composite = TypeDefComposite::from(unnamed_fields(rt.alloc(), &[1, 2])?);
-    is(&rt, "fields", composite.fields().len(), 2);
+    let wanted = unnamed_fields(rt.alloc(), &[1, 2]);
+    is(&rt, "fields", are(composite.fields(), wanted), true);
     Ok(())
 }
 
 #[test]
 fn enums_return_their_variants(rt: HostRuntime) -> Result<(), Fail> {
-    let made = TypeDefVariant::from(variants(rt.alloc(), "V", &[], 0)?);
-    is(&rt, "variants", made.variants().len(), 1);
+    let made = TypeDefVariant::from(variants(rt.alloc(), "V", &[1], 2)?);
+    let wanted = variants(rt.alloc(), "V", &[1], 2);
+    is(&rt, "variants", are(made.variants(), wanted), true);
     Ok(())
 }
 

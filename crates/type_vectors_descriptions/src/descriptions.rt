@@ -191,6 +191,7 @@ pub fn meta_description(alloc: Global) -> Result<Type<MetaForm>, AllocError> {
 
 /// Asserts that parameters are those of the description in the meta form.
 fn are_meta_parameters(rt: &impl Abort, parameters: &[TypeParameter]) {
+    is(rt, "parameters", parameters.len(), 1);
     for parameter in parameters {
         is(rt, "parameter", *parameter.name(), "T");
     }

@@ -85,7 +85,10 @@ fn unnamed(alloc: Global) -> Result<TypeDef, AllocError> {
 
 /// A struct of one field, by the field's builder.
 fn built_field(alloc: Global) -> Result<TypeDef, AllocError> {
-    let built = Field::builder().type_name("T").name("x").ty::<bool>(alloc)?;
+    let built = Field::<MetaForm>::builder()
+        .type_name("T")
+        .name("x")
+        .ty::<bool>(alloc)?;
     let fields = list_of(alloc, built.finalize(alloc))?;
     Ok(TypeDefComposite::from(fields).into())
 }
@@ -143,8 +146,8 @@ fn members(alloc: Global, case: &str) -> Result<Vec<MetaType>, AllocError> {
 /// The tuple of the case.
 fn tuple(alloc: Global, case: &str) -> Result<TypeDef, AllocError> {
     match case {
-        "()" => Ok(TypeDefTuple::unit(alloc)),
-        _ => TypeDefTuple::new(alloc, members(alloc, case)?),
+        "()" => Ok(TypeDefTuple::unit(alloc).into()),
+        _ => Ok(TypeDefTuple::new(alloc, members(alloc, case)?)?.into()),
     }
 }
 

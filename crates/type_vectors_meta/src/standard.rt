@@ -2,8 +2,8 @@
 use crate::asserts::is;
 use scale_info::impls::{Compact, SliceOf, StrType};
 use scale_info::meta_type::InfoError;
-use scale_info::{TypeDefBitSequence, TypeInfo};
-use std::alloc::Global;
+use scale_info::{TypeDef, TypeDefBitSequence, TypeInfo};
+use std::alloc::{AllocError, Global};
 use std::collections::VecDeque;
 use std::rc::Rc;
 use std::test::Fail;
@@ -117,10 +117,14 @@ fn an_array_that_is_too_long(rt: HostRuntime) -> Result<(), Fail> {
     Ok(())
 }
 
+/// A sequence of bits, stored as a box of `u8`, in the order `bool`.
+fn bits(alloc: Global) -> Result<TypeDef, AllocError> {
+    Ok(TypeDefBitSequence::new::<Box<u8>, bool>(alloc)?.into())
+}
+
 #[test]
 fn bit_sequences(rt: HostRuntime) -> Result<(), Fail> {
-    let bits = TypeDefBitSequence::new::<Box<u8>, bool>(rt.alloc());
-    let found = text_of(rt.alloc(), bits)?;
+    let found = text_of(rt.alloc(), bits(rt.alloc()))?;
     is(&rt, "store and order", found.as_str(), "bits u8 bool");
     Ok(())
 }

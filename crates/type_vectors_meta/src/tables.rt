@@ -3,7 +3,7 @@ use crate::asserts::{holds, is};
 use scale_info::build::{Fields, FieldsBuilder, NamedFields};
 use scale_info::form::PortableForm;
 use scale_info::{
-    Items, Path, PortableRegistry, PortableRegistryBuilder, Text, Type, TypeDefPrimitive,
+    Field, Items, Path, PortableRegistry, PortableRegistryBuilder, Text, Type, TypeDefPrimitive,
     TypeDefSequence,
 };
 use std::alloc::{AllocError, Global};
@@ -61,6 +61,23 @@ const STRUCT: &str = "\
 fn its_path_and_its_fields_are_as_they_are_given(rt: HostRuntime) -> Result<(), Fail> {
     let found = into_encoding(rt.alloc(), built_struct(rt.alloc())?)?;
     is(&rt, "struct", &found, &row_bytes(rt.alloc(), STRUCT)?);
+    Ok(())
+}
+
+/// A field by its own builder: its name, its type with the id 7, its type's name, and no docs.
+const FIELD: &str = "01046e 1c 01044e 00";
+
+/// The field, by its own builder.
+fn built_field(alloc: Global) -> Result<Field<PortableForm>, AllocError> {
+    let type_name = Text::from_str(alloc, "N")?;
+    let builder = Field::<PortableForm>::builder().type_name(type_name).ty(7);
+    Ok(builder.name(Text::from_str(alloc, "n")?).finalize(alloc))
+}
+
+#[test]
+fn a_field_has_a_builder_of_its_own(rt: HostRuntime) -> Result<(), Fail> {
+    let found = into_encoding(rt.alloc(), built_field(rt.alloc())?)?;
+    is(&rt, "field", &found, &row_bytes(rt.alloc(), FIELD)?);
     Ok(())
 }
 

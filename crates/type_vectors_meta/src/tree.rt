@@ -31,7 +31,7 @@ impl TypeInfo for Tree {
     ghost description = { slice_description ⟦<Tree as Identified>⟧.own };
 
     fn type_info(alloc: Global) -> Result<Type, InfoError> {
-        Ok(Type::from_def(alloc, TypeDefSequence::of::<Box<Tree>>(alloc)?))
+        Ok(Type::from_def(alloc, TypeDefSequence::of::<Box<Tree>>(alloc)?.into()))
     }
 }
 

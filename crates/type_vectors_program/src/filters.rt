@@ -90,7 +90,7 @@ fn a_refused_export_asked_for_none(rt: HostRuntime) -> Result<(), Fail> {
         asked = asked.saturating_add(1);
         true
     };
-    let refused = export(&known, &types, count, &mut output).err();
+    let refused = export(alloc, &known, &types, count, &mut output).err();
     let missing = RegisterError::Undescribed(u32::type_id(alloc)?);
     is(&rt, "error", refused, Some(ExportError::Register(missing)));
     is(&rt, "asked", asked, 0);

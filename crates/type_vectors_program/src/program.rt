@@ -189,6 +189,35 @@ fn a_line_that_cannot_be_written_changes_no_status(rt: HostRuntime) -> Result<()
     Ok(())
 }
 
+/// Asserts that the message that a run keeps has its line, and that the status is the same.
+fn keeps_the_line(rt: &impl Abort, alloc: Global, run: &Refusal) -> Result<(), Fail> {
+    let (words, input, status, line) = *run;
+    let arguments = texts(alloc, words)?;
+    let mut reader = input;
+    let mut output = Vec::new(alloc);
+    let (found, message) = type_table_run::run_and_keep(
+        alloc,
+        &arguments,
+        &mut reader,
+        &mut output,
+    );
+    is(rt, line, (found, output.len()), (status, 0));
+    let mut kept = Vec::new(alloc);
+    if let Some(message) = message {
+        type_table_run::report_message(&mut kept, &message)?;
+    }
+    is(rt, line, kept.as_slice(), line.as_bytes());
+    Ok(())
+}
+
+#[test]
+fn a_message_that_is_kept_has_the_line(rt: HostRuntime) -> Result<(), Fail> {
+    for run in &REFUSALS {
+        keeps_the_line(&rt, rt.alloc(), run)?;
+    }
+    Ok(())
+}
+
 /// This shows only that many interruptions do not end the reading. The limit of 4294967296 reads,
 /// past which the line is `input failed`, takes too long for a test.
 #[test]

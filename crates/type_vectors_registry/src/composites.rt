@@ -8,20 +8,7 @@ use scale_info::registry::RegisterError;
 use scale_info::{MetaType, Registry, tuple_meta_type};
 use std::alloc::{AllocError, Global};
 use std::test::Fail;
-use type_vectors_common::rows::rows;
-
-/// Tables of registered types: a row is a name, a colon and the bytes in hexadecimal. Parameters
-/// come before fields, a struct of itself is one type, and what a type refers to comes before the
-/// next type.
-const ROWS: &str = "\
-P: 0c 0004045008045300045401040008010461080000010462040000 00 040000050000 080000050300
-RecursiveRefs: 04 00043452656375727369766552656673 00 000c 0114626f786564000000 \
-    01247265666572656e6365000000 01446d757461626c655f7265666572656e6365000000 00
-C, A: 10 0004044300000000 040404410000080104620800000104630000 0000 \
-    080404420000040104640c000000 0c04044400000401046104000000
-A: 10 00040441000008010462040000010463 0c000000 0404044200000401046408000000 \
-    0804044400000401046100000000 0c04044300000000
-";
+use type_vectors_common::rows::{COMPOSITES, rows};
 
 /// The types of the row of this name.
 fn roots(alloc: Global, name: &str) -> Result<Vec<MetaType>, AllocError> {
@@ -37,7 +24,7 @@ fn roots(alloc: Global, name: &str) -> Result<Vec<MetaType>, AllocError> {
 fn composites_come_in_depth_first_order(rt: HostRuntime) -> Result<(), Fail> {
     let alloc = rt.alloc();
     let known = catalogue(alloc)?;
-    for row in &rows(alloc, ROWS)? {
+    for row in &rows(alloc, COMPOSITES)? {
         let roots = roots(alloc, row.name)?;
         registers_as(&rt, alloc, &known, row.name, roots, &row.bytes)?;
     }

@@ -1,13 +1,14 @@
 //! Descriptions of a program's own types, and a catalogue of them.
 use crate::own::{
-    A, B, C, Choice, D, Documented, I256, Named, OptionOfPair, Recursive, References, Skipping,
-    Triple, U256,
+    A, B, C, Choice, D, Documented, I256, Mapping, Named, OptionOfPair, Recursive, References,
+    Skipping, Triple, U256,
 };
 use crate::parts::{begun, composite, enumeration, given, named, variant};
 use scale_info::impls::{Compact, meta_type};
 use scale_info::meta_type::{Catalogue, CatalogueError, HasIdentity, Identified};
 use scale_info::{
-    Field, Type, TypeDefComposite, TypeDefPrimitive, TypeDefVariant, TypeId, TypeParameter, Variant,
+    Field, Type, TypeDefComposite, TypeDefMap, TypeDefPrimitive, TypeDefVariant, TypeId,
+    TypeParameter, Variant,
 };
 use std::alloc::{AllocError, Global};
 use std::marker::PhantomData;
@@ -16,6 +17,7 @@ use std::test::Fail;
 use std::time::Duration;
 use type_vectors_common::catalogues::add_own;
 use type_vectors_common::lists::{list_of, with};
+use type_vectors_common::results::both;
 
 /// A skipped parameter `S`, and `T` given `bool`.
 fn skipped_and_given(alloc: Global) -> Result<Vec<TypeParameter>, AllocError> {
@@ -165,10 +167,17 @@ fn add_structs(alloc: Global, known: &mut Catalogue) -> Result<bool, CatalogueEr
     )
 }
 
-/// Adds an enum of itself, an enum with docs, and types without a path.
+/// A map from `u32` to `bool`.
+fn mapping(alloc: Global) -> Result<Type, AllocError> {
+    let (key, value) = both(meta_type::<u32>(alloc), meta_type::<bool>(alloc))?;
+    Ok(Type::from_def(alloc, TypeDefMap::new(key, value).into()))
+}
+
+/// Adds an enum of itself, an enum with docs, a map, and types without a path.
 fn add_others(alloc: Global, known: &mut Catalogue) -> Result<bool, CatalogueError> {
     add_own(known, Named::type_id(alloc)?, fielded(alloc))?;
     add_own(known, Choice::type_id(alloc)?, choice(alloc))?;
+    add_own(known, Mapping::type_id(alloc)?, mapping(alloc))?;
     add_own(known, Recursive::type_id(alloc)?, recursive(alloc))?;
     add_own(known, Documented::type_id(alloc)?, documented(alloc))
 }

@@ -4,8 +4,6 @@
 #[cfg(test)]
 mod asserts;
 #[cfg(test)]
-mod callers;
-#[cfg(test)]
 mod composites;
 #[cfg(test)]
 mod described;

@@ -45,6 +45,8 @@ pub type Choice = Own<9>;
 pub type U256 = Own<10>;
 /// The primitive `i256`.
 pub type I256 = Own<11>;
+/// A map from `u32` to `bool`.
+pub type Mapping = Own<12>;
 
 /// `(u32, [u8; 32], bool)`.
 pub type Triple = (u32, [u8; 32], bool);

@@ -1,9 +1,9 @@
 //! Parts of descriptions in the form of a program, made in few words.
 use scale_info::build::{PathAssigned, TypeBuilder};
-use scale_info::form::{Form, MetaForm};
+use scale_info::form::MetaForm;
 use scale_info::impls::meta_type;
 use scale_info::meta_type::HasIdentity;
-use scale_info::{Field, Items, Path, Type, TypeDef, TypeDefTuple, TypeParameter, Variant};
+use scale_info::{Field, Items, MetaType, Path, Type, TypeDefTuple, TypeParameter, Variant};
 use std::alloc::{AllocError, Global};
 use type_vectors_common::lists::list_of;
 use type_vectors_common::results::both;
@@ -44,10 +44,9 @@ pub fn given<T: HasIdentity>(
     Ok(TypeParameter::new(name, Some(meta_type::<T>(alloc)?)))
 }
 
-/// A tuple of these types. It is generic, since the borrow checker does not cover it for one form.
-pub fn tuple<F: Form>(members: Result<Vec<F::Ty>, AllocError>) -> Result<TypeDef<F>, AllocError> {
-    let fields = Items::from(members?);
-    Ok(TypeDef::Tuple(TypeDefTuple { fields }))
+/// A tuple of these types.
+pub fn tuple(members: Result<Vec<MetaType>, AllocError>) -> Result<TypeDefTuple, AllocError> {
+    Ok(TypeDefTuple::from(Items::from(members?)))
 }
 
 /// A description of these parameters and this path in the making.

@@ -3,7 +3,7 @@ use crate::asserts::{holds, is};
 use crate::registered::{ids, is_written, register};
 use scale_info::meta_type::{Catalogue, CatalogueError, Identified};
 use scale_info::registry::RegisterError;
-use scale_info::{Registry, tuple_meta_type};
+use scale_info::{Registry, TypeInfo, tuple_meta_type};
 use std::alloc::Global;
 use std::process::Abort;
 use std::test::Fail;
@@ -15,52 +15,52 @@ fn add_all(known: &mut Catalogue) -> Result<bool, CatalogueError> {
 }
 
 /// A catalogue that describes `u8` and `Vec<u32>`, but not `u32`.
-fn catalogue(alloc: Global) -> Result<Catalogue, CatalogueError> {
+pub fn undescribed_u32(alloc: Global) -> Result<Catalogue, CatalogueError> {
     let mut known = Catalogue::new(alloc);
     add_all(&mut known)?;
     Ok(known)
 }
 
-/// The registry of `u8`.
-fn registry_of_u8(alloc: Global) -> Result<Registry, Fail> {
-    let known = catalogue(alloc)?;
+/// A catalogue of this type alone.
+pub fn catalogue_of<T: TypeInfo>(alloc: Global) -> Result<Catalogue, CatalogueError> {
+    let mut known = Catalogue::new(alloc);
+    known.add::<T>()?;
+    Ok(known)
+}
+
+/// The registry of this type, which refers to no other.
+pub fn registry_of<T: TypeInfo>(alloc: Global) -> Result<Registry, Fail> {
+    let known = catalogue_of::<T>(alloc)?;
     let mut registry = Registry::new(alloc);
-    register::<u8>(alloc, &mut registry, &known)?;
+    register::<T>(alloc, &mut registry, &known)?;
     Ok(registry)
 }
 
-/// Whether a registry is that of `u8`.
-fn is_of_u8(alloc: Global, registry: &Registry) -> Result<bool, Fail> {
-    Ok(*registry == registry_of_u8(alloc)?)
+/// Whether a registry is that of this type.
+pub fn is_of<T: TypeInfo>(alloc: Global, registry: &Registry) -> Result<bool, Fail> {
+    Ok(*registry == registry_of::<T>(alloc)?)
 }
 
-/// Whether a registry is a new one.
-fn is_new(alloc: Global, registry: &Registry) -> bool {
-    *registry == Registry::new(alloc)
+/// Whether a registration was refused, since this type is not described.
+pub fn names<T: Identified, R: Drop>(
+    alloc: Global,
+    returned: Result<R, RegisterError>,
+) -> Result<bool, Fail> {
+    let wanted = RegisterError::Undescribed(T::type_id(alloc)?);
+    Ok(returned.err() == Some(wanted))
 }
 
-/// Whether an error names `u32`.
-fn names_u32(alloc: Global, error: &RegisterError) -> Result<bool, Fail> {
-    Ok(*error == RegisterError::Undescribed(u32::type_id(alloc)?))
-}
-
-/// Whether `Vec<u32>` is refused, and the error names `u32`.
+/// Whether `Vec<u32>` is refused under a catalogue of it alone, and the error names `u32`.
 fn type_is_refused(alloc: Global, registry: &mut Registry) -> Result<bool, Fail> {
-    let known = catalogue(alloc)?;
-    match register::<Vec<u32>>(alloc, registry, &known) {
-        Ok(_) => Ok(false),
-        Err(error) => names_u32(alloc, &error),
-    }
+    let known = catalogue_of::<Vec<u32>>(alloc)?;
+    names::<u32, _>(alloc, register::<Vec<u32>>(alloc, registry, &known))
 }
 
 /// Whether `u8`, `Vec<u32>` and `u8` are refused, and the error names `u32`.
 fn list_is_refused(alloc: Global, registry: &mut Registry) -> Result<bool, Fail> {
-    let known = catalogue(alloc)?;
+    let known = undescribed_u32(alloc)?;
     let list = tuple_meta_type!(alloc; u8, Vec<u32>, u8)?;
-    match registry.register_types(list, &known) {
-        Ok(_) => Ok(false),
-        Err(error) => names_u32(alloc, &error),
-    }
+    names::<u32, _>(alloc, registry.register_types(list, &known))
 }
 
 #[test]
@@ -68,7 +68,7 @@ fn a_missing_type_is_named(rt: HostRuntime) -> Result<(), Fail> {
     let alloc = rt.alloc();
     let mut registry = Registry::new(alloc);
     holds(&rt, "Vec<u32>", type_is_refused(alloc, &mut registry)?);
-    holds(&rt, "nothing is there", is_new(alloc, &registry));
+    holds(&rt, "nothing is there", registry == Registry::new(alloc));
     Ok(())
 }
 
@@ -77,22 +77,23 @@ fn a_list_is_registered_whole_or_not(rt: HostRuntime) -> Result<(), Fail> {
     let alloc = rt.alloc();
     let mut registry = Registry::new(alloc);
     holds(&rt, "of nothing", list_is_refused(alloc, &mut registry)?);
-    holds(&rt, "nothing is there", is_new(alloc, &registry));
+    holds(&rt, "nothing is there", registry == Registry::new(alloc));
     Ok(())
 }
 
 #[test]
 fn a_refused_list_leaves_what_was_there(rt: HostRuntime) -> Result<(), Fail> {
     let alloc = rt.alloc();
-    let mut registry = registry_of_u8(alloc)?;
+    let mut registry = registry_of::<u8>(alloc)?;
     holds(&rt, "of u8", list_is_refused(alloc, &mut registry)?);
-    holds(&rt, "u8 is there alone", is_of_u8(alloc, &registry)?);
+    holds(&rt, "u8 is there alone", is_of::<u8>(alloc, &registry)?);
     Ok(())
 }
 
-/// Whether `bool` is refused under a catalogue of nothing.
-fn bool_is_refused(alloc: Global, registry: &mut Registry) -> bool {
-    register::<bool>(alloc, registry, &Catalogue::new(alloc)).is_err()
+/// Whether `bool` is refused under a catalogue of nothing, and the error names it.
+fn bool_is_refused(alloc: Global, registry: &mut Registry) -> Result<bool, Fail> {
+    let nothing = Catalogue::new(alloc);
+    names::<bool, _>(alloc, register::<bool>(alloc, registry, &nothing))
 }
 
 /// The ids of a box of `u8` under a catalogue of nothing.
@@ -103,7 +104,7 @@ fn ids_of_box(alloc: Global, registry: &mut Registry) -> Result<Vec<u32>, Fail> 
 
 /// Asserts that under a catalogue of nothing `u8` is found by a box of it, and `bool` is refused.
 fn u8_alone_is_known(rt: &impl Abort, alloc: Global, registry: &mut Registry) -> Result<(), Fail> {
-    holds(rt, "bool", bool_is_refused(alloc, registry));
+    holds(rt, "bool", bool_is_refused(alloc, registry)?);
     let found = ids_of_box(alloc, registry)?;
     is(rt, "Box<u8>", found.as_slice(), [0].as_slice());
     Ok(())
@@ -111,9 +112,13 @@ fn u8_alone_is_known(rt: &impl Abort, alloc: Global, registry: &mut Registry) ->
 
 #[test]
 fn a_known_type_needs_no_description(rt: HostRuntime) -> Result<(), Fail> {
-    let mut registry = registry_of_u8(rt.alloc())?;
+    let mut registry = registry_of::<u8>(rt.alloc())?;
     u8_alone_is_known(&rt, rt.alloc(), &mut registry)?;
-    holds(&rt, "u8 is there alone", is_of_u8(rt.alloc(), &registry)?);
+    holds(
+        &rt,
+        "u8 is there alone",
+        is_of::<u8>(rt.alloc(), &registry)?,
+    );
     Ok(())
 }
 

@@ -1,7 +1,7 @@
 //! Types that register as the tables of the rows.
 use crate::asserts::is;
 use crate::described::catalogue;
-use crate::own::{Choice, Documented, I256, Named, OptionOfPair, Recursive, Triple, U256};
+use crate::own::{Choice, Documented, I256, Mapping, Named, OptionOfPair, Recursive, Triple, U256};
 use crate::registered::{count, ids, registers_as};
 use scale_info::impls::Compact;
 use scale_info::meta_type::Catalogue;
@@ -12,7 +12,7 @@ use std::ops::Range;
 use std::process::Abort;
 use std::test::Fail;
 use std::time::Duration;
-use type_vectors_common::rows::{TABLES, row_named, rows};
+use type_vectors_common::rows::{AMONG, TABLES, row_named, rows};
 
 /// The rows that the tests of the decoder read too, by name.
 const NAMES: &str = "\
@@ -29,6 +29,7 @@ Duration
 docs of a type, a variant and a field
 the same enum before its bool
 the fifteen primitives in order
+map(1, 2), u32, bool
 ";
 
 /// The fifteen primitives, in the order in which they are declared.
@@ -53,6 +54,7 @@ fn roots(alloc: Global, name: &str) -> Result<Vec<MetaType>, AllocError> {
         "docs of a type, a variant and a field" => tuple_meta_type!(alloc; bool, Documented),
         "the same enum before its bool" => tuple_meta_type!(alloc; Documented),
         "the fifteen primitives in order" => fifteen(alloc),
+        "map(1, 2), u32, bool" => tuple_meta_type!(alloc; Mapping),
         _ => Ok(Vec::new(alloc)),
     }
 }
@@ -73,22 +75,6 @@ fn types_register_as_their_rows(rt: HostRuntime) -> Result<(), Fail> {
     Ok(())
 }
 
-/// Types between or after `bool` and `String`: a row is a name, a colon and the table. The tests of
-/// `retain` keep one type of each of these tables.
-const AMONG: &str = "\
-bool, Vec<u32>, String: 10 000000050000 040000020800 080000050500 0c0000050200
-bool, a recursive enum, String: 0c 000000050000 \
-    04081064656d6f245265637572736976650001081456616c75650400040000000014456d70747900010000 \
-    080000050200
-bool, [u32; 16], String: 10 000000050000 0400000310000000 0800 080000050500 0c0000050200
-bool, a struct, String: 18 000000050000 \
-    040000000c0104610800000104620c000001046300000000 080000050500 \
-    0c000003200000001000 100000050300 140000050200
-bool, an enum, String: 10 000000050000 04000001080441040008000000000442040000000001 0000 \
-    080000050500 0c0000050200
-bool, String, Compact<u32>: 10 000000050000 040000050200 080000060c00 0c0000050500
-";
-
 /// The types of the row of this name.
 fn roots_among(alloc: Global, name: &str) -> Result<Vec<MetaType>, AllocError> {
     match name {
@@ -101,6 +87,7 @@ fn roots_among(alloc: Global, name: &str) -> Result<Vec<MetaType>, AllocError> {
     }
 }
 
+/// The tests of `retain` keep one type of each of these tables.
 #[test]
 fn types_among_others_register_as_their_rows(rt: HostRuntime) -> Result<(), Fail> {
     let alloc = rt.alloc();

@@ -1,13 +1,16 @@
 //! Tables: what an id resolves to, and tables that are built at run time.
 use crate::asserts::{holds, is, same};
 use scale_info::form::PortableForm;
-use scale_info::{DecodeError, PortableRegistry, PortableRegistryBuilder, Scale, Type};
-use std::alloc::Global;
+use scale_info::{
+    DecodeError, PortableRegistry, PortableRegistryBuilder, Scale, Type, TypeDef, TypeDefComposite,
+    TypeDefPrimitive,
+};
+use std::alloc::{AllocError, Global};
 use std::process::Abort;
 use std::test::Fail;
-use type_vectors_common::chains::chain;
+use type_vectors_common::chains::chain_to_bool;
 use type_vectors_common::encodings::into_encoding;
-use type_vectors_common::parts::sequence;
+use type_vectors_common::parts::{description, sequence, unnamed_fields};
 use type_vectors_common::rows::{Row, TABLES, decoded, row_bytes, rows};
 
 /// Whether the first id past the end of a table and the greatest id resolve to none.
@@ -54,14 +57,24 @@ const TABLE: &str = "\
     14 00 0000050500 04 0000020000 08 0000000c00000000000400000008000000 0c 000008040800 \
     10 000008080400";
 
+/// The struct of the types with the ids 0 to 2, by the constructors of its parts.
+fn constructed(alloc: Global) -> Result<Type<PortableForm>, AllocError> {
+    let fields = unnamed_fields(alloc, &[0, 1, 2])?;
+    let def = TypeDef::from(TypeDefComposite::from(fields));
+    description(alloc, &[], &[], def, &[])
+}
+
 /// The description whose encoding the row is.
 fn described(alloc: Global, row: &Row) -> Result<Type<PortableForm>, DecodeError> {
     let (ty, _) = Type::<PortableForm>::decode_from(alloc, &row.bytes)?;
     Ok(ty)
 }
 
-/// The description with this id in the table of five.
+/// The description with this id in the table of five; the struct is constructed.
 fn worked(alloc: Global, id: u32) -> Result<Type<PortableForm>, Fail> {
+    if id == 2 {
+        return Ok(constructed(alloc)?);
+    }
     let all = rows(alloc, FIVE)?;
     match all.get(id as usize) {
         Some(row) => Ok(described(alloc, row)?),
@@ -145,12 +158,49 @@ fn a_finished_table_has_what_was_registered(rt: HostRuntime) -> Result<(), Fail>
     Ok(())
 }
 
-/// The id of a sequence of this type, which is registered if it is new.
-fn registered(alloc: Global, builder: &mut PortableRegistryBuilder, ty: u32) -> Result<u32, Fail> {
-    Ok(builder.register_type(Type::from_def(alloc, sequence(ty)))?)
+/// The definition with this id in a chain of so many types: a sequence of the next, and the last
+/// `bool`.
+fn link(id: u32, count: u32) -> TypeDef<PortableForm> {
+    match id.saturating_add(1) {
+        next if next < count => sequence(next),
+        _ => TypeDef::from(TypeDefPrimitive::Bool),
+    }
 }
 
-/// Asserts that sequences, each of the next, get the ids from 0 up.
+/// The id of the description that is this definition alone, which is registered if it is new.
+fn registered(
+    alloc: Global,
+    builder: &mut PortableRegistryBuilder,
+    def: TypeDef<PortableForm>,
+) -> Result<u32, Fail> {
+    Ok(builder.register_type(Type::from_def(alloc, def))?)
+}
+
+/// The table of a sequence of the type with the id 5 alone, and whether its builder has a
+/// description with the id 0 and with the id 1.
+fn alone(alloc: Global) -> Result<(Vec<u8>, bool, bool), Fail> {
+    let mut builder = PortableRegistryBuilder::new(alloc);
+    registered(alloc, &mut builder, sequence(5))?;
+    let (first, second) = (builder.get(0).is_some(), builder.get(1).is_some());
+    Ok((
+        into_encoding(alloc, finished(alloc, builder)?)?,
+        first,
+        second,
+    ))
+}
+
+/// It is `seq(5)` in a table of one entry.
+const ALONE: [u8; 7] = [4, 0, 0, 0, 2, 20, 0];
+
+#[test]
+fn a_builder_does_not_look_at_references(rt: HostRuntime) -> Result<(), Fail> {
+    let (table, first, second) = alone(rt.alloc())?;
+    is(&rt, "table", table.as_slice(), ALONE.as_slice());
+    is(&rt, "descriptions", (first, second), (true, false));
+    Ok(())
+}
+
+/// Asserts that the types of a chain get the ids from 0 up.
 fn registers_a_chain(
     rt: &impl Abort,
     alloc: Global,
@@ -158,13 +208,13 @@ fn registers_a_chain(
     count: u32,
 ) -> Result<(), Fail> {
     for id in 0..count {
-        let found = registered(alloc, builder, id.saturating_add(1))?;
+        let found = registered(alloc, builder, link(id, count))?;
         is(rt, "id", found, id);
     }
     Ok(())
 }
 
-/// The table of 100000 sequences that are registered twice.
+/// The table of a chain of 100000 types that are registered twice.
 fn registered_twice(rt: &impl Abort, alloc: Global) -> Result<PortableRegistry, Fail> {
     let mut builder = PortableRegistryBuilder::new(alloc);
     registers_a_chain(rt, alloc, &mut builder, 100000)?;
@@ -173,11 +223,11 @@ fn registered_twice(rt: &impl Abort, alloc: Global) -> Result<PortableRegistry, 
     finished(alloc, builder)
 }
 
-/// The last of them refers past the end of the table. The test's limit of 60 seconds alone bounds
-/// the time, which one comparison with each earlier description at each call would not keep.
+/// The test's limit of 60 seconds alone bounds the time, which one comparison with each earlier
+/// description at each call would not keep.
 #[test]
 fn a_hundred_thousand_descriptions_are_registered_twice(rt: HostRuntime) -> Result<(), Fail> {
-    let wanted = chain(rt.alloc(), 100000, sequence(100000))?;
+    let wanted = chain_to_bool(rt.alloc(), 100000)?;
     same(&rt, "chain", &registered_twice(&rt, rt.alloc())?, &wanted);
     Ok(())
 }

@@ -1,7 +1,19 @@
-//! Programs of `docs/CALLING.md` that write and read tables.
+//! Programs of `docs/CALLING.md` that write and read tables, and that convert their values.
+use crate::asserts::{holds, is};
+use crate::exports::catalogue;
+use scale_info::impls::meta_type;
+use scale_info::meta_type::{Catalogue, HasIdentity};
+use scale_info::{PortableRegistry, Registry, tuple_meta_type};
 use scale_info_callers::build::write_point;
 use scale_info_callers::inspect::inspect;
+use scale_info_registry_callers::call::{Call, PortableCall};
+use scale_info_registry_callers::register::{table_in_two_steps, write_numbers};
+use std::alloc::{AllocError, Global};
+use std::process::Abort;
 use std::test::Fail;
+use type_vectors_common::encodings::encoding;
+use type_vectors_common::lists::{list_of, with};
+use type_vectors_common::rows::{TABLES, row_named};
 
 #[test]
 fn the_written_table_is_printed(rt: HostRuntime) -> Result<(), Fail> {
@@ -11,5 +23,81 @@ fn the_written_table_is_printed(rt: HostRuntime) -> Result<(), Fail> {
     inspect(rt.alloc(), &mut bytes.as_slice(), &mut printed)?;
     let wanted = "0 u32\n1 Vec<u32>\n2 shapes::Point\n    x: u32\n    tags: Vec<u32>\n";
     assert_eq!(rt; printed.as_slice(), wanted.as_bytes());
+    Ok(())
+}
+
+#[test]
+fn numbers_are_written(rt: HostRuntime) -> Result<(), Fail> {
+    let alloc = rt.alloc();
+    let row = row_named(alloc, TABLES, "Vec<u32>")?;
+    let mut written = Vec::new(alloc);
+    write_numbers(alloc, &mut written)?;
+    is(&rt, row.name, written.as_slice(), row.bytes.as_slice());
+    Ok(())
+}
+
+/// `u32`, and a sequence of it.
+const TWO_STEPS: [u8; 13] = [8, 0, 0, 0, 5, 5, 0, 4, 0, 0, 2, 0, 0];
+
+/// The table of `u32`, which is registered first, and of a list of it.
+fn in_two_steps(alloc: Global, known: &mut Catalogue) -> Result<PortableRegistry, Fail> {
+    let first = tuple_meta_type!(alloc; u32)?;
+    let second = tuple_meta_type!(alloc; Vec<u32>)?;
+    Ok(table_in_two_steps::<Vec<u32>>(alloc, known, first, second)?)
+}
+
+#[test]
+fn a_table_grows_with_its_catalogue(rt: HostRuntime) -> Result<(), Fail> {
+    let alloc = rt.alloc();
+    let mut known = Catalogue::new(alloc);
+    known.add::<u32>()?;
+    let bytes = encoding(alloc, &in_two_steps(alloc, &mut known)?)?;
+    is(&rt, "len", known.len(), 2);
+    is(&rt, "bytes", bytes.as_slice(), TWO_STEPS.as_slice());
+    Ok(())
+}
+
+/// Asserts that there is a call with this name and this id of its argument's type.
+fn is_call(rt: &impl Abort, name: &str, call: Option<&PortableCall>, id: u32) {
+    match call {
+        Some(call) => {
+            is(rt, name, call.name, name);
+            is(rt, name, call.arg.id(), id);
+        }
+        None => holds(rt, name, false),
+    }
+}
+
+/// A call with an argument of this type.
+fn call<T: HasIdentity>(alloc: Global, name: &'static str) -> Result<Call, AllocError> {
+    let arg = meta_type::<T>(alloc)?;
+    Ok(Call { name, arg })
+}
+
+/// A call with a list of numbers and a call with a number, as they leave.
+fn portable_calls(alloc: Global, registry: &mut Registry) -> Result<Vec<PortableCall>, Fail> {
+    let known = catalogue(alloc)?;
+    let first = list_of(alloc, call::<Vec<u32>>(alloc, "a")?);
+    let calls = with(first, call::<u32>(alloc, "b"))?;
+    Ok(registry.map_into_portable(calls, &known)?)
+}
+
+/// Asserts that the calls `a` and `b` leave with the ids 0 and 1.
+fn are_calls(rt: &impl Abort, alloc: Global, registry: &mut Registry) -> Result<(), Fail> {
+    let portable = portable_calls(alloc, registry)?;
+    is(rt, "the calls", portable.len(), 2);
+    is_call(rt, "a", portable.first(), 0);
+    is_call(rt, "b", portable.get(1), 1);
+    Ok(())
+}
+
+#[test]
+fn calls_leave_with_their_types(rt: HostRuntime) -> Result<(), Fail> {
+    let alloc = rt.alloc();
+    let row = row_named(alloc, TABLES, "Vec<u32>")?;
+    let mut registry = Registry::new(alloc);
+    are_calls(&rt, alloc, &mut registry)?;
+    let bytes = encoding(alloc, &PortableRegistry::from_registry(alloc, &registry)?)?;
+    is(&rt, row.name, bytes.as_slice(), row.bytes.as_slice());
     Ok(())
 }

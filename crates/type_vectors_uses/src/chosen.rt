@@ -23,6 +23,8 @@ fn maps_so(rt: &impl Abort, name: &str, map: &BTreeMap<u32, u32>, pairs: &[u32])
 type Case = (&'static [u32], &'static [u32]);
 
 /// Asserts that what the chosen ids of the case reach is written as this table, with its new ids.
+/// The filter answers by how often it was asked, which chooses these ids only where it is asked
+/// once for each id from 0 up.
 fn is_written(
     rt: &impl Abort,
     alloc: Global,
@@ -34,7 +36,13 @@ fn is_written(
     let (chosen, pairs) = case;
     let wanted = row_bytes(alloc, table)?;
     let mut out = Vec::new(alloc);
-    let exported = export(known, types, |id| chosen.contains(&id), &mut out)?;
+    let mut asked = 0u32;
+    let by_asks = |_| {
+        let id = asked;
+        asked = asked.saturating_add(1);
+        chosen.contains(&id)
+    };
+    let exported = export(alloc, known, types, by_asks, &mut out)?;
     is(rt, table, out, wanted);
     maps_so(rt, table, &exported.map, pairs);
     Ok(())
@@ -43,10 +51,14 @@ fn is_written(
 /// The table of `Vec<u32>`.
 const VEC_U32: &str = "08 000000020400 040000050500";
 
-/// Adds `Vec<u32>` and `u32`.
+/// The table of `Vec<u32>` and `String`.
+const VEC_U32_STRING: &str = "0c 000000020400 040000050500 080000050200";
+
+/// Adds `Vec<u32>`, `u32` and `String`.
 fn add_vector(known: &mut Catalogue) -> Result<bool, CatalogueError> {
     known.add::<Vec<u32>>()?;
-    known.add::<u32>()
+    known.add::<u32>()?;
+    known.add::<String>()
 }
 
 /// `u32` is written with the vector, whether it is chosen or not.
@@ -67,9 +79,20 @@ fn a_reached_type_may_be_chosen_too(rt: HostRuntime) -> Result<(), Fail> {
     )
 }
 
+/// The first answer chooses the vector, and the third `String`, though `u32` is reached before.
+#[test]
+fn the_filter_is_asked_for_a_reached_type_too(rt: HostRuntime) -> Result<(), Fail> {
+    let alloc = rt.alloc();
+    let mut known = Catalogue::new(alloc);
+    add_vector(&mut known)?;
+    let types = tuple_meta_type!(alloc; Vec<u32>, String)?;
+    let case: Case = (&[0, 2], &[0, 0, 1, 1, 2, 2]);
+    is_written(&rt, alloc, &known, &types, VEC_U32_STRING, case)
+}
+
 /// The description of a sequence of this type.
 fn sequence_of<T: HasIdentity>(alloc: Global) -> Result<Type, AllocError> {
-    Ok(Type::from_def(alloc, TypeDefSequence::of::<T>(alloc)?))
+    Ok(Type::from_def(alloc, TypeDefSequence::of::<T>(alloc)?.into()))
 }
 
 /// Adds a type that is a sequence of another.

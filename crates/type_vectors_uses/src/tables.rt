@@ -59,6 +59,10 @@ const PRUNED: &str = "\
     > 0 1 1 0
 1: 0c 000000050000 04000008080000 080000050500 > 0c 00000008040800 040000050500 080000050000 \
     > 0 2 1 0 2 1
+2: 10 000000050500 040000050000 \
+    0804184f7074696f6e040454010c0108104e6f6e6500000010536f6d6504000c0000010000 0c00000408000400 \
+    > 10 0004184f7074696f6e04045401040108104e6f6e6500000010536f6d650400040000010000 \
+    04000004 08080c00 080000050500 0c0000050000 > 0 2 1 3 2 0 3 1
 ";
 
 /// A row, read.
@@ -92,13 +96,15 @@ fn maps_so(rt: &impl Abort, row: &str, new_ids: &BTreeMap<u32, u32>, pairs: &[u3
 }
 
 /// What `retain` leaves of a table, and the new ids.
-fn retained(
+fn retained<P: FnMut(u32) -> bool>(
     alloc: Global,
     input: &[u8],
-    chosen: &[u32],
-) -> Result<(Vec<u8>, BTreeMap<u32, u32>), Fail> {
+    filter: P,
+) -> Result<(Vec<u8>, BTreeMap<u32, u32>), Fail>
+    requires { P.IsAlwaysCallable filter }
+{
     let (mut table, _) = PortableRegistry::decode(alloc, input)?;
-    let new_ids = table.retain(alloc, |id| chosen.contains(&id))?;
+    let new_ids = table.retain(alloc, filter)?;
     Ok((into_encoding(alloc, table)?, new_ids))
 }
 
@@ -106,7 +112,27 @@ fn retained(
 fn retain_keeps_what_the_chosen_ids_reach(rt: HostRuntime) -> Result<(), Fail> {
     for line in PRUNED.lines() {
         let row = read_row(rt.alloc(), line)?;
-        let (output, new_ids) = retained(rt.alloc(), &row.input, &row.chosen)?;
+        let chosen = |id| row.chosen.contains(&id);
+        let (output, new_ids) = retained(rt.alloc(), &row.input, chosen)?;
+        is(&rt, line, output, row.output);
+        maps_so(&rt, line, &new_ids, &row.ids);
+    }
+    Ok(())
+}
+
+/// The filter looks at no id: it answers by how often it was asked, so that it chooses the ids of
+/// the row only where it is asked once for each id from 0 up.
+#[test]
+fn retain_asks_for_each_id_once(rt: HostRuntime) -> Result<(), Fail> {
+    for line in PRUNED.lines() {
+        let row = read_row(rt.alloc(), line)?;
+        let mut asked = 0u32;
+        let by_asks = |_| {
+            let id = asked;
+            asked = asked.saturating_add(1);
+            row.chosen.contains(&id)
+        };
+        let (output, new_ids) = retained(rt.alloc(), &row.input, by_asks)?;
         is(&rt, line, output, row.output);
         maps_so(&rt, line, &new_ids, &row.ids);
     }

@@ -4,7 +4,9 @@ use scale_info::walk::{Numbering, number, number_recursive};
 use scale_info::{PortableRegistry, RetainError};
 use std::alloc::Global;
 use std::test::Fail;
-use type_vectors_common::rows::{TABLES, numbers, parted, row_bytes, rows};
+use type_vectors_common::rows::{
+    AMONG, BUILT, COMPOSITES, TABLES, numbers, parted, row_bytes, rows,
+};
 
 /// A row is the roots, a colon, a table, an arrow, the order, another arrow and the steps.
 const NUMBERINGS: &str = "\
@@ -48,12 +50,14 @@ fn tables_are_numbered_so(rt: HostRuntime) -> Result<(), Fail> {
 #[test]
 fn both_walks_agree_from_each_root(rt: HostRuntime) -> Result<(), Fail> {
     let alloc = rt.alloc();
-    for row in rows(alloc, TABLES)? {
-        let (table, _) = PortableRegistry::decode(alloc, &row.bytes)?;
-        for root in 0..16 {
-            let found = number(alloc, table.types(), &[root]);
-            let again = number_recursive(alloc, table.types(), &[root]);
-            holds(&rt, row.name, found == again);
+    for text in [TABLES, AMONG, COMPOSITES, BUILT] {
+        for row in rows(alloc, text)? {
+            let (table, _) = PortableRegistry::decode(alloc, &row.bytes)?;
+            for root in 0..16 {
+                let found = number(alloc, table.types(), &[root]);
+                let again = number_recursive(alloc, table.types(), &[root]);
+                holds(&rt, row.name, found == again);
+            }
         }
     }
     Ok(())
