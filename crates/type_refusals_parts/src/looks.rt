@@ -57,20 +57,21 @@ impl Asked for PortableType {
 }
 
 impl Asked for TypeDef<PortableForm> {
-    type Parts = (u32, u32);
+    type Parts = (usize, usize);
 
-    fn parts(&self) -> (u32, u32) {
-        match self {
-            TypeDef::Composite(it) => (it.fields().len() as u32, 0),
-            TypeDef::Variant(it) => (it.variants().len() as u32, 0),
-            TypeDef::Sequence(it) => (it.type_param().id(), 0),
-            TypeDef::Array(it) => (it.len(), it.type_param().id()),
-            TypeDef::Tuple(it) => (it.fields().len() as u32, 0),
+    fn parts(&self) -> (usize, usize) {
+        let (first, second) = match self {
+            TypeDef::Composite(it) => return (it.fields().len(), 0),
+            TypeDef::Variant(it) => return (it.variants().len(), 0),
+            TypeDef::Tuple(it) => return (it.fields().len(), 0),
             TypeDef::Primitive(_) => (0, 0),
+            TypeDef::Sequence(it) => (it.type_param().id(), 0),
             TypeDef::Compact(it) => (it.type_param().id(), 0),
+            TypeDef::Array(it) => (it.len(), it.type_param().id()),
             TypeDef::BitSequence(it) => (it.bit_store_type().id(), it.bit_order_type().id()),
             TypeDef::Map(it) => (it.key().id(), it.value().id()),
-        }
+        };
+        (first as usize, second as usize)
     }
 }
 

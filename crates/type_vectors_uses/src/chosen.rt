@@ -37,7 +37,7 @@ fn is_written(
     let wanted = row_bytes(alloc, table)?;
     let mut out = Vec::new(alloc);
     let mut asked = 0u32;
-    let by_asks = |_| {
+    let by_asks = move |_| {
         let id = asked;
         asked = asked.saturating_add(1);
         chosen.contains(&id)
