@@ -1,0 +1,71 @@
+//! The workloads of `bench/workloads.txt`.
+//!
+//! `NAME SEED ROUNDS` runs one of them, or each in turn where the name is `all`, and prints a digest
+//! of all results. A seed gives the inputs, which the program makes itself; no call is made twice on
+//! one input.
+#![tactic(auto)]
+
+mod commands;
+mod digest;
+mod events;
+mod own;
+mod payloads;
+mod pool;
+mod random;
+mod records;
+mod registrations;
+mod runtime;
+mod scale;
+mod table_bytes;
+mod tables;
+mod texts;
+
+use crate::digest::Digest;
+use anyhow::{Result, bail};
+use std::alloc::Global;
+use std::env;
+
+/// The workloads.
+const NAMES: [&str; 6] = [
+    "records",
+    "payloads",
+    "tables",
+    "texts",
+    "registrations",
+    "commands",
+];
+
+/// Runs a workload.
+fn run(alloc: Global, name: &str, seed: u32, rounds: u32) -> Result<Digest> {
+    match name {
+        "records" => records::run(alloc, seed, rounds),
+        "payloads" => payloads::run(alloc, seed, rounds),
+        "tables" => tables::run(alloc, seed, rounds),
+        "texts" => texts::run(alloc, seed, rounds),
+        "registrations" => registrations::run(alloc, seed, rounds),
+        "commands" => commands::run(alloc, seed, rounds),
+        _ => bail!("no workload has this name"),
+    }
+}
+
+/// Runs a workload, and prints its digest.
+fn print_digest(rt: &HostRuntime, name: &str, seed: u32, rounds: u32) -> Result<()> {
+    let digest = run(rt.alloc(), name, seed, rounds)?.value();
+    println!(rt; "{name} {digest:016x}")?;
+    Ok(())
+}
+
+fn main(rt: HostRuntime) -> Result<()> {
+    let mut words = env::args(&rt)?.skip(1);
+    let (Some(name), Some(seed), Some(rounds)) = (words.next(), words.next(), words.next()) else {
+        bail!("the words are a workload's name, a seed and a number of rounds");
+    };
+    let (seed, rounds) = (seed.parse::<u32>()?, rounds.parse::<u32>()?);
+    if name.as_str() != "all" {
+        return print_digest(&rt, name.as_str(), seed, rounds);
+    }
+    for name in NAMES {
+        print_digest(&rt, name, seed, rounds)?;
+    }
+    Ok(())
+}
