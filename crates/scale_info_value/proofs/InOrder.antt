@@ -1,5 +1,5 @@
 -- Decoders one after another.
-use Rattle.std.proofs.Common.{◌≡◌, ℕ, suc, ◌+◌, ◌-◌, ◌<◌, List, [], ◌∷◌, ◌++◌, replicate, refl, ap}
+use Rattle.std.proofs.Common.{◌≡◌, ℕ, zero, suc, ◌+◌, ◌-◌, ◌<◌, ◌≤◌, List, [], ◌∷◌, ◌++◌, replicate, refl, ap}
 use Rattle.std.proofs.Common.{sym, ◌∙◌, append_assoc, arith}
 use Rattle.std.proofs.lemmas.List.{append-nil}
 use Rattle.scale_info_value.specs.declared.value.ValueError.{ValueError}
@@ -57,3 +57,46 @@ first_fails done first more input why e = ap (λ o. preceded done
 -- of n - k decoders of one kind the first, and the others
 pub take_next : {A : Type 0} (n k : ℕ) (x : A) → k < n → replicate (n - k) x ≡ x ∷ replicate (n - (k + 1)) x
 take_next n k x h = let e : n - k ≡ suc (n - (k + 1)) = omega arith in ap (λ m. replicate m x) e
+
+-- where one decoder fails, so do as many of it as one or more
+pub all_fail :
+    {A : Type 0} (n : ℕ) (read : Decoder A) (input : List ℕ) (why : Failure)
+    → 0 < n → read input ≡ failed why → in_turn (replicate n read) input ≡ failed why
+all_fail zero read input why h e = absurd (omega arith)
+all_fail (suc n) read input why h e =
+    nothing_before (in_turn (replicate (suc n) read) input) ∙ first_fails [] read (replicate n read) input why e
+
+-- of so many decoders of one kind, so many were done
+abbrev pub Done : {A : Type 0} → ℕ → Decoder A → List ℕ → ℕ → List A → List ℕ → Type 0
+Done count read input k done rest =
+    in_turn (replicate count read) input ≡ preceded done (in_turn (replicate (count - k) read) rest)
+
+-- one more is done
+pub done_more :
+    {A : Type 0} (count : ℕ) (read : Decoder A) (input : List ℕ) (k : ℕ) (done : List A) (rest : List ℕ) (value : A)
+    (after : List ℕ)
+    → k < count → Done count read input k done rest → read rest ≡ decoded value after
+    → Done count read input (k + 1) (done ++ value ∷ []) after
+done_more count read input k done rest value after h e f =
+    e
+    ∙ ap (λ rs. preceded done (in_turn rs rest)) (take_next count k read h)
+    ∙ reads_one done read (replicate (count - (k + 1)) read) rest value after f
+
+-- the next one fails, and so do all
+pub done_fails :
+    {A : Type 0} (count : ℕ) (read : Decoder A) (input : List ℕ) (k : ℕ) (done : List A) (rest : List ℕ)
+    (why : Failure)
+    → k < count → Done count read input k done rest → read rest ≡ failed why
+    → in_turn (replicate count read) input ≡ failed why
+done_fails count read input k done rest why h e f =
+    e
+    ∙ ap (λ rs. preceded done (in_turn rs rest)) (take_next count k read h)
+    ∙ first_fails done read (replicate (count - (k + 1)) read) rest why f
+
+-- all are done
+pub done_all :
+    {A : Type 0} (count : ℕ) (read : Decoder A) (input : List ℕ) (k : ℕ) (done : List A) (rest : List ℕ)
+    → count ≤ k → Done count read input k done rest → in_turn (replicate count read) input ≡ decoded done rest
+done_all count read input k done rest h e =
+    let none : count - k ≡ 0 = omega arith in
+    e ∙ ap (λ n. preceded done (in_turn (replicate n read) rest)) none ∙ reads_none done rest

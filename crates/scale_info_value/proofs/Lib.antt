@@ -3,6 +3,7 @@ mod Counts
 mod Decoded
 mod Errors
 mod InOrder
+mod Numbers
 mod Steps
 mod Texts
 mod Unfolded

@@ -1,17 +1,18 @@
 -- One level of a reading.
-use Rattle.std.proofs.Common.{◌≡◌, ℕ, zero, suc, ◌-◌, ◌≤◌, ◌==◌, List, [], ◌∷◌, Option, Some, None, map, find}
+use Rattle.std.proofs.Common.{◌≡◌, ℕ, zero, suc, ◌-◌, ◌≤◌, ◌==◌, List, [], ◌∷◌, Option, Some, None, map, find, replicate}
 use Rattle.std.proofs.Common.{cond, Bool, true, false, option_map, refl, ap, sym, ◌∙◌, arith}
 use Rattle.scale_info_types.specs.Portable.{Id, Field, Variant, TypeDef, TypeDefComposite, TypeDefVariant, Description}
 use Rattle.scale_info_types.specs.Shapes.{map_variant}
 use Rattle.scale_info_types.specs.declared.ty.TypeDef.TheVariants as def
 use Rattle.scale_info_tables.specs.declared.portable.PortableRegistry.{PortableRegistry}
 use Rattle.scale_info_value.specs.declared.value.Dyn.TheVariants as dyn
-use Rattle.scale_info_value.specs.Outcomes.{decoded, failed, too_deep, no_such_type, malformed, and_then, outcome_map}
+use Rattle.scale_info_value.specs.Outcomes.{decoded, failed, too_deep, no_such_type, malformed, and_then, outcome_map, in_turn}
 use Rattle.scale_info_value.specs.Numbers.{byte}
-use Rattle.scale_info_value.specs.Definitions.{Part, fields_of}
+use Rattle.scale_info_value.specs.Definitions.{Part, fields_of, primitive}
+use Rattle.scale_info_primitives.specs.declared.primitive.TypeDefPrimitive.{TypeDefPrimitive}
 use Rattle.scale_info_value.specs.Readings.{type_at, value_within, compact_within, definition_within, fields_within}
 use Rattle.scale_info_value.specs.Readings.{compact_definition_within, compact_by_type, value_by_type, part_within}
-use Rattle.scale_info_value.specs.Readings.{variant_within}
+use Rattle.scale_info_value.specs.Readings.{variant_within, items_within}
 
 -- where no level is left, a compact number is too deep
 pub compact_too_deep :
@@ -162,3 +163,22 @@ variant_found left table vs input rest index v fs f g h =
     variant_by left table vs input rest index f
     ∙ ap (λ o. fields_of index (option_map (map_variant {G = Unit {0}} (part_within left table) (λ t. t)) o) rest) g
     ∙ ap (λ l. outcome_map (λ values. dyn.Variant v.name index values) (fields_within left table l rest)) (sym h)
+
+-- so many values of a type go by the type's definition, one level deeper
+pub items_of_type :
+    (left : ℕ) (table : PortableRegistry) (ty : Id) (count : ℕ) (input : List ℕ) (d : Description)
+    → 2 ≤ left → type_at table ty.id ≡ Some d
+    → items_within left table ty count input
+    ≡ in_turn (replicate count (definition_within (left - 1) table d.type_def)) input
+items_of_type left table ty count input d h e =
+    ap (λ read. in_turn (replicate count read) input)
+    (λ i bytes. value_of_type (left - 1) table ty.id bytes d (omega arith) e i)
+
+-- so many values of a primitive
+pub primitives_are :
+    (left : ℕ) (table : PortableRegistry) (d : TypeDef) (kind : TypeDefPrimitive) (count : ℕ) (input : List ℕ)
+    → d ≡ def.Primitive kind
+    → in_turn (replicate count (definition_within left table d)) input
+    ≡ in_turn (replicate count (primitive kind)) input
+primitives_are left table d kind count input e =
+    ap (λ t. in_turn (replicate count (definition_within left table t)) input) e

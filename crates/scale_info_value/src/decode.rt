@@ -1,14 +1,15 @@
 //! Values decoded by the definitions of their types.
-ghost use Rattle.std.specs.Prelude.{◌≡◌, ◌≤◌, ◌==◌, ◌∷◌, [], IfOk, IfErr, find};
+ghost use Rattle.std.specs.Prelude.{◌≡◌, ◌≤◌, ◌==◌, ◌∷◌, [], IfOk, IfErr, find, replicate};
 ghost use Rattle.std.specs.Option.{option_copied};
 ghost use Rattle.scale_info_value.specs.declared.value.Dyn.TheVariants as dyn;
 ghost use Rattle.scale_info_value.specs.declared.value.ValueError.TheVariants as error;
-ghost use Rattle.scale_info_value.specs.Outcomes.{decoded, IsErrorOf};
+ghost use Rattle.scale_info_value.specs.Outcomes.{decoded, in_turn, IsErrorOf};
 ghost use Rattle.scale_info_value.specs.Readings.{compact_within, compact_definition_within};
 ghost use Rattle.scale_info_value.specs.Readings.{value_within, definition_within, fields_within};
 ghost use Rattle.scale_info_value.specs.Readings.{variant_within, items_within, members_within};
 ghost use Rattle.scale_info_value.specs.Readings.{pair_within, pairs_within, reading};
 
+use crate::list::primitives;
 use crate::number::{byte, count};
 use crate::primitive::{compact_primitive, primitive};
 use crate::value::{Dyn, ValueError};
@@ -218,7 +219,7 @@ fn variant<'a>(
     }
 }
 
-/// So many values of one type, and the rest.
+/// So many values of one type, and the rest. The type is looked up once for all of them.
 #[cycle(value)]
 fn items<'a>(
     alloc: Global,
@@ -234,10 +235,42 @@ fn items<'a>(
         ≡ decoded found.0 found.1.now) }
     ensures err { IfErr result (IsErrorOf (items_within left table.now ty.now count input.now)) }
 {
+    if count == 0 {
+        return Ok((Items::new(alloc), input));
+    }
+    if left == 1 {
+        return Err(ValueError::TooDeep);
+    }
+    match table.resolve(ty.id) {
+        None => Err(ValueError::NoSuchType),
+        Some(item) => items_by(alloc, table, &item.type_def, count, left - 1, input),
+    }
+}
+
+/// So many values by the definition of their type, and the rest.
+#[cycle(value)]
+fn items_by<'a>(
+    alloc: Global,
+    table: &PortableRegistry,
+    definition: &TypeDef<PortableForm>,
+    count: u32,
+    left: u8,
+    input: &'a [u8],
+) -> Result<(Items<Dyn>, &'a [u8]), ValueError>
+    requires { 1 ≤ left }
+    ensures ok { IfOk result
+        (λ found. in_turn (replicate count (definition_within left table.now definition.now))
+        input.now ≡ decoded found.0 found.1.now) }
+    ensures err { IfErr result (IsErrorOf
+        (in_turn (replicate count (definition_within left table.now definition.now)) input.now)) }
+{
+    if let TypeDef::Primitive(kind) = definition {
+        return primitives(alloc, kind, count, input);
+    }
     let mut values = Items::new(alloc);
     let mut rest = input;
     for _ in 0..count {
-        let (value, after) = value_within(alloc, table, ty.id, left - 1, rest)?;
+        let (value, after) = value_by(alloc, table, definition, left, rest)?;
         values.push_towards(count as usize, value)?;
         rest = after;
     }

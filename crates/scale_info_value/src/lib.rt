@@ -6,6 +6,7 @@
 
 mod decode;
 pub mod laws;
+mod list;
 mod number;
 mod primitive;
 pub mod value;

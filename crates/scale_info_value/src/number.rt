@@ -29,14 +29,23 @@ pub(crate) fn bytes(count: usize, input: &[u8]) -> Result<(&[u8], &[u8]), ValueE
     Ok(input.split_at(count))
 }
 
-/// A number by its bytes, the lowest first.
-fn little_endian(bytes: &[u8]) -> u128
+/// A number by its bytes, the lowest first. Where they are as many as those of a built-in type, they
+/// are taken at once.
+pub(crate) fn little_endian(bytes: &[u8]) -> u128
     requires { length bytes.now ≤ 16 }
     ensures number { result ≡ little_endian bytes.now }
     ensures bound { result < 256 ^ length bytes.now }
 {
     match bytes {
         [] => 0,
+        [only] => *only as u128,
+        [a, b] => u16::from_le_bytes([*a, *b]) as u128,
+        [a, b, c, d] => u32::from_le_bytes([*a, *b, *c, *d]) as u128,
+        [a, b, c, d, e, f, g, h] => { u64::from_le_bytes([*a, *b, *c, *d, *e, *f, *g, *h]) as u128 }
+        halves if halves.len() == 16 => {
+            let (low, high) = halves.split_at(8);
+            little_endian(low) + 18446744073709551616 * little_endian(high)
+        }
         [low, high @ ..] => *low as u128 + 256 * little_endian(high),
     }
 }

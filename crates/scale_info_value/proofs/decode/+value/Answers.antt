@@ -1,12 +1,12 @@
-use Rattle.std.proofs.Common.{◌≡◌, ◌-◌, ◌+◌, Some, None, replicate, find, ◌==◌, arith, ap, sym, ◌∙◌}
+use Rattle.std.proofs.Common.{◌≡◌, ◌-◌, Some, None, find, ◌==◌, arith, ap, sym, ◌∙◌}
 use Rattle.std.proofs.lemmas.Grind.{common_steps}
 use Rattle.scale_info_value.specs.declared.value.Dyn.TheVariants as dyn
-use Rattle.scale_info_value.specs.Outcomes.{decoded, outcome_map, in_turn}
-use Rattle.scale_info_value.specs.Readings.{type_at, value_within, pair_within, fields_within}
+use Rattle.scale_info_value.specs.Outcomes.{decoded, outcome_map}
+use Rattle.scale_info_value.specs.Readings.{type_at, value_within, definition_within, pair_within, fields_within}
 use Rattle.scale_info_value.proofs.Errors.{passed}
-use Rattle.scale_info_value.proofs.InOrder.{preceded, take_next, reads_one, first_fails}
+use Rattle.scale_info_value.proofs.InOrder.{done_more, done_fails, all_fail}
 use Rattle.scale_info_value.proofs.Steps.{value_too_deep, value_no_type, value_of_type, composite_is, variant_is}
-use Rattle.scale_info_value.proofs.Steps.{variant_missing, variant_found}
+use Rattle.scale_info_value.proofs.Steps.{variant_missing, variant_found, items_of_type, primitives_are}
 use Rattle.scale_info_value.proofs.decode.+value.Goals as goal
 
 pub value_within-returns-then-left-eq0-clause-err : goal.value_within-returns-then-left-eq0-clause-err
@@ -30,49 +30,70 @@ value_within-returns-in-Some-clause-err t c =
     rw (value_of_type c.args.left c.args.table.now c.args.id c.args.input.now c.in-Some.ty.now (omega arith) some)
     c.value_by.ensures.err
 
-pub items-returns-in_err-value-clause-err : goal.items-returns-in_err-value-clause-err
-items-returns-in_err-value-clause-err t c =
+pub items-returns-then-left-eq1-clause-err : goal.items-returns-then-left-eq1-clause-err
+items-returns-then-left-eq1-clause-err t c =
     let read = value_within (c.args.left - 1) c.args.table.now c.args.ty.now.id in
+    all_fail c.args.count read c.args.input.now _ (omega arith)
+    (value_too_deep (c.args.left - 1) c.args.table.now c.args.ty.now.id c.args.input.now (omega arith))
+
+pub items-returns-in-None-clause-err : goal.items-returns-in-None-clause-err
+items-returns-in-None-clause-err t c =
+    let read = value_within (c.args.left - 1) c.args.table.now c.args.ty.now.id in
+    let none : type_at c.args.table.now c.args.ty.now.id ≡ None = grind (arith, common_steps) in
+    all_fail c.args.count read c.args.input.now _ (omega arith)
+    (value_no_type (c.args.left - 1) c.args.table.now c.args.ty.now.id c.args.input.now (omega arith) none)
+
+pub items-returns-in-Some-clause-ok : goal.items-returns-in-Some-clause-ok
+items-returns-in-Some-clause-ok t c =
+    let some : type_at c.args.table.now c.args.ty.now.id ≡ Some c.in-Some.item.now = grind (arith, common_steps) in
+    rw (items_of_type c.args.left c.args.table.now c.args.ty.now c.args.count c.args.input.now c.in-Some.item.now
+    (omega arith) some)
+    c.items_by.ensures.ok
+
+pub items-returns-in-Some-clause-err : goal.items-returns-in-Some-clause-err
+items-returns-in-Some-clause-err t c =
+    let some : type_at c.args.table.now c.args.ty.now.id ≡ Some c.in-Some.item.now = grind (arith, common_steps) in
+    rw (items_of_type c.args.left c.args.table.now c.args.ty.now c.args.count c.args.input.now c.in-Some.item.now
+    (omega arith) some)
+    c.items_by.ensures.err
+
+pub items_by-returns-in_err-value-clause-err : goal.items_by-returns-in_err-value-clause-err
+items_by-returns-in_err-value-clause-err t c =
+    let read = definition_within c.args.left c.args.table.now c.args.definition.now in
     passed c.from_residual.result c.in_err-value.field-0.0 c.from_residual.ensures.1 (read c.loop.rest.now) _
     (λ why e.
-    c.loop.invariant
-    ∙ ap (λ rs. preceded c.loop.values (in_turn rs c.loop.rest.now))
-    (take_next c.args.count c.loop.counter read (omega arith))
-    ∙ first_fails c.loop.values read (replicate (c.args.count - (c.loop.counter + 1)) read) c.loop.rest.now why e)
+    done_fails c.args.count read c.args.input.now c.loop.counter c.loop.values c.loop.rest.now why (omega arith)
+    c.loop.invariant e)
     c.in_err-value.ensures.err
 
-pub items-loop-preserved : goal.items-loop-preserved
-items-loop-preserved t c =
-    let read = value_within (c.args.left - 1) c.args.table.now c.args.ty.now.id in
-    let more = replicate (c.args.count - (c.loop.counter + 1)) read in
-    c.loop.invariant
-    ∙ ap (λ rs. preceded c.loop.values (in_turn rs c.loop.rest.now))
-    (take_next c.args.count c.loop.counter read (omega arith))
-    ∙ reads_one c.loop.values read more c.loop.rest.now c.in_ok-value.value c.in_ok-value.after.now
-    c.in_ok-value.ensures.ok
-    ∙ ap (λ vs. preceded vs (in_turn more c.in_ok-value.after.now)) (sym c.in_ok-push_towards.ensures.list)
+pub items_by-returns-in-Primitive-clause-err : goal.items_by-returns-in-Primitive-clause-err
+items_by-returns-in-Primitive-clause-err t c =
+    rw (primitives_are c.args.left c.args.table.now c.args.definition.now c.in-Primitive.kind c.args.count
+    c.args.input.now c.in-Primitive.is)
+    c.primitives.ensures.err
+
+pub items_by-loop-preserved : goal.items_by-loop-preserved
+items_by-loop-preserved t c =
+    let read = definition_within c.args.left c.args.table.now c.args.definition.now in
+    rw c.in_ok-push_towards.ensures.list
+    (done_more c.args.count read c.args.input.now c.loop.counter c.loop.values c.loop.rest.now c.in_ok-value.value
+    c.in_ok-value.after.now (omega arith) c.loop.invariant c.in_ok-value.ensures.ok)
 
 pub pairs-returns-in_err-pair-clause-err : goal.pairs-returns-in_err-pair-clause-err
 pairs-returns-in_err-pair-clause-err t c =
     let read = pair_within c.args.left c.args.table.now c.args.key.now c.args.value.now in
     passed c.from_residual.result c.in_err-pair.field-0.0 c.from_residual.ensures.1 (read c.loop.rest.now) _
     (λ why e.
-    c.loop.invariant
-    ∙ ap (λ rs. preceded c.loop.values (in_turn rs c.loop.rest.now))
-    (take_next c.args.count c.loop.counter read (omega arith))
-    ∙ first_fails c.loop.values read (replicate (c.args.count - (c.loop.counter + 1)) read) c.loop.rest.now why e)
+    done_fails c.args.count read c.args.input.now c.loop.counter c.loop.values c.loop.rest.now why (omega arith)
+    c.loop.invariant e)
     c.in_err-pair.ensures.err
 
 pub pairs-loop-preserved : goal.pairs-loop-preserved
 pairs-loop-preserved t c =
     let read = pair_within c.args.left c.args.table.now c.args.key.now c.args.value.now in
-    let more = replicate (c.args.count - (c.loop.counter + 1)) read in
-    c.loop.invariant
-    ∙ ap (λ rs. preceded c.loop.values (in_turn rs c.loop.rest.now))
-    (take_next c.args.count c.loop.counter read (omega arith))
-    ∙ reads_one c.loop.values read more c.loop.rest.now c.in_ok-pair.pair c.in_ok-pair.after.now
-    c.in_ok-pair.ensures.ok
-    ∙ ap (λ vs. preceded vs (in_turn more c.in_ok-pair.after.now)) (sym c.in_ok-push_towards.ensures.list)
+    rw c.in_ok-push_towards.ensures.list
+    (done_more c.args.count read c.args.input.now c.loop.counter c.loop.values c.loop.rest.now c.in_ok-pair.pair
+    c.in_ok-pair.after.now (omega arith) c.loop.invariant c.in_ok-pair.ensures.ok)
 
 pub value_by-returns-in_err-values-in-Composite-clause-err : goal.value_by-returns-in_err-values-in-Composite-clause-err
 value_by-returns-in_err-values-in-Composite-clause-err t c =

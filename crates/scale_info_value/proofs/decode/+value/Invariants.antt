@@ -1,6 +1,6 @@
 use Rattle.std.proofs.Common.{◌≡◌, ◌-◌, ◌*◌, drop}
-use Rattle.scale_info_value.specs.Readings.{items_within, members_within, fields_within, pairs_within}
-use Rattle.scale_info_value.proofs.InOrder.{preceded}
+use Rattle.scale_info_value.specs.Readings.{definition_within, members_within, fields_within, pair_within}
+use Rattle.scale_info_value.proofs.InOrder.{preceded, Done}
 use Rattle.scale_info_value.proofs.decode.+value.Given as goal
 
 abbrev pub decreases-value_within : goal.decreases-value_within
@@ -15,6 +15,9 @@ decreases-variant l = 4 * l.left - 2
 abbrev pub decreases-items : goal.decreases-items
 decreases-items l = 4 * l.left - 2
 
+abbrev pub decreases-items_by : goal.decreases-items_by
+decreases-items_by l = 4 * l.left
+
 abbrev pub decreases-members : goal.decreases-members
 decreases-members l = 4 * l.left - 2
 
@@ -27,10 +30,9 @@ decreases-pairs l = 4 * l.left - 2
 abbrev pub decreases-pair : goal.decreases-pair
 decreases-pair l = 4 * l.left - 3
 
-abbrev pub invariant-items-loop : goal.invariant-items-loop
-invariant-items-loop l =
-    items_within l.left l.table l.ty l.count l.input
-    ≡ preceded l.values (items_within l.left l.table l.ty (l.count - l.counter) l.rest)
+abbrev pub invariant-items_by-loop : goal.invariant-items_by-loop
+invariant-items_by-loop l =
+    Done l.count (definition_within l.left l.table l.definition) l.input l.counter l.values l.rest
 
 abbrev pub invariant-members-loop-ty : goal.invariant-members-loop-ty
 invariant-members-loop-ty l =
@@ -44,5 +46,4 @@ invariant-fields-loop-field l =
 
 abbrev pub invariant-pairs-loop : goal.invariant-pairs-loop
 invariant-pairs-loop l =
-    pairs_within l.left l.table l.key l.value l.count l.input
-    ≡ preceded l.values (pairs_within l.left l.table l.key l.value (l.count - l.counter) l.rest)
+    Done l.count (pair_within l.left l.table l.key l.value) l.input l.counter l.values l.rest

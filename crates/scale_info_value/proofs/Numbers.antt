@@ -1,0 +1,140 @@
+-- Lists of numbers of one width.
+use Rattle.std.proofs.Common.{◌≡◌, ℕ, zero, suc, ◌+◌, ◌-◌, ◌*◌, ◌<◌, ◌≤◌, ◌^◌, ◌⊎◌, inl, inr, List, [], ◌∷◌, length}
+use Rattle.std.proofs.Common.{take, drop, get_or, replicate, refl, ap, sym, ◌∙◌, arith, cond, subst, length-drop}
+use Rattle.std.proofs.lemmas.Bool.{cases_lt, le-leb}
+use Rattle.std.proofs.lemmas.Bool.Decides.{leb_tells}
+use Rattle.std.proofs.lemmas.Grind.{common_steps}
+use Rattle.std.proofs.Math.Nat.{mul-le-mul_left, suc-mul}
+use Rattle.std.specs.Int.{w16, w32, w64, from_le_bytes}
+use Rattle.scale_info_value.specs.declared.value.Dyn.{Dyn}
+use Rattle.scale_info_value.specs.declared.value.Dyn.TheVariants as dyn
+use Rattle.scale_info_value.specs.Outcomes.{Decoder, decoded, failed, malformed, outcome_map, in_turn}
+use Rattle.scale_info_value.specs.Numbers.{number, little_endian}
+use Rattle.scale_info_value.specs.Definitions.{primitive}
+use Rattle.scale_info_primitives.specs.declared.primitive.TypeDefPrimitive.{TypeDefPrimitive}
+use Rattle.scale_info_value.proofs.InOrder.{nothing_before, reads_one, first_fails, preceded}
+
+-- a number in so many bytes, as a value
+abbrev pub read_number : ℕ → Decoder Dyn
+read_number width bytes = outcome_map dyn.Unsigned (number width bytes)
+
+-- where the bytes are there, they are the number
+pub number_there :
+    (width : ℕ) (input : List ℕ) → width ≤ length input
+    → read_number width input ≡ decoded (dyn.Unsigned (little_endian (take width input))) (drop width input)
+number_there width input h =
+    let e = le-leb width (length input) h in
+    ap (λ b. outcome_map dyn.Unsigned (outcome_map little_endian
+    (cond b (decoded (take width input) (drop width input)) (failed malformed)))) e
+
+-- where they are not, there is none
+pub number_missing :
+    (width : ℕ) (input : List ℕ) → length input < width → read_number width input ≡ failed malformed
+number_missing width input h = grind (arith, common_steps, leb_tells width (length input))
+
+-- where the bytes of all are not there, there are not so many
+pub numbers_missing :
+    (n width : ℕ) (input : List ℕ) → length input < n * width
+    → in_turn (replicate n (read_number width)) input ≡ failed malformed
+numbers_missing zero width input h = absurd (omega arith)
+numbers_missing (suc n) width input h =
+    elim (cases_lt (length input) width) [
+      | inl short ↦
+          nothing_before (in_turn (replicate (suc n) (read_number width)) input)
+          ∙ first_fails [] (read_number width) (replicate n (read_number width)) input malformed
+          (number_missing width input short)
+      | inr long ↦
+          let split = suc-mul n width in
+          let left : length (drop width input) < n * width = omega (arith, length-drop width input) in
+          nothing_before (in_turn (replicate (suc n) (read_number width)) input)
+          ∙ reads_one [] (read_number width) (replicate n (read_number width)) input
+          (dyn.Unsigned (little_endian (take width input))) (drop width input) (number_there width input long)
+          ∙ ap (λ o. preceded (dyn.Unsigned (little_endian (take width input)) ∷ []) o)
+          (numbers_missing n width (drop width input) left)
+    ]
+
+-- one of so many takes no more than all
+pub one_of_many : (n width : ℕ) → 0 < n → width ≤ n * width
+one_of_many zero width h = absurd (omega arith)
+one_of_many (suc n) width h = omega (arith, suc-mul n width)
+
+-- as many numbers as a `u32` counts take no more bytes than a `usize` counts
+pub bytes_fit : (n width : ℕ) → n < 2 ^ 32 → width ≤ 16 → n * width < 2 ^ 64
+bytes_fit n width h k = omega (arith, mul-le-mul_left n k)
+
+-- after one more, the bytes of those that are left are there
+pub still_there :
+    (n k width rest after : ℕ) → k < n → (n - k) * width ≤ rest → after + width ≡ rest
+    → (n - (k + 1)) * width ≤ after
+still_there n k width rest after h e f =
+    let split : n - k ≡ suc (n - (k + 1)) = omega arith in
+    let more : (n - k) * width ≡ (n - (k + 1)) * width + width = ap (λ m. m * width) split ∙ suc-mul (n - (k + 1)) width in
+    omega arith
+
+-- as many numbers as there are bytes for
+pub no_more_than_bytes : (n width bytes : ℕ) → 1 ≤ width → n * width ≤ bytes → n ≤ bytes
+no_more_than_bytes n width bytes h e = omega (arith, mul-le-mul_left n h)
+
+-- bytes that are as many as those of a built-in type, taken at once
+pub two_at_once :
+    (bytes : List ℕ) → length bytes ≡ 2
+    → little_endian bytes ≡ from_le_bytes w16 (get_or bytes 0 0 ∷ get_or bytes 1 0 ∷ [])
+two_at_once [] h = absurd (omega arith)
+two_at_once (a ∷ []) h = absurd (omega arith)
+two_at_once (a ∷ b ∷ []) h = omega arith
+two_at_once (a ∷ b ∷ c ∷ more) h = absurd (omega arith)
+
+pub four_at_once :
+    (bytes : List ℕ) → length bytes ≡ 4
+    → little_endian bytes
+    ≡ from_le_bytes w32 (get_or bytes 0 0 ∷ get_or bytes 1 0 ∷ get_or bytes 2 0 ∷ get_or bytes 3 0 ∷ [])
+four_at_once [] h = absurd (omega arith)
+four_at_once (a ∷ []) h = absurd (omega arith)
+four_at_once (a ∷ b ∷ []) h = absurd (omega arith)
+four_at_once (a ∷ b ∷ c ∷ []) h = absurd (omega arith)
+four_at_once (a ∷ b ∷ c ∷ d ∷ []) h = omega arith
+four_at_once (a ∷ b ∷ c ∷ d ∷ e ∷ more) h = absurd (omega arith)
+
+-- the lowest bytes, and the others
+pub eight_first :
+    (bytes : List ℕ) → 8 ≤ length bytes
+    → little_endian bytes ≡ little_endian (take 8 bytes) + 18446744073709551616 * little_endian (drop 8 bytes)
+eight_first [] h = absurd (omega arith)
+eight_first (a ∷ []) h = absurd (omega arith)
+eight_first (a ∷ b ∷ []) h = absurd (omega arith)
+eight_first (a ∷ b ∷ c ∷ []) h = absurd (omega arith)
+eight_first (a ∷ b ∷ c ∷ d ∷ []) h = absurd (omega arith)
+eight_first (a ∷ b ∷ c ∷ d ∷ e ∷ []) h = absurd (omega arith)
+eight_first (a ∷ b ∷ c ∷ d ∷ e ∷ f ∷ []) h = absurd (omega arith)
+eight_first (a ∷ b ∷ c ∷ d ∷ e ∷ f ∷ g ∷ []) h = absurd (omega arith)
+eight_first (a ∷ b ∷ c ∷ d ∷ e ∷ f ∷ g ∷ i ∷ more) h = omega arith
+
+pub eight_at_once :
+    (bytes : List ℕ) → length bytes ≡ 8
+    → little_endian bytes
+    ≡ from_le_bytes w64
+    (get_or bytes 0 0 ∷ get_or bytes 1 0 ∷ get_or bytes 2 0 ∷ get_or bytes 3 0 ∷ get_or bytes 4 0 ∷ get_or bytes 5 0
+    ∷ get_or bytes 6 0 ∷ get_or bytes 7 0 ∷ [])
+eight_at_once [] h = absurd (omega arith)
+eight_at_once (a ∷ []) h = absurd (omega arith)
+eight_at_once (a ∷ b ∷ []) h = absurd (omega arith)
+eight_at_once (a ∷ b ∷ c ∷ []) h = absurd (omega arith)
+eight_at_once (a ∷ b ∷ c ∷ d ∷ []) h = absurd (omega arith)
+eight_at_once (a ∷ b ∷ c ∷ d ∷ e ∷ []) h = absurd (omega arith)
+eight_at_once (a ∷ b ∷ c ∷ d ∷ e ∷ f ∷ []) h = absurd (omega arith)
+eight_at_once (a ∷ b ∷ c ∷ d ∷ e ∷ f ∷ g ∷ []) h = absurd (omega arith)
+eight_at_once (a ∷ b ∷ c ∷ d ∷ e ∷ f ∷ g ∷ i ∷ []) h = omega arith
+eight_at_once (a ∷ b ∷ c ∷ d ∷ e ∷ f ∷ g ∷ i ∷ j ∷ more) h = absurd (omega arith)
+
+-- a number in half of 16 bytes
+pub half_fits : (n k : ℕ) → n < 256 ^ k → k ≡ 8 → n < 18446744073709551616
+half_fits n k h e = subst (λ m. n < 256 ^ m) e h
+
+-- as many primitives of a kind that is a number of some width
+pub numbers_are :
+    (kind number : TypeDefPrimitive) (width n : ℕ) (input : List ℕ) → kind ≡ number
+    → ((bytes : List ℕ) → primitive number bytes ≡ read_number width bytes)
+    → in_turn (replicate n (primitive kind)) input ≡ in_turn (replicate n (read_number width)) input
+numbers_are kind number width n input e f =
+    ap (λ k. in_turn (replicate n (primitive k)) input) e
+    ∙ ap (λ read. in_turn (replicate n read) input) (λ i bytes. f bytes i)

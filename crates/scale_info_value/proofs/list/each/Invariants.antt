@@ -1,0 +1,6 @@
+use Rattle.scale_info_value.specs.Definitions.{primitive}
+use Rattle.scale_info_value.proofs.InOrder.{Done}
+use Rattle.scale_info_value.proofs.list.each.Given as goal
+
+abbrev pub invariant-loop : goal.invariant-loop
+invariant-loop l = Done l.count (primitive l.kind) l.input l.counter l.values l.rest
