@@ -1,3 +1,4 @@
+pub mod Ascii
 pub mod CompactAt
 pub mod Errors
 pub mod Index

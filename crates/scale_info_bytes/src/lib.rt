@@ -7,3 +7,4 @@
 pub mod error;
 pub mod number;
 pub mod text;
+pub mod utf8;

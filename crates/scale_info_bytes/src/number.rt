@@ -70,6 +70,7 @@ fn compact_of_five(first: u8, rest: &[u8]) -> Option<(u32, &[u8])>
 
 /// The compact number at the start of the input, and the rest; None, if no prefix of the input
 /// encodes a number.
+#[inline]
 pub fn decode_compact(input: &[u8]) -> Option<(u32, &[u8])>
     ensures some { IfSome result
         (λ found. HasPrefix (EncodesCompact found.0) input.now found.1.now) }

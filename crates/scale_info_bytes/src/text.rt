@@ -7,6 +7,7 @@ ghost use Rattle.scale_info_bytes.specs.Strings.{EncodesText};
 
 use crate::error::{DecodeError, EncodeError, truncate_on_err};
 use crate::number::{decode_compact, encode_compact};
+use crate::utf8::from_utf8;
 use scale_info_collections::text::Text;
 use std::alloc::Global;
 
@@ -54,7 +55,7 @@ pub fn decode_text(alloc: Global, input: &[u8]) -> Result<(Text, &[u8]), DecodeE
                 return Err(DecodeError::Malformed);
             }
             let (bytes, rest) = rest.split_at(count);
-            match str::from_utf8(bytes) {
+            match from_utf8(bytes) {
                 Ok(text) => Ok((Text::from(String::from_str(alloc, text)?), rest)),
                 Err(_) => Err(DecodeError::Malformed),
             }

@@ -6,6 +6,7 @@ ghost use Rattle.scale_info_passes.specs.Pieces.{HasSomePrefix};
 
 use crate::pass::{Pass, Visitor, visit_verbatim};
 use scale_info_bytes::number::decode_compact;
+use scale_info_bytes::utf8::from_utf8;
 use scale_info_collections::text::Text;
 
 /// The rest of the input after the string at its start.
@@ -21,7 +22,7 @@ fn skip_text(input: &[u8]) -> Option<&[u8]>
                 return None;
             }
             let (bytes, rest) = rest.split_at(count);
-            match str::from_utf8(bytes) {
+            match from_utf8(bytes) {
                 Ok(_) => Some(rest),
                 Err(_) => None,
             }

@@ -9,6 +9,7 @@ ghost use Rattle.scale_info_value.specs.Definitions.{compact_primitive};
 
 use crate::number::{byte, bytes, compact_up_to, count, number};
 use crate::value::{Dyn, ValueError};
+use scale_info_bytes::utf8::from_utf8;
 use scale_info_collections::text::Text;
 use scale_info_types::ty::TypeDefPrimitive;
 use std::alloc::Global;
@@ -20,7 +21,7 @@ fn text(alloc: Global, input: &[u8]) -> Result<(Dyn, &[u8]), ValueError>
 {
     let (count, rest) = count(input)?;
     let (all, after) = bytes(count as usize, rest)?;
-    match str::from_utf8(all) {
+    match from_utf8(all) {
         Ok(text) => Ok((Dyn::Text(Text::from(String::from_str(alloc, text)?)), after)),
         Err(_) => Err(ValueError::Malformed),
     }
