@@ -1,10 +1,13 @@
-//! Bytes that are tested for UTF-8. Most strings of a table are short and ASCII, so ASCII is tested
-//! first, eight bytes at a time.
+//! Bytes that are tested for UTF-8. Most strings of a table are short and ASCII, and for these a test
+//! for ASCII is shorter than the whole test.
 ghost use Rattle.std.specs.Prelude.{◌≡◌, ◌↔◌, ◌<◌, EachIndex, IsTrue, IsUtf8, MatchResult};
 ghost use Rattle.std.specs.Prelude.{slice_index};
 ghost use Rattle.std.specs.Str.{IsAscii, IsValidUpTo, valid_up_to};
 
 use std::str::Utf8Error;
+
+/// From so many bytes on, the standard library's test is as fast, which goes by words too.
+const LONG: usize = 16;
 
 /// Whether each byte is ASCII, byte by byte.
 fn is_ascii_by_bytes(bytes: &[u8]) -> bool
@@ -36,7 +39,7 @@ pub fn from_utf8(bytes: &[u8]) -> Result<&str, Utf8Error>
     ensures cases { MatchResult result (λ text. (text.now ≡ bytes.now) × IsUtf8 bytes.now)
         (λ e. ¬ (IsUtf8 bytes.now) × IsValidUpTo bytes.now (valid_up_to e)) }
 {
-    if is_ascii(bytes) {
+    if bytes.len() < LONG && is_ascii(bytes) {
         return Ok(unsafe { str::from_utf8_unchecked(bytes) });
     }
     str::from_utf8(bytes)

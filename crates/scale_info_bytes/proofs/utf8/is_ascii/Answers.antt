@@ -1,4 +1,3 @@
-use Rattle.std.proofs.Common.{arith}
 use Rattle.scale_info_bytes.proofs.Ascii.{eight_more, within}
 use Rattle.scale_info_bytes.proofs.utf8.is_ascii.Goals as goal
 

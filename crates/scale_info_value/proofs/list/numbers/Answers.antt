@@ -1,9 +1,9 @@
-use Rattle.std.proofs.Common.{◌≡◌, ◌∙◌, ap, length, arith, sym, take, drop}
+use Rattle.std.proofs.Common.{◌≡◌, ◌∙◌, ap, length, arith, sym, drop}
 use Rattle.scale_info_value.specs.declared.value.Dyn.TheVariants as dyn
 use Rattle.scale_info_value.specs.Outcomes.{decoded}
 use Rattle.scale_info_value.specs.Numbers.{little_endian}
 use Rattle.scale_info_value.proofs.InOrder.{done_more, done_all}
-use Rattle.scale_info_value.proofs.Numbers.{read_number, number_there, numbers_missing, one_of_many, still_there}
+use Rattle.scale_info_value.proofs.Numbers.{read_number, number_there, numbers_missing, still_there}
 use Rattle.scale_info_value.proofs.list.numbers.Goals as goal
 
 pub returns-then-input-count-clause-err : goal.returns-then-input-count-clause-err
