@@ -75,7 +75,7 @@ still_there n k width rest after h e f =
 pub no_more_than_bytes : (n width bytes : ℕ) → 1 ≤ width → n * width ≤ bytes → n ≤ bytes
 no_more_than_bytes n width bytes h e = omega (arith, mul-le-mul_left n h)
 
--- bytes that are as many as those of a built-in type, taken at once
+-- two bytes by the recursion are the number that a built-in type reads from them
 pub two_at_once :
     (bytes : List ℕ) → length bytes ≡ 2
     → little_endian bytes ≡ from_le_bytes w16 (get_or bytes 0 0 ∷ get_or bytes 1 0 ∷ [])
@@ -84,6 +84,7 @@ two_at_once (a ∷ []) h = absurd (omega arith)
 two_at_once (a ∷ b ∷ []) h = omega arith
 two_at_once (a ∷ b ∷ c ∷ more) h = absurd (omega arith)
 
+-- the same of four bytes
 pub four_at_once :
     (bytes : List ℕ) → length bytes ≡ 4
     → little_endian bytes
@@ -109,6 +110,7 @@ eight_first (a ∷ b ∷ c ∷ d ∷ e ∷ f ∷ []) h = absurd (omega arith)
 eight_first (a ∷ b ∷ c ∷ d ∷ e ∷ f ∷ g ∷ []) h = absurd (omega arith)
 eight_first (a ∷ b ∷ c ∷ d ∷ e ∷ f ∷ g ∷ i ∷ more) h = omega arith
 
+-- the same of eight bytes
 pub eight_at_once :
     (bytes : List ℕ) → length bytes ≡ 8
     → little_endian bytes
