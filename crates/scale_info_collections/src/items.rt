@@ -1,6 +1,7 @@
 //! A list of values, which contracts see as the list of its elements.
 ghost use Rattle.std.specs.Prelude.{◌≡◌, ◌++◌, ◌∷◌, ◌↔◌, ◌<◌, ◌^◌, [], length, IsTrue};
-ghost use Rattle.std.specs.Prelude.{if◌then◌else◌, is_ok, IfOk, IfErr};
+ghost use Rattle.std.specs.Prelude.{if◌then◌else◌, is_ok, IfOk, IfErr, OnOk};
+ghost use Rattle.std.specs.Prelude.{vec_len, vec_capacity};
 ghost use Rattle.std.specs.Slice.Iter.{iter_rest, iter_steps};
 ghost use Rattle.std.specs.Iterator.Runs.{EveryRun, ItemsMapTo};
 ghost use Rattle.std.specs.Cmp.Lexicographic.{pointwise, slice_cmp, slice_partial_cmp, lists_equiv};
@@ -117,27 +118,29 @@ impl<T> Items<T> {
         ensures list { self.new ≡ (if is_ok result then self.old ++ value ∷ [] else self.old) }
         ensures value_returned { IfErr result (λ failed. failed.value ≡ value) }
     {
-        if self.all.len() == self.all.capacity() && self.reserve_towards(count).is_err() {
+        if self.all.len() == self.all.capacity() && reserve_towards(&mut self.all, count).is_err() {
             return Err(AllocFailed { value });
         }
-        self.all.push(value)
+        self.all.push_reserved(value);
+        Ok(())
     }
+}
 
-    /// Makes room for at least one more element, in a list that is to have `count` elements.
-    #[cold]
-    #[inline(never)]
-    fn reserve_towards(&mut self, count: usize) -> Result<(), AllocError>
-        ensures { self.new ≡ self.old }
-    {
-        let len = self.all.len();
-        let growth = len.max(4);
-        let wanted = if len < count {
-            growth.min(count - len)
-        } else {
-            growth
-        };
-        self.all.reserve_exact(wanted)
-    }
+/// Makes room for at least one more element, in a list that is to have `count` elements.
+#[cold]
+#[inline(never)]
+fn reserve_towards<T>(all: &mut Vec<T>, count: usize) -> Result<(), AllocError>
+    ensures items { all.new.items ≡ all.old.items }
+    ensures room { OnOk result (vec_len all.new < vec_capacity all.new) }
+{
+    let len = all.len();
+    let growth = len.max(4);
+    let wanted = if len < count {
+        growth.min(count - len)
+    } else {
+        growth
+    };
+    all.reserve_exact(wanted)
 }
 
 /// The methods of a slice: `first`, `get`, an index and the like.
