@@ -1,6 +1,11 @@
 -- Elements of a list with one more at its end.
 use Rattle.std.proofs.Common.{◌≡◌, ℕ, zero, suc, List, [], ◌∷◌, ◌++◌, length, Some, slice_get, ◌⊎◌}
-use Rattle.std.proofs.Common.{inl, inr, refl, rules, arith}
+use Rattle.std.proofs.Common.{inl, inr, refl, rules, arith, ◌+◌, ◌-◌, ◌<◌, Option, None, IsSome, sym}
+use Rattle.std.proofs.Common.{subst, ap, ◌∙◌}
+use Rattle.std.specs.Option.{option_to_list}
+use Rattle.std.proofs.lemmas.Bool.{true≢false}
+use Rattle.std.proofs.lemmas.List.{length-append}
+use Rattle.std.proofs.lemmas.Option.{slice_get_within, same_Some}
 use Rattle.std.proofs.lemmas.Grind.{common_steps}
 
 -- an element of a list with one more at the end is an earlier one or the last
@@ -26,3 +31,21 @@ kept_at (z ∷ zs) x (suc i) y h = kept_at zs x i y h
 pub last_at : {T : Type 0} (xs : List T) (x : T) → slice_get (xs ++ x ∷ []) (length xs) ≡ Some x
 last_at [] x = refl
 last_at (z ∷ zs) x = last_at zs x
+
+-- a list from which its last element was taken
+pub last_taken :
+    {T : Type 0} (xs ys : List T) (r : Option T) (x : T) → xs ≡ ys ++ option_to_list r
+    → (0 < length xs → IsSome r)
+    → slice_get xs (length xs - 1) ≡ Some x
+    → xs ≡ ys ++ x ∷ []
+last_taken xs ys None x e some h =
+    let within = slice_get_within xs (length xs - 1) x h in absurd (true≢false (sym (some (omega (arith, within)))))
+last_taken xs ys (Some z) x e some h =
+    let whole : xs ≡ ys ++ z ∷ [] = e in
+    let long : length xs ≡ length ys + 1 = ap length whole ∙ length-append ys (z ∷ []) in
+    let at : length xs - 1 ≡ length ys = omega (arith, long) in
+    let same : z ≡ x =
+    same_Some z x
+    (sym (last_at ys z) ∙ subst (λ v. slice_get v (length ys) ≡ Some x) whole
+    (subst (λ n. slice_get xs n ≡ Some x) at h)) in
+    subst (λ v. xs ≡ ys ++ v ∷ []) same whole

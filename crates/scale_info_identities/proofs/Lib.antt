@@ -1,3 +1,5 @@
 pub mod LastElement
+pub mod Ordered
 pub mod Identifiers
-pub mod Indices
+pub mod Orders
+pub mod Chunks

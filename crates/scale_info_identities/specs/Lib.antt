@@ -1,4 +1,5 @@
 pub mod Identifiers
 pub mod Interned
+pub mod Orders
 pub mod TypeIds
 pub mod TypeIdLaws

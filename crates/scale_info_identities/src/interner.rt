@@ -1,15 +1,17 @@
 //! Interners: lists of distinct values, each known by its index.
 ghost use Rattle.std.specs.Prelude.{◌≡◌, ◌≤◌, ◌<◌, ◌↔◌, ◌++◌, [], ◌∷◌, true, false, length, IfOk};
 ghost use Rattle.std.specs.Prelude.{IfErr, IfSome, IsTrue, IsOk, IsSome, OnErr, IsErrOf, slice_get};
-ghost use Rattle.std.specs.Prelude.{take, Some};
+ghost use Rattle.std.specs.Prelude.{take, map, Some, ℕ, List, ◌≢◌, ◌-◌, OnOk};
+ghost use Rattle.std.specs.List.{All, concat};
 ghost use Rattle.std.specs.Option.{option_copied};
 ghost use Rattle.std.specs.Cmp.Lexicographic.{pointwise, lists_equiv, lists_per};
 ghost use Rattle.scale_info_identities.specs.Interned.{IsIndexOf, IsKnown, IsNew, AreDistinctBy};
+ghost use Rattle.scale_info_identities.specs.Orders.{IsOrder, before, after};
 ghost use Rattle.scale_info_identities.specs.declared.interner.InternError.TheVariants.{Memory};
 
+use crate::order::{Place, find, insert, locate, remove, split_full};
 use scale_info_collections::try_clone::TryClone;
 use std::alloc::{AllocError, AllocFailed, Global};
-use std::collections::BTreeMap;
 use std::marker::{Model, PhantomData};
 use thiserror::Error;
 
@@ -113,25 +115,25 @@ impl<T: Drop> From<AllocFailed<T>> for InternError {
 ///
 /// Equal values share one index, as in the crate `scale-info`. Contracts see an interner as the
 /// list of its elements. A look-up or an insertion takes a number of comparisons logarithmic in
-/// the number of elements. Each element is kept twice, in the list and in the ordered map of
-/// indices.
+/// the number of elements. Each element is kept once, and its index in the order of the elements.
 #[derive(Drop)]
 pub struct Interner<T: Ord> {
     elements: Vec<T>,
-    indices: BTreeMap<T, u32>,
+    chunks: Vec<Vec<u32>>,
 }
 
 impl<T: Ord> Model for Interner<T> {
-    ghost use Rattle.std.specs.Prelude.{List, length, ◌≤◌};
+    ghost use Rattle.std.specs.Prelude.{List, length, map, ◌≤◌};
 
     ghost Value = { List T };
 
-    ghost use Rattle.scale_info_identities.specs.Interned.{HasIndices};
+    ghost use Rattle.scale_info_identities.specs.Orders.{IsOrder};
 
     ghost view = { λ s. s.elements.items };
 
     ghost invariant = { λ s.
-        HasIndices T.cmp s.elements.items s.indices × (length s.elements.items ≤ 4294967295) };
+        IsOrder T.cmp s.elements.items (map (λ v. v.items) s.chunks.items)
+        × (length s.elements.items ≤ 4294967295) };
 }
 
 impl<T: Ord + Drop> Interner<T> {
@@ -141,7 +143,7 @@ impl<T: Ord + Drop> Interner<T> {
     {
         Interner {
             elements: Vec::new(alloc),
-            indices: BTreeMap::new(alloc),
+            chunks: Vec::new(alloc),
         }
     }
 
@@ -184,9 +186,7 @@ impl<T: Ord + Drop> Interner<T> {
         ensures { self.new ≡ take len self.old }
     {
         while self.elements.len() > len {
-            if let Some(last) = self.elements.pop() {
-                self.indices.remove(&last);
-            }
+            drop_last(&mut self.elements, &mut self.chunks);
         }
     }
 
@@ -195,7 +195,10 @@ impl<T: Ord + Drop> Interner<T> {
         ensures index { (i : _) → (result ≡ Some i) ↔ IsIndexOf T.eq self.now value.now i }
         ensures known { IsSome result ↔ IsKnown T.eq self.now value.now }
     {
-        self.indices.get(value).copied()
+        match locate(&self.elements, &self.chunks, value) {
+            Ok(index) => Some(index),
+            Err(_) => None,
+        }
     }
 }
 
@@ -221,13 +224,15 @@ impl<T: Ord + TryClone> Interner<T> {
             ↔ (length self.old ≡ 4294967295) × IsNew T.eq self.old value }
         ensures err { OnErr result (self.new ≡ self.old) }
     {
-        if let Some(index) = self.index_of(&value) {
-            return Ok((false, UntrackedSymbol::from(index)));
-        }
+        let place = match locate(&self.elements, &self.chunks, &value) {
+            Ok(index) => return Ok((false, UntrackedSymbol::from(index))),
+            Err(place) => place,
+        };
         if self.is_full() {
             return Err(InternError::Full);
         }
-        Ok((true, self.push_new(value)?))
+        let symbol = push_new(&mut self.elements, &mut self.chunks, place, value)?;
+        Ok((true, symbol))
     }
 
     /// Whether each index is taken, so that no new value can get one.
@@ -237,27 +242,60 @@ impl<T: Ord + TryClone> Interner<T> {
     {
         self.elements.len() >= 4294967295
     }
+}
 
-    /// Puts a value that equals no element at the end, and returns its index.
-    ///
-    /// Errors: `Memory`, if an allocation failed; then the interner is as before.
-    fn push_new(&mut self, value: T) -> Result<UntrackedSymbol<T>, InternError>
-        requires new { IsNew T.eq self.old value }
-        requires room { length self.old < 4294967295 }
-        ensures ok { IfOk result
-            (λ symbol. (symbol.id ≡ length self.old) × (self.new ≡ self.old ++ value ∷ [])) }
-        ensures err { OnErr result (self.new ≡ self.old) }
-        ensures memory { IfErr result (λ e. e ≡ Memory) }
-    {
-        let index = self.elements.len() as u32;
-        let copy = value.try_clone(*self.elements.allocator())?;
-        self.elements.push(value)?;
-        if self.indices.insert(copy, index).is_err() {
-            self.elements.pop();
-            return Err(InternError::Memory);
-        }
-        Ok(UntrackedSymbol::from(index))
+/// Puts a value at the end of the elements and its index at a place, and returns the index.
+///
+/// Errors: `Memory`, if an allocation failed; then all is as before.
+fn push_new<T: Drop>(
+    elements: &mut Vec<T>,
+    chunks: &mut Vec<Vec<u32>>,
+    place: Place,
+    value: T,
+) -> Result<UntrackedSymbol<T>, InternError>
+    requires place { (chunk : List ℕ)
+        → slice_get (map (λ v. v.items) chunks.old.items) place.chunk ≡ Some chunk
+        → place.at ≤ length chunk }
+    requires room { length elements.old.items < 4294967295 }
+    ensures ok { IfOk result (λ symbol. (symbol.id ≡ length elements.old.items)
+        × (elements.new.items ≡ elements.old.items ++ value ∷ [])) }
+    ensures order { OnOk result (concat (map (λ v. v.items) chunks.new.items)
+        ≡ before (map (λ v. v.items) chunks.old.items) place.chunk place.at
+        ++ length elements.old.items
+        ∷ after (map (λ v. v.items) chunks.old.items) place.chunk place.at) }
+    ensures filled { OnOk result (All (λ c. c ≢ []) (map (λ v. v.items) chunks.old.items)
+        → All (λ c. c ≢ []) (map (λ v. v.items) chunks.new.items)) }
+    ensures err { OnErr result (elements.new.items ≡ elements.old.items) }
+    ensures err_order { OnErr result
+        (map (λ v. v.items) chunks.new.items ≡ map (λ v. v.items) chunks.old.items) }
+    ensures memory { IfErr result (λ e. e ≡ Memory) }
+{
+    let index = elements.len() as u32;
+    let alloc = *elements.allocator();
+    elements.push(value)?;
+    if insert(alloc, chunks, place, index).is_err() {
+        elements.pop();
+        return Err(InternError::Memory);
     }
+    split_full(alloc, chunks, place.chunk);
+    Ok(UntrackedSymbol::from(index))
+}
+
+/// Takes out the last element, if there is one, and its index. Does not allocate.
+fn drop_last<T: Ord + Drop>(elements: &mut Vec<T>, chunks: &mut Vec<Vec<u32>>)
+    requires { IsOrder T.cmp elements.old.items (map (λ v. v.items) chunks.old.items) }
+    ensures elements { elements.new.items
+        ≡ take (length elements.old.items - 1) elements.old.items }
+    ensures order { IsOrder T.cmp elements.new.items (map (λ v. v.items) chunks.new.items) }
+{
+    let Some(last) = elements.last() else {
+        return;
+    };
+    let Ok(place) = find(elements, chunks, last) else {
+        unreachable!()
+    };
+    remove(chunks, place);
+    elements.pop();
 }
 
 impl<T: Ord + Drop> PartialEq for Interner<T> {

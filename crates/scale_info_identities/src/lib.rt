@@ -3,5 +3,6 @@
 
 pub mod interner;
 pub mod laws;
+mod order;
 pub mod type_id;
 pub mod utils;

@@ -1,10 +1,11 @@
-use Rattle.std.proofs.Common.{◌≡◌, ◌≤◌, length, take}
-use Rattle.scale_info_identities.specs.Interned.{HasIndices}
+use Rattle.std.proofs.Common.{◌≡◌, ◌≤◌, length, map, take}
+use Rattle.scale_info_identities.specs.Orders.{IsOrder}
 use Rattle.scale_info_identities.proofs.interner.Interner.truncate.Given as goal
 
 abbrev pub invariant-loop-self : goal.invariant-loop-self
 invariant-loop-self g l =
-    HasIndices g.T.Ord.cmp l.self-inside.elements.items l.self-inside.indices
+    IsOrder g.T.Ord.cmp l.self-inside.elements.items
+    (map (λ v. v.items) l.self-inside.chunks.items)
     × (length l.self-inside.elements.items ≤ 4294967295)
     × (take l.len l.self-inside.elements.items ≡ take l.len l.fn.self)
 

@@ -1,0 +1,199 @@
+//! The indices of elements in the elements' order.
+//!
+//! An index takes four bytes, where a copy of an element may take any number of allocations. The
+//! indices are kept in chunks, so that one more moves those of one chunk only.
+ghost use Rattle.std.specs.List.{All, concat};
+ghost use Rattle.std.specs.Prelude.{◌≡◌, ◌≢◌, ◌∷◌, ◌++◌, ◌+◌, ◌<◌, ◌≤◌, ◌↔◌, ℕ, List, [], Some};
+ghost use Rattle.std.specs.Prelude.{IfOk, IfErr, OnOk, OnErr, IsTrue, length, map, slice_get};
+ghost use Rattle.std.specs.declared.cmp.Ordering.TheVariants.{Less, Equal, Greater};
+ghost use Rattle.scale_info_identities.specs.Orders.{against, first_against, before, after};
+ghost use Rattle.scale_info_identities.specs.Orders.{IsFoundAt, IsGapFor, IsOrder};
+
+use std::alloc::{AllocError, Global};
+use std::cmp::Ordering;
+
+/// A chunk with this many indices is split before it grows further.
+const FULL: usize = 512;
+
+/// How many of its indices a chunk keeps that is split.
+const HALF: usize = 256;
+
+/// A place in an order: the number of a chunk, and where in it.
+#[derive(Clone, Copy)]
+pub struct Place {
+    /// The chunk.
+    pub chunk: usize,
+    /// The number of indices before the place, in its chunk.
+    pub at: usize,
+}
+
+/// How the element at an index compares with a value; an index of no element stands above.
+fn compare<T: Ord>(elements: &[T], index: u32, value: &T) -> Ordering
+    ensures { result ≡ against T.cmp elements.now value.now index }
+{
+    match elements.get(index as usize) {
+        Some(element) => element.cmp(value),
+        None => Ordering::Greater,
+    }
+}
+
+/// Whether the first element of a chunk is above a value.
+fn starts_above<T: Ord>(elements: &[T], chunk: &[u32], value: &T) -> bool
+    ensures { IsTrue result ↔ (first_against T.cmp elements.now value.now chunk.now ≡ Greater) }
+{
+    match chunk.first() {
+        Some(index) => compare(elements, *index, value).is_gt(),
+        None => true,
+    }
+}
+
+/// The number of chunks up to the last that does not start above a value.
+fn chunks_before<T: Ord>(elements: &[T], chunks: &[Vec<u32>], value: &T) -> usize
+    ensures bound { result ≤ length chunks.now }
+    ensures upto { (c : ℕ) (chunk : List ℕ) → result ≡ c + 1
+        → slice_get (map (λ v. v.items) chunks.now) c ≡ Some chunk
+        → first_against T.cmp elements.now value.now chunk ≢ Greater }
+    ensures past { (chunk : List ℕ) → slice_get (map (λ v. v.items) chunks.now) result ≡ Some chunk
+        → first_against T.cmp elements.now value.now chunk ≡ Greater }
+{
+    let mut low = 0;
+    let mut high = chunks.len();
+    while low < high {
+        let middle = low + (high - low) / 2;
+        if starts_above(elements, &chunks[middle], value) {
+            high = middle;
+        } else {
+            low = middle + 1;
+        }
+    }
+    low
+}
+
+/// Where in a chunk the index is whose element is equal to a value; else where one would go.
+fn search<T: Ord>(elements: &[T], chunk: &[u32], value: &T) -> Result<usize, usize>
+    ensures found { IfOk result (λ at. (index : ℕ) × (slice_get chunk.now at ≡ Some index)
+        × (against T.cmp elements.now value.now index ≡ Equal)) }
+    ensures bound { IfErr result (λ at. at ≤ length chunk.now) }
+    ensures less { IfErr result (λ at. (i index : ℕ) → at ≡ i + 1
+        → slice_get chunk.now i ≡ Some index
+        → against T.cmp elements.now value.now index ≡ Less) }
+    ensures greater { IfErr result (λ at. (index : ℕ) → slice_get chunk.now at ≡ Some index
+        → against T.cmp elements.now value.now index ≡ Greater) }
+{
+    let mut low = 0;
+    let mut high = chunk.len();
+    while low < high {
+        let middle = low + (high - low) / 2;
+        match compare(elements, chunk[middle], value) {
+            Ordering::Less => low = middle + 1,
+            Ordering::Equal => return Ok(middle),
+            Ordering::Greater => high = middle,
+        }
+    }
+    Err(low)
+}
+
+/// The place of the index whose element is equal to a value; else where one would go.
+pub fn find<T: Ord>(elements: &[T], chunks: &[Vec<u32>], value: &T) -> Result<Place, Place>
+    requires { IsOrder T.cmp elements.now (map (λ v. v.items) chunks.now) }
+    ensures found { IfOk result (λ place. IsFoundAt T.cmp elements.now
+        (map (λ v. v.items) chunks.now) value.now place.chunk place.at) }
+    ensures absent { IfErr result (λ place. IsGapFor T.cmp elements.now
+        (map (λ v. v.items) chunks.now) value.now place.chunk place.at) }
+{
+    let Some(chunk) = chunks_before(elements, chunks, value).checked_sub(1) else {
+        return Err(Place { chunk: 0, at: 0 });
+    };
+    match search(elements, &chunks[chunk], value) {
+        Ok(at) => Ok(Place { chunk, at }),
+        Err(at) => Err(Place { chunk, at }),
+    }
+}
+
+/// The index whose element is equal to a value; else the place where one would go.
+pub fn locate<T: Ord>(elements: &[T], chunks: &[Vec<u32>], value: &T) -> Result<u32, Place>
+    requires { IsOrder T.cmp elements.now (map (λ v. v.items) chunks.now) }
+    ensures found { IfOk result
+        (λ index. against T.cmp elements.now value.now index ≡ Equal) }
+    ensures absent { IfErr result (λ place. IsGapFor T.cmp elements.now
+        (map (λ v. v.items) chunks.now) value.now place.chunk place.at) }
+{
+    match find(elements, chunks, value) {
+        Ok(place) => Ok(chunks[place.chunk][place.at]),
+        Err(place) => Err(place),
+    }
+}
+
+/// Puts an index at a place. On an Err all is as before.
+pub fn insert(
+    alloc: Global,
+    chunks: &mut Vec<Vec<u32>>,
+    place: Place,
+    index: u32,
+) -> Result<(), AllocError>
+    requires { (chunk : List ℕ)
+        → slice_get (map (λ v. v.items) chunks.old.items) place.chunk ≡ Some chunk
+        → place.at ≤ length chunk }
+    ensures ok { OnOk result (concat (map (λ v. v.items) chunks.new.items)
+        ≡ before (map (λ v. v.items) chunks.old.items) place.chunk place.at
+        ++ index ∷ after (map (λ v. v.items) chunks.old.items) place.chunk place.at) }
+    ensures filled { OnOk result (All (λ c. c ≢ []) (map (λ v. v.items) chunks.old.items)
+        → All (λ c. c ≢ []) (map (λ v. v.items) chunks.new.items)) }
+    ensures err { OnErr result
+        (map (λ v. v.items) chunks.new.items ≡ map (λ v. v.items) chunks.old.items) }
+{
+    match chunks.get_mut(place.chunk) {
+        Some(chunk) => chunk.insert(place.at, index)?,
+        None => chunks.push(alone(alloc, index)?)?,
+    }
+    Ok(())
+}
+
+/// A chunk of one index.
+fn alone(alloc: Global, index: u32) -> Result<Vec<u32>, AllocError>
+    ensures { IfOk result (λ chunk. chunk.items ≡ index ∷ []) }
+{
+    let mut chunk = Vec::new(alloc);
+    chunk.push(index)?;
+    Ok(chunk)
+}
+
+/// Splits a chunk in two, if it is full. Where an allocation fails, it stays as it is.
+pub fn split_full(alloc: Global, chunks: &mut Vec<Vec<u32>>, chunk: usize)
+    ensures joined { concat (map (λ v. v.items) chunks.new.items)
+        ≡ concat (map (λ v. v.items) chunks.old.items) }
+    ensures filled { All (λ c. c ≢ []) (map (λ v. v.items) chunks.old.items)
+        → All (λ c. c ≢ []) (map (λ v. v.items) chunks.new.items) }
+{
+    let Some(first) = chunks.get(chunk) else {
+        return;
+    };
+    if first.len() < FULL {
+        return;
+    }
+    let (_, rest) = first.split_at(HALF);
+    let Ok(second) = Vec::from_slice(alloc, rest) else {
+        return;
+    };
+    if chunks.insert(chunk + 1, second).is_ok() {
+        chunks[chunk].truncate(HALF);
+    }
+}
+
+/// Takes the index at a place out, and drops a chunk that is then empty.
+pub fn remove(chunks: &mut Vec<Vec<u32>>, place: Place)
+    requires { (chunk : List ℕ) × (slice_get (map (λ v. v.items) chunks.old.items) place.chunk
+        ≡ Some chunk) × (place.at < length chunk) }
+    ensures joined { (index : ℕ) (rest : List ℕ)
+        → after (map (λ v. v.items) chunks.old.items) place.chunk place.at ≡ index ∷ rest
+        → concat (map (λ v. v.items) chunks.new.items)
+        ≡ before (map (λ v. v.items) chunks.old.items) place.chunk place.at ++ rest }
+    ensures filled { All (λ c. c ≢ []) (map (λ v. v.items) chunks.old.items)
+        → All (λ c. c ≢ []) (map (λ v. v.items) chunks.new.items) }
+{
+    let chunk = &mut chunks[place.chunk];
+    chunk.remove(place.at);
+    if chunk.is_empty() {
+        chunks.remove(place.chunk);
+    }
+}
