@@ -4,6 +4,7 @@ use Rattle.std.proofs.Common.{option_map, map, reverse, refl, ap, sym, ◌∙◌
 use Rattle.std.proofs.Common.{append_assoc, append-nil, length-append, Bor}
 use Rattle.std.proofs.lemmas.List.{map-append, reverse-append, length_push, length-map, length-reverse}
 use Rattle.std.proofs.lemmas.List.Elements.{Contains-get_or}
+use Rattle.std.specs.List.{AllZip}
 use Rattle.scale_info_numberings.specs.Systems.{IsReachedPast}
 use Rattle.scale_info_numberings.specs.Numberings.{AreDistinct}
 use Rattle.scale_info_numberings.specs.Extensions.{IsExtension}
@@ -16,7 +17,7 @@ use Rattle.scale_info_identities.specs.contracts.type_id.TypeIdPartialEq.TheImpl
 use Rattle.scale_info_types.specs.MetaDescriptions.{MetaDescription, type_term}
 use Rattle.scale_info_discovery.specs.CatalogueSystems.{catalogue_entry, catalogue_system}
 use Rattle.scale_info_catalogue.specs.Catalogues.{described}
-use Rattle.scale_info_discovery.specs.Discoveries.{nodes_of, roots_of, stacked, IsCause, IsNumberError}
+use Rattle.scale_info_discovery.specs.Discoveries.{nodes_of, roots_of, stacked, IsCause, IsNumberError, AreFound}
 use Rattle.scale_info_catalogue.specs.declared.catalogue.Catalogue.{Catalogue}
 use Rattle.scale_info_discovery.specs.declared.discovery.RegisterError.{RegisterError}
 use Rattle.scale_info_discovery.specs.declared.discovery.RegisterError.TheVariants.{Full, Memory, Undescribed}
@@ -71,6 +72,28 @@ pub kept_more :
     (before ids new : List TypeId) (id : TypeId) → (more : List TypeId) × (ids ≡ before ++ more)
     → new ≡ ids ++ id ∷ [] → (more : List TypeId) × (new ≡ before ++ more)
 kept_more before ids new id m e = (m.0 ++ id ∷ [], e ∙ ap (λ xs. xs ++ id ∷ []) m.1 ∙ append_assoc before m.0 (id ∷ []))
+
+zip_push :
+    {A B : Type 0} (R : A → B → Type 0) (xs : List A) (ys : List B) (x : A) (y : B) → AllZip R xs ys
+    → R x y → AllZip R (xs ++ x ∷ []) (ys ++ y ∷ [])
+zip_push R [] [] x y all r = (r, tt)
+zip_push R [] (b ∷ ys) x y all r = absurd all
+zip_push R (a ∷ xs) [] x y all r = absurd all
+zip_push R (a ∷ xs) (b ∷ ys) x y all r = (all.0, zip_push R xs ys x y all.1 r)
+
+-- one more description, of an identity put at the end
+pub found_more :
+    (c : Catalogue) (before ids new : List TypeId) (id : TypeId) (found all : List (Bor MetaDescription))
+    (d : Bor MetaDescription) → described c (term_of id) ≡ Some d.now
+    → new ≡ ids ++ id ∷ [] → all ≡ found ++ d ∷ []
+    → (more : List TypeId) × (ids ≡ before ++ more) × AreFound c more found
+    → (more : List TypeId) × (new ≡ before ++ more) × AreFound c more all
+found_more c before ids new id found all d s e p (more, is, zip) = (
+  more ++ id ∷ [],
+  e ∙ ap (λ xs. xs ++ id ∷ []) is ∙ append_assoc before more (id ∷ []),
+  subst (λ xs. AreFound c (more ++ id ∷ []) xs) (sym p)
+      (zip_push (λ i r. described c (term_of i) ≡ Some r.now) more found id d zip s),
+)
 
 module _ (c : Catalogue) (before : List TypeId) (roots : List (Bor MetaType)) where
   abbrev Walking : List TypeId → List (Bor MetaType) → Type 0

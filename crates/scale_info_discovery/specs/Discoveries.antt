@@ -2,6 +2,7 @@
 use Rattle.std.specs.Prelude.{◌≡◌, ◌<◌, ◌++◌, ◌∷◌, [], List, Option, None, Some}
 use Rattle.std.specs.Prelude.{map, length, reverse, All, Contains, ◌⊎◌, ⊤}
 use Rattle.std.specs.Borrow.{Bor}
+use Rattle.std.specs.List.{AllZip}
 use Rattle.scale_info_identities.specs.Interned.{IsKnown, IsNew}
 use Rattle.scale_info_identities.specs.TypeIds.{Term, term_of}
 use Rattle.scale_info_identities.specs.contracts.type_id.TypeIdPartialEq.TheImpl.{ghosts as equals}
@@ -59,6 +60,10 @@ IsNumberError c ids id Memory = ⊤
 IsNumberError c ids id (Undescribed other) =
     (other ≡ id) × IsNew equals.eq ids id × (described c (term_of id) ≡ None)
 IsNumberError c ids id Full = IsNew equals.eq ids id × (length ids ≡ 4294967295)
+
+-- these are the descriptions of the identities, in order
+abbrev pub AreFound : Catalogue → List TypeId → List (Bor MetaDescription) → Type 0
+AreFound c ids found = AllZip (λ id d. described c (term_of id) ≡ Some d.now) ids found
 
 -- the errors are of one variant, and the identities that they name, if any, have one term
 abbrev pub AreSameRegisterErrors : RegisterError → RegisterError → Type 0

@@ -1,13 +1,14 @@
 //! The new identities of a registration, numbered in depth-first order by a list of work.
 ghost use Rattle.std.specs.Option.{option_copied};
-ghost use Rattle.std.specs.Prelude.{◌≡◌, ◌++◌, List, OnErr, OnOk, IfErr, IfOk, reverse};
+ghost use Rattle.std.specs.Prelude.{◌≡◌, ◌++◌, ◌∷◌, [], List, OnErr, OnOk, IfErr, IfOk, reverse};
 ghost use Rattle.scale_info_identities.specs.declared.type_id.TypeId.{TypeId};
 ghost use Rattle.scale_info_numberings.specs.Extensions.{IsExtension};
 ghost use Rattle.scale_info_discovery.specs.CatalogueSystems.{catalogue_system};
-ghost use Rattle.scale_info_discovery.specs.Discoveries.{nodes_of, stacked};
+ghost use Rattle.scale_info_discovery.specs.Discoveries.{nodes_of, stacked, AreFound};
 ghost use Rattle.scale_info_discovery.specs.Discoveries.{IsCause, IsNumbered, IsNumberError};
 ghost use Rattle.scale_info_discovery.specs.declared.discovery.RegisterError.TheVariants.{Memory};
 
+use crate::hints::Hints;
 use scale_info_catalogue::catalogue::Catalogue;
 use scale_info_collections::try_clone::TryClone;
 use scale_info_identities::interner::{InternError, Interner};
@@ -74,7 +75,7 @@ pub fn stack_up<'a>(
 pub fn discover<'a>(
     alloc: Global,
     identities: &mut Interner<TypeId>,
-    mut pending: Vec<&'a MetaType>,
+    pending: Vec<&'a MetaType>,
     catalogue: &'a Catalogue,
 ) -> Result<(), RegisterError>
     ensures kept { (more : List TypeId) × (identities.new ≡ identities.old ++ more) }
@@ -83,16 +84,65 @@ pub fn discover<'a>(
     ensures err { IfErr result (IsCause (catalogue_system catalogue.now) (nodes_of identities.old)
         (stacked pending.entry.items)) }
 {
-    let _distinct = identities.elements();
-    while let Some(next) = pending.pop() {
-        if let Some(described) = number_new(alloc, identities, next.type_id(), catalogue)? {
-            pending = stack_up(references_of(alloc, described)?, pending)?;
-        }
-    }
+    let mut hints = Hints::new(alloc);
+    discover_hinted(alloc, identities, pending, catalogue, &mut hints)?;
     Ok(())
 }
 
-/// The description of an identity that is new, which gets the next number; None if it has one.
+/// The same as [`discover`], which also returns the descriptions of what is new, in the order of
+/// the numbers, and notes a hint for each of their references.
+///
+/// Errors: as those of [`discover`].
+pub fn discover_hinted<'a>(
+    alloc: Global,
+    identities: &mut Interner<TypeId>,
+    mut pending: Vec<&'a MetaType>,
+    catalogue: &'a Catalogue,
+    hints: &mut Hints,
+) -> Result<Vec<&'a Type>, RegisterError>
+    ensures kept { (more : List TypeId) × (identities.new ≡ identities.old ++ more) }
+    ensures ok { OnOk result (IsExtension (catalogue_system catalogue.now) (nodes_of identities.old)
+        (stacked pending.entry.items) (nodes_of identities.new)) }
+    ensures found { IfOk result (λ found. (more : List TypeId)
+        × (identities.new ≡ identities.old ++ more) × AreFound catalogue.now more found.items) }
+    ensures err { IfErr result (IsCause (catalogue_system catalogue.now) (nodes_of identities.old)
+        (stacked pending.entry.items)) }
+{
+    let _distinct = identities.elements();
+    hints.pass_over(pending.len())?;
+    let mut found = none_of(alloc, catalogue);
+    while let Some(next) = pending.pop() {
+        let (number, new) = number_new(alloc, identities, next.type_id(), catalogue)?;
+        hints.meet(number);
+        if let Some(described) = new {
+            found = with_one(found, described)?;
+            let references = references_of(alloc, described)?;
+            hints.expect(references.len())?;
+            pending = stack_up(references, pending)?;
+        }
+    }
+    Ok(found)
+}
+
+/// No description of a catalogue.
+fn none_of<'a>(alloc: Global, _catalogue: &'a Catalogue) -> Vec<&'a Type>
+    ensures { result.items ≡ [] }
+{
+    Vec::new(alloc)
+}
+
+/// The list with one more description at its end.
+///
+/// Errors: `Memory`, if an allocation failed.
+fn with_one<'a>(mut list: Vec<&'a Type>, one: &'a Type) -> Result<Vec<&'a Type>, RegisterError>
+    ensures ok { IfOk result (λ all. all.items ≡ list.entry.items ++ one.entry ∷ []) }
+    ensures err { IfErr result (λ e. e ≡ Memory) }
+{
+    list.push(one)?;
+    Ok(list)
+}
+
+/// The number of an identity, and its description, if it is new and gets the next number.
 ///
 /// Errors: as those of [`discover`], for this identity. On an Err no number was given.
 fn number_new<'a>(
@@ -100,20 +150,20 @@ fn number_new<'a>(
     identities: &mut Interner<TypeId>,
     id: &TypeId,
     catalogue: &'a Catalogue,
-) -> Result<Option<&'a Type>, RegisterError>
+) -> Result<(u32, Option<&'a Type>), RegisterError>
     ensures ok { IfOk result (λ found.
-        IsNumbered catalogue.now identities.old id.now (option_copied found) identities.new) }
+        IsNumbered catalogue.now identities.old id.now (option_copied found.1) identities.new) }
     ensures err { OnErr result (identities.new ≡ identities.old) }
     ensures cause { IfErr result (IsNumberError catalogue.now identities.old id.now) }
 {
-    if identities.get(id).is_some() {
-        return Ok(None);
+    if let Some(symbol) = identities.get(id) {
+        return Ok((symbol.into_untracked().id, None));
     }
     let Some(described) = catalogue.get(id) else {
         return Err(RegisterError::Undescribed(id.try_clone(alloc)?));
     };
     match identities.intern_or_get(id.try_clone(alloc)?) {
-        Ok(_) => Ok(Some(described)),
+        Ok((_, symbol)) => Ok((symbol.id, Some(described))),
         Err(InternError::Full) => Err(RegisterError::Full),
         Err(InternError::Memory) => Err(RegisterError::Memory),
     }

@@ -2,4 +2,5 @@
 #![tactic(auto)]
 
 pub mod discovery;
+pub mod hints;
 pub mod laws;

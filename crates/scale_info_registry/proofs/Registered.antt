@@ -1,5 +1,6 @@
 -- What a registration has done, once all new identities are described.
-use Rattle.std.proofs.Common.{take, ◌≡◌, ℕ, zero, suc, ◌+◌, ◌<◌, ◌≤◌, List, [], ◌∷◌, ◌++◌, length, Option}
+use Rattle.std.specs.List.{AllZip}
+use Rattle.std.proofs.Common.{drop, take, ◌≡◌, ℕ, zero, suc, ◌+◌, ◌<◌, ◌≤◌, List, [], ◌∷◌, ◌++◌, length, Option}
 use Rattle.std.proofs.Common.{Some, None, option_map, slice_get, map, refl, ap, sym, ◌∙◌, subst, arith}
 use Rattle.std.proofs.Common.{Contains, inl, inr, length-append, Bor}
 use Rattle.std.specs.declared.result.Result.{Result}
@@ -65,6 +66,35 @@ described_more c ids from types id d ty e s t f i other h b g =
           let same : id ≡ other = same_Some id other (sym e ∙ (ap (λ k. slice_get ids k) (sym here) ∙ g)) in
           (d, ap (λ z. described c (term_of z)) (sym same) ∙ s, ap (λ k. slice_get (types ++ ty ∷ []) k) here ∙ (at_seam types [] ty ∙ ap Some t))
     ]
+
+-- what is paired with an element of the second of two lists
+pub paired_at :
+    {A B : Type 0} (R : A → B → Type 0) (xs : List A) (ys : List B) (i : ℕ) (y : B) → AllZip R xs ys
+    → slice_get ys i ≡ Some y → (x : A) × (slice_get xs i ≡ Some x) × R x y
+paired_at R [] [] i y all e = cc
+paired_at R [] (b ∷ ys) i y all e = absurd all
+paired_at R (a ∷ xs) [] i y all e = absurd all
+paired_at R (a ∷ xs) (b ∷ ys) zero y all e = (a, refl, subst (R a) (same_Some b y e) all.0)
+paired_at R (a ∷ xs) (b ∷ ys) (suc i) y all e = paired_at R xs ys i y all.1 e
+
+-- two lists that are paired are of one length
+pub paired_length :
+    {A B : Type 0} (R : A → B → Type 0) (xs : List A) (ys : List B) → AllZip R xs ys
+    → length ys ≡ length xs
+paired_length R [] [] all = refl
+paired_length R [] (b ∷ ys) all = absurd all
+paired_length R (a ∷ xs) [] all = absurd all
+paired_length R (a ∷ xs) (b ∷ ys) all = ap suc (paired_length R xs ys all.1)
+
+-- an element past the first n
+pub past_at :
+    {A : Type 0} (xs : List A) (n i k : ℕ) → k ≡ n + i
+    → slice_get (drop n xs) i ≡ slice_get xs k
+past_at xs zero i k e =
+    let same : i ≡ k = omega (arith, e) in ap (λ j. slice_get xs j) same
+past_at [] (suc n) i k e = refl
+past_at (x ∷ xs) (suc n) i zero e = absurd (omega (arith, e))
+past_at (x ∷ xs) (suc n) i (suc k) e = past_at xs n i k (omega (arith, e))
 
 -- the ids of known types are their places
 pub places :

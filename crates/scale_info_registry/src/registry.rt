@@ -22,6 +22,8 @@ ghost use Rattle.std.specs.Prelude.{
   map,
   slice_get,
   take,
+  drop,
+  ◌+◌,
 };
 ghost use Rattle.scale_info_identities.specs.TypeIds.{term_of};
 ghost use Rattle.scale_info_identities.specs.declared.interner.UntrackedSymbol.{UntrackedSymbol};
@@ -33,7 +35,9 @@ ghost use Rattle.scale_info_types.specs.declared.meta_type.MetaType.{MetaType};
 ghost use Rattle.scale_info_discovery.specs.CatalogueSystems.{catalogue_system};
 ghost use Rattle.scale_info_catalogue.specs.Catalogues.{described};
 ghost use Rattle.scale_info_types.specs.MetaDescriptions.{MetaDescription, type_term};
-ghost use Rattle.scale_info_discovery.specs.Discoveries.{nodes_of, roots_of, stacked, IsCause};
+ghost use Rattle.scale_info_discovery.specs.Discoveries.{nodes_of, roots_of, stacked};
+ghost use Rattle.scale_info_discovery.specs.Discoveries.{AreFound, IsCause};
+ghost use Rattle.scale_info_catalogue.specs.declared.catalogue.Catalogue.{Catalogue};
 ghost use Rattle.scale_info_registry.specs.Registrations.{
   Registered,
   registered,
@@ -48,9 +52,10 @@ ghost use Rattle.scale_info_discovery.specs.declared.discovery.RegisterError.The
   Memory,
 };
 
-use conversion::{HasTypes, Identities, alone};
+use conversion::{HasTypes, HintedIdentities, Identities, alone};
 use scale_info_catalogue::catalogue::Catalogue;
-use scale_info_discovery::discovery::{discover, stack_up};
+use scale_info_discovery::discovery::{discover_hinted, stack_up};
+use scale_info_discovery::hints::Hints;
 use scale_info_identities::interner::{Interner, UntrackedSymbol};
 use scale_info_identities::type_id::TypeId;
 use scale_info_references::conversion::{Numbers, convert};
@@ -58,6 +63,7 @@ use scale_info_types::form::PortableForm;
 use scale_info_types::meta_type::MetaType;
 use scale_info_types::ty::Type;
 use std::alloc::{AllocError, Global};
+use std::cell::Cell;
 use std::marker::Model;
 
 mod conversion;
@@ -333,8 +339,9 @@ fn register_in<'a>(
     ensures cause { IfErr result (IsCause (catalogue_system catalogue.now)
         (nodes_of identities.old) (stacked pending.entry.items)) }
 {
-    discover(alloc, identities, pending, catalogue)?;
-    describe(alloc, identities, types, catalogue)?;
+    let mut hints = Hints::new(alloc);
+    let found = discover_hinted(alloc, identities, pending, catalogue, &mut hints)?;
+    describe(alloc, identities, found, hints.numbers(), types)?;
     Ok(())
 }
 
@@ -347,31 +354,29 @@ fn cut_back(identities: &mut Interner<TypeId>, types: &mut Vec<Type<PortableForm
     types.truncate(known);
 }
 
-/// Describes the identities that have no description yet, in order.
-fn describe(
+/// Describes the identities that have no description yet, in order, by those that were found.
+fn describe<'x, 'a>(
     alloc: Global,
-    identities: &Interner<TypeId>,
+    identities: &'x Interner<TypeId>,
+    found: Vec<&'a Type>,
+    hints: &'x [u32],
     types: &mut Vec<Type<PortableForm>>,
-    catalogue: &Catalogue,
 ) -> Result<(), AllocError>
-    requires fewer { length types.old.items ≤ length identities.now }
-    requires all_described { (i : ℕ) (id : TypeId) → length types.old.items ≤ i
-        → slice_get identities.now i ≡ Some id
-        → (d : MetaDescription) × (described catalogue.now (term_of id) ≡ Some d) }
+    requires fits { length types.old.items + length found.items ≡ length identities.now }
     ensures kept { (more : List portable.Description)
         × (types.new.items ≡ types.old.items ++ more) }
     ensures long { OnOk result (length types.new.items ≡ length identities.now) }
-    ensures entries { OnOk result (AreDescribed catalogue.now identities.now
-        (length types.old.items) types.new.items) }
+    ensures entries { OnOk result ((catalogue : Catalogue)
+        → AreFound catalogue (drop (length types.old.items) identities.now) found.entry.items
+        → AreDescribed catalogue identities.now (length types.old.items) types.new.items) }
 {
-    let numbers = Identities {
+    let next = Cell::new(0);
+    let numbers = HintedIdentities {
         interner: identities,
+        hints,
+        next: &next,
     };
-    let ids = identities.elements();
-    while types.len() < ids.len() {
-        let Some(described) = catalogue.get(&ids[types.len()]) else {
-            unreachable!()
-        };
+    for described in found {
         let ty = convert(alloc, &numbers, described);
         push_made(types, ty)?;
     }

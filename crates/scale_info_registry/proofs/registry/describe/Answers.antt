@@ -1,31 +1,39 @@
-use Rattle.std.proofs.Common.{rules, arith, ◌≡◌, ◌++◌, ◌∷◌, [], ◌∙◌, sym, ap, append_assoc, List, length}
-use Rattle.std.proofs.Common.{Some, slice_get, ◌+◌, subst}
+use Rattle.scale_info_numberings.proofs.Places.{at_seam}
+use Rattle.std.proofs.Common.{arith, ◌≡◌, ◌++◌, ◌∷◌, [], ◌∙◌, sym, ap, append_assoc, List, length, Some}
+use Rattle.std.proofs.Common.{slice_get, ◌+◌, subst, drop}
+use Rattle.std.specs.Vec.Iter.{into_iter_items}
 use Rattle.std.proofs.lemmas.List.{length_push}
-use Rattle.std.proofs.Common.{refl}
 use Rattle.std.proofs.lemmas.Result.{IfOk-at_ok}
-use Rattle.std.proofs.lemmas.Option.{slice_get_read}
 use Rattle.scale_info_types.specs.Portable as portable
 use Rattle.scale_info_identities.specs.TypeIds.{term_of}
 use Rattle.scale_info_catalogue.specs.Catalogues.{described}
 use Rattle.scale_info_registry.specs.Registrations.{AreDescribed}
-use Rattle.scale_info_registry.proofs.Registered.{described_more}
+use Rattle.scale_info_registry.proofs.Registered.{described_more, paired_at, past_at}
 use Rattle.scale_info_registry.proofs.registry.describe.Goals as goal
 
-pub loop-numbers-preserved : goal.loop-numbers-preserved
-loop-numbers-preserved c =
-    let types = c.loop-numbers.types.items in
+pub loop-described-preserved : goal.loop-described-preserved
+loop-described-preserved c =
+    let types = c.loop-described.types.items in
+    let first = length c.args.types.now.items in
+    let ids = c.args.identities.now in
     let (ty, made, pushed) = c.in_ok-push_made.ensures.ok in
-    let id = c.index-ids-len.result in
-    let at : slice_get c.args.identities.now (length types) ≡ Some id = (let is = c.index-ids-len.is in let e = c.len-in-loop-numbers.ensures in let f = c.loop-numbers-test.true in let k = c.loop-numbers.types.ok.0 in let q = c.len.ensures in
-    let j : c.len-in-loop-numbers.result ≡ length types = omega arith in
-    let read = slice_get_read c.elements-ids.result.now (length c.elements-ids.result.now) c.len-in-loop-numbers.result id refl (omega arith) is in
-    (λ i. slice_get (sym c.elements-ids.ensures.list i) (sym j i)) ∙ read) in
-    let some : described c.args.catalogue.now (term_of id) ≡ Some c.in-Some.described.now = (let is = c.in-Some.ensures in search rules) in
-    let long : length c.push_made.new.list.items ≡ length types + 1 = ap (λ (xs : List portable.Description). length xs) pushed ∙ length_push types ty in
-    let more = c.loop-numbers.invariant.0 in
-    let below = c.loop-numbers-test.true in let k = c.loop-numbers.types.ok.0 in let q = c.len.ensures in let e : length c.elements-ids.result.now ≡ length c.args.identities.now = ap (λ xs. length xs) c.elements-ids.ensures.list in (
-      (more.0 ++ ty ∷ [], pushed ∙ ap (λ xs. xs ++ ty ∷ []) more.1 ∙ append_assoc c.args.types.now.items more.0 (ty ∷ [])),
-      omega arith,
-      subst (λ (xs : List portable.Description). AreDescribed c.args.catalogue.now c.args.identities.now (length c.args.types.now.items) xs) (sym pushed)
-          (described_more c.args.catalogue.now c.args.identities.now (length c.args.types.now.items) types id c.in-Some.described.now ty at some (IfOk-at_ok _ made c.convert-ty.ensures) c.loop-numbers.invariant.2),
+    let d = c.in-Some.described in
+    let kept = c.loop-described.invariant in
+    let (done, split, far) = kept.1 in
+    let rest = into_iter_items c.next.new.self in
+    let whole : c.args.found.items ≡ done ++ d ∷ rest =
+    split ∙ ap (λ xs. done ++ xs) c.in-Some.ensures.steps.0 in
+    let at : slice_get c.args.found.items (length done) ≡ Some d =
+    ap (λ xs. slice_get xs (length done)) whole ∙ at_seam done rest d in
+    let long : length c.push_made.new.list.items ≡ length types + 1 =
+    ap (λ (xs : List portable.Description). length xs) pushed ∙ length_push types ty in
+    let longer = length_push done d in (
+      (kept.0.0 ++ ty ∷ [], pushed ∙ ap (λ xs. xs ++ ty ∷ []) kept.0.1 ∙ append_assoc c.args.types.now.items kept.0.0 (ty ∷ [])),
+      (done ++ d ∷ [], whole ∙ sym (append_assoc done (d ∷ []) rest), omega (arith, long, longer, far)),
+      (λ cat all.
+          let pair = paired_at (λ id r. described cat (term_of id) ≡ Some r.now) (drop first ids) c.args.found.items (length done) d all at in
+          let place : slice_get ids (length types) ≡ Some pair.0 =
+          sym (past_at ids first (length done) (length types) far) ∙ pair.1 in
+          subst (λ (xs : List portable.Description). AreDescribed cat ids first xs) (sym pushed)
+          (described_more cat ids first types pair.0 d.now ty place pair.2 (IfOk-at_ok _ made c.convert-ty.ensures) (kept.2 cat all))),
     )
