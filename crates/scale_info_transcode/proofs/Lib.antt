@@ -1,2 +1,5 @@
+mod Objects
+mod Parts
+mod Results
 mod Tables
 mod Tokens

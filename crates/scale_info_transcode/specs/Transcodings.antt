@@ -1,13 +1,14 @@
 -- What is read from bytes and written as JSON.
 use Rattle.std.specs.Prelude.{◌≡◌, ℕ, List, [], ◌∷◌, ◌++◌, length}
 use Rattle.json.specs.Token.{Token}
+use Rattle.json.specs.Written.{Written}
 use Rattle.serde_json.specs.Data.{Data}
 use Rattle.serde_json.specs.Written.{compact_text}
 use Rattle.scale_info_bytes.specs.Encodings.{HasPrefix}
 use Rattle.scale_info_bytes.specs.Parts.{EncodesItems, EncodesList}
-use Rattle.scale_info_json.specs.Steps.{tokens_of}
+use Rattle.scale_info_json.specs.Steps.{append_row, tokens_of}
 use Rattle.scale_info_json.specs.Tables.{table_tree}
-use Rattle.scale_info_json.specs.Written.{list_tree}
+use Rattle.scale_info_json.specs.Written.{list_tree, Row}
 use Rattle.scale_info_tables.specs.TableEncoding.{EncodesRegistry}
 use Rattle.scale_info_tables.specs.declared.portable.PortableRegistry.{PortableRegistry}
 
@@ -15,6 +16,28 @@ use Rattle.scale_info_tables.specs.declared.portable.PortableRegistry.{PortableR
 abbrev pub tokens_of_each : {A : Type 0} → (A → Data) → List A → List Token
 tokens_of_each W [] = []
 tokens_of_each W (v ∷ values) = tokens_of (W v) ++ tokens_of_each W values
+
+-- the input begins with a value, this is the rest, and the tokens grew by those of its tree
+pub record WritesOne {A : Type 0} (S : A → List ℕ → Type 0) (W : A → Data)
+    (input rest : List ℕ) (old new : List Token) : Type 0 where
+  pub value : A
+  pub read : HasPrefix (S value) input rest
+  pub tokens : new ≡ old ++ tokens_of (W value)
+
+-- what a writer's buffer held at the start, and the tokens after it
+abbrev pub state_of : Written → List ℕ × List Token
+state_of writer = (writer.before, writer.tokens)
+
+-- the row was appended to what a writer has written
+pub record AppendsRow (row : Row) (old new : Written) : Type 0 where
+  pub state : state_of new ≡ append_row row (state_of old)
+
+-- the input begins with a value, this is the rest, and the value's row was appended
+pub record WritesRow {A : Type 0} (S : A → List ℕ → Type 0) (R : A → Row)
+    (input rest : List ℕ) (old new : Written) : Type 0 where
+  pub value : A
+  pub read : HasPrefix (S value) input rest
+  pub appends : AppendsRow (R value) old new
 
 -- the input begins with so many values, this is the rest, and the tokens grew by those of their
 -- trees

@@ -6,14 +6,15 @@ ghost use Rattle.scale_info_json.specs.Steps.{tokens_of};
 ghost use Rattle.scale_info_json.specs.Written.{list_tree};
 ghost use Rattle.scale_info_transcode.specs.Transcodings.{WritesItems, WritesList};
 
+use crate::transcode::Transcode;
 use json::Writer;
 use scale_info_bytes::number::decode_compact;
-use scale_info_codec::{DecodeError, Scale};
-use scale_info_json::Json;
+use scale_info_codec::DecodeError;
+use scale_info_collections::items::Items;
 use std::alloc::Global;
 
 /// Reads as many items as the count says, writes each as JSON, and returns the rest.
-fn transcode_items<'a, T: Scale + Json>(
+fn transcode_items<'a, T: Transcode>(
     alloc: Global,
     count: u32,
     input: &'a [u8],
@@ -29,8 +30,7 @@ fn transcode_items<'a, T: Scale + Json>(
 {
     let mut rest = input;
     for _ in 0..count {
-        let (value, after) = T::decode_from(alloc, rest)?;
-        value.write_json(out)?;
+        let after = T::transcode(alloc, rest, out)?;
         rest = after;
     }
     Ok(rest)
@@ -40,7 +40,7 @@ fn transcode_items<'a, T: Scale + Json>(
 ///
 /// Errors: `Malformed`, if no prefix of the input encodes a list; `Memory`, if an allocation
 /// failed.
-pub fn transcode_list<'a, T: Scale + Json>(
+pub fn transcode_list<'a, T: Transcode>(
     alloc: Global,
     input: &'a [u8],
     out: &mut Writer,
@@ -59,5 +59,18 @@ pub fn transcode_list<'a, T: Scale + Json>(
             Ok(rest)
         }
         None => Err(DecodeError::Malformed),
+    }
+}
+
+impl<T: Transcode> Transcode for Items<T> {
+    ghost written = { list_tree T.written };
+
+    fn transcode<'a>(
+        alloc: Global,
+        input: &'a [u8],
+        out: &mut Writer,
+    ) -> Result<&'a [u8], DecodeError> {
+        let rest = transcode_list::<T>(alloc, input, out)?;
+        Ok(rest)
     }
 }

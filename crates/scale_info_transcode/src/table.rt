@@ -13,8 +13,8 @@ use std::alloc::Global;
 /// Appends the JSON text of the table that the input begins with, and returns the buffer and the
 /// rest of the input.
 ///
-/// It is the text that [`append_json`](scale_info_json::append_json) writes for the decoded table,
-/// and one entry at a time is in memory.
+/// It is the text that [`append_json`](scale_info_json::append_json) writes for the decoded table.
+/// Neither the table nor an entry of it is made: only the buffer is allocated.
 ///
 /// Errors: `Malformed`, if no prefix of the input encodes a table; `Memory`, if an allocation
 /// failed. The buffer is then dropped.

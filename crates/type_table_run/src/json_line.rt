@@ -22,8 +22,7 @@ fn json_line_of(alloc: Global, input: &[u8]) -> Result<(Vec<u8>, &[u8]), DecodeE
     Ok((text, rest))
 }
 
-/// The JSON text of the table that the input is, and a line feed. One entry of the table is in
-/// memory at a time.
+/// The JSON text of the table that the input is, and a line feed. No entry of the table is made.
 ///
 /// Errors: `Malformed`, if no prefix of the input is a table; `TrailingBytes`, if bytes come after
 /// the table; `Memory`, if an allocation failed.

@@ -30,7 +30,7 @@ fn pruned(alloc: Global, input: &[u8], ids: &[Text]) -> Result<Vec<u8>, RunError
 
 /// The whole output of a command for its whole input.
 ///
-/// `check` and `prune` make no values, and `json` has one entry in memory at a time.
+/// No command makes a table or an entry of one: `check`, `prune` and `json` go over the bytes.
 ///
 /// Errors: `Malformed`, if no prefix of the input is a table; `TrailingBytes`, if bytes come after
 /// the table; `NoSuchType` and `Dangling`, if the table has no such index; `Memory`, if an

@@ -13,7 +13,7 @@ returns-in_err-rest-in-Some-clause-malformed g c =
 
 pub returns-in_ok-end_array-in-Some-clause-ok : goal.returns-in_ok-end_array-in-Some-clause-ok
 returns-in_ok-end_array-in-Some-clause-ok g c =
-    whole_list g.T.Scale.encodes g.T.Json.written c.in-Some.count _ _ _ _ _ _ _
+    whole_list g.T.Scale.encodes g.T.Transcode.written c.in-Some.count _ _ _ _ _ _ _
     c.in-Some.ensures.some c.in_ok-rest-in-Some.ensures.ok c.in_ok-begin_array-in-Some.ensures.ok
     c.in_ok-end_array-in-Some.ensures.ok
 

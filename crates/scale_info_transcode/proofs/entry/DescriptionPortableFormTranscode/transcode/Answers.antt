@@ -1,0 +1,115 @@
+use Rattle.std.proofs.Common.{List}
+use Rattle.scale_info_bytes.proofs.Errors.{passed_malformed}
+use Rattle.scale_info_bytes.proofs.Steps.{no_prefix_through}
+use Rattle.scale_info_bytes.specs.PartLaws.{list_law}
+use Rattle.scale_info_bytes.specs.Parts.{EncodesList}
+use Rattle.scale_info_bytes.specs.StringLaws.{text_law}
+use Rattle.scale_info_bytes.specs.Strings.{EncodesText}
+use Rattle.scale_info_codec.specs.Ty.{EncodesDescription, EncodesParameter, EncodesPath}
+use Rattle.scale_info_codec.specs.Ty.{EncodesTypeDef, description_parts}
+use Rattle.scale_info_codec.specs.TyLaws.{parameter_law, path_law, type_def_law}
+use Rattle.scale_info_json.specs.Tables.{description_rows}
+use Rattle.scale_info_transcode.proofs.Objects.{four_rows, whole_object}
+use Rattle.scale_info_transcode.proofs.Parts.{read_again, four_parts, no_first, no_second}
+use Rattle.scale_info_transcode.proofs.Parts.{no_third, no_fourth}
+use Rattle.scale_info_types.specs.Portable as portable
+use Rattle.scale_info_types.specs.Portable.{Text}
+use Rattle.scale_info_transcode.proofs.entry.DescriptionPortableFormTranscode.transcode.Goals as goal
+
+-- a path by its segments
+abbrev path_of : List Text → portable.Path
+path_of segments = record { segments = segments; form = tt }
+
+pub returns-in_err-params-clause-malformed : goal.returns-in_err-params-clause-malformed
+returns-in_err-params-clause-malformed c =
+    passed_malformed c.from_residual.result c.in_err-params.field-0.0 c.from_residual.ensures.1
+    (λ n.
+    no_prefix_through description_parts
+    (no_first EncodesPath (EncodesList EncodesParameter) EncodesTypeDef (EncodesList EncodesText) _
+    (no_prefix_through (λ v. v.segments) n)))
+    c.in_err-params.ensures.malformed
+
+pub returns-in_err-def-clause-malformed : goal.returns-in_err-def-clause-malformed
+returns-in_err-def-clause-malformed c =
+    passed_malformed c.from_residual-in_err-def.result c.in_err-def.field-0.0
+    c.from_residual-in_err-def.ensures.1
+    (λ n.
+    no_prefix_through description_parts
+    (no_second EncodesPath (EncodesList EncodesParameter) EncodesTypeDef
+    (EncodesList EncodesText) path_law (path_of c.in_ok-params.ensures.ok.value) _ _
+    c.in_ok-params.ensures.ok.prefix n))
+    c.in_err-def.ensures.malformed
+
+pub returns-in_err-docs-clause-malformed : goal.returns-in_err-docs-clause-malformed
+returns-in_err-docs-clause-malformed c =
+    passed_malformed c.from_residual-in_err-docs.result c.in_err-docs.field-0.0
+    c.from_residual-in_err-docs.ensures.1
+    (λ n.
+    no_prefix_through description_parts
+    (no_third EncodesPath (EncodesList EncodesParameter) EncodesTypeDef (EncodesList EncodesText)
+    path_law (list_law parameter_law) (path_of c.in_ok-params.ensures.ok.value) _ _ _ _
+    c.in_ok-params.ensures.ok.prefix c.in_ok-def.ensures.ok.prefix n))
+    c.in_err-docs.ensures.malformed
+
+pub returns-in_err-rest-clause-malformed : goal.returns-in_err-rest-clause-malformed
+returns-in_err-rest-clause-malformed c =
+    passed_malformed c.from_residual-in_err-rest.result c.in_err-rest.field-0.0
+    c.from_residual-in_err-rest.ensures.1
+    (λ n.
+    no_prefix_through description_parts
+    (no_fourth EncodesPath (EncodesList EncodesParameter) EncodesTypeDef
+    (EncodesList EncodesText) path_law (list_law parameter_law) type_def_law
+    (path_of c.in_ok-params.ensures.ok.value) _ _ _ _ _ _ c.in_ok-params.ensures.ok.prefix
+    c.in_ok-def.ensures.ok.prefix c.in_ok-docs.ensures.ok.read n))
+    c.in_err-rest.ensures.malformed
+
+pub returns-in_err-transcode_unless_empty-clause-malformed :
+    goal.returns-in_err-transcode_unless_empty-clause-malformed
+returns-in_err-transcode_unless_empty-clause-malformed c =
+    passed_malformed c.from_residual-in_err-transcode_unless_empty.result
+    c.in_err-transcode_unless_empty.field-0.0
+    c.from_residual-in_err-transcode_unless_empty.ensures.1
+    (λ n.
+    no_prefix_through description_parts
+    (no_second EncodesPath (EncodesList EncodesParameter) EncodesTypeDef
+    (EncodesList EncodesText) path_law (path_of c.in_ok-params.ensures.ok.value) _ _
+    c.in_ok-params.ensures.ok.prefix n))
+    c.in_err-transcode_unless_empty.ensures.malformed
+
+pub returns-in_err-transcode_unless_empty-2-clause-malformed :
+    goal.returns-in_err-transcode_unless_empty-2-clause-malformed
+returns-in_err-transcode_unless_empty-2-clause-malformed c =
+    passed_malformed c.from_residual-in_err-transcode_unless_empty-2.result
+    c.in_err-transcode_unless_empty-2.field-0.0
+    c.from_residual-in_err-transcode_unless_empty-2.ensures.1
+    (λ n.
+    no_prefix_through description_parts
+    (no_first EncodesPath (EncodesList EncodesParameter) EncodesTypeDef (EncodesList EncodesText) _
+    (no_prefix_through (λ v. v.segments) n)))
+    c.in_err-transcode_unless_empty-2.ensures.malformed
+
+pub returns : goal.returns
+returns c =
+    let def = c.in_ok-docs.ensures.ok in
+    let docs = c.in_ok-rest.ensures.ok in
+    let params = c.in_ok-transcode_unless_empty.ensures.ok in
+    let path = c.in_ok-transcode_unless_empty-2.ensures.ok in
+    let description : portable.Description =
+    record {
+      path = path_of path.value;
+      type_params = params.value;
+      type_def = def.value;
+      docs = docs.value;
+    } in
+    let read =
+    four_parts EncodesPath (EncodesList EncodesParameter) EncodesTypeDef (EncodesList EncodesText)
+    (description_parts description) _ _ _ _ _
+    (read_again (list_law text_law) path.value _ _ _ c.in_ok-params.ensures.ok path.read)
+    (read_again (list_law parameter_law) params.value _ _ _ c.in_ok-def.ensures.ok params.read)
+    def.read docs.read in
+    let rows = four_rows def.appends docs.appends params.appends path.appends in
+    let object =
+    whole_object EncodesDescription description_rows description read
+    c.in_ok-begin_object.ensures rows
+    c.in_ok-end_object.ensures in
+    record { before = object.before; ok = object.ok; malformed = tt }

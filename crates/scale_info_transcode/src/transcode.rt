@@ -1,0 +1,29 @@
+//! What it is for a value to be read from bytes and written as JSON, with no value made.
+ghost use Rattle.std.specs.Prelude.{◌≡◌, IfOk, IfErr, OnOk};
+ghost use Rattle.serde_json.specs.Data.{Data};
+ghost use Rattle.scale_info_bytes.specs.Encodings.{HasNoPrefix, IfMalformed};
+ghost use Rattle.scale_info_transcode.specs.Transcodings.{WritesOne};
+
+use json::Writer;
+use scale_info_codec::{DecodeError, Scale};
+use std::alloc::Global;
+
+/// A value whose JSON text is written straight from its bytes.
+pub trait Transcode: Scale {
+    /// The tree that is written for the value.
+    ghost written: { Self → Data };
+
+    /// Reads the value at the start of the input, writes its JSON text, and returns the rest.
+    ///
+    /// Errors: `Malformed`, if no prefix of the input encodes a value; `Memory`, if an allocation
+    /// failed.
+    fn transcode<'a>(
+        alloc: Global,
+        input: &'a [u8],
+        out: &mut Writer,
+    ) -> Result<&'a [u8], DecodeError>
+        ensures before { OnOk result (out.new.before ≡ out.old.before) }
+        ensures ok { IfOk result (λ rest. WritesOne Self.encodes written
+            input.now rest.now out.old.tokens out.new.tokens) }
+        ensures malformed { IfErr result (IfMalformed (HasNoPrefix Self.encodes input.now)) };
+}
