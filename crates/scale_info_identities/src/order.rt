@@ -4,7 +4,7 @@
 //! indices are kept in chunks, so that one more moves those of one chunk only.
 ghost use Rattle.std.specs.List.{All, concat};
 ghost use Rattle.std.specs.Prelude.{◌≡◌, ◌≢◌, ◌∷◌, ◌++◌, ◌+◌, ◌<◌, ◌≤◌, ◌↔◌, ℕ, List, [], Some};
-ghost use Rattle.std.specs.Prelude.{IfOk, IfErr, OnOk, OnErr, IsTrue, length, map, slice_get};
+ghost use Rattle.std.specs.Prelude.{IfOk, IfErr, IfSome, OnOk, OnErr, IsTrue, length, map, slice_get};
 ghost use Rattle.std.specs.declared.cmp.Ordering.TheVariants.{Less, Equal, Greater};
 ghost use Rattle.scale_info_identities.specs.Orders.{against, first_against, before, after};
 ghost use Rattle.scale_info_identities.specs.Orders.{IsFoundAt, IsGapFor, IsOrder};
@@ -12,11 +12,8 @@ ghost use Rattle.scale_info_identities.specs.Orders.{IsFoundAt, IsGapFor, IsOrde
 use std::alloc::{AllocError, Global};
 use std::cmp::Ordering;
 
-/// A chunk with this many indices is split before it grows further.
+/// A chunk with fewer indices than this is never split.
 const FULL: usize = 512;
-
-/// How many of its indices a chunk keeps that is split.
-const HALF: usize = 256;
 
 /// A place in an order: the number of a chunk, and where in it.
 #[derive(Clone, Copy)]
@@ -158,6 +155,21 @@ fn alone(alloc: Global, index: u32) -> Result<Vec<u32>, AllocError>
     Ok(chunk)
 }
 
+/// How many of its indices a chunk keeps when it is split; None while it may grow.
+///
+/// A split moves the headers of the chunks behind it, and pays for that by the insertions before
+/// it. So where there are many chunks, a chunk grows until its length times 24 is the number of
+/// chunks over its length: an insertion then moves some 20 KB in the largest interner, which is
+/// less than its search costs.
+fn half_of_full(len: usize, chunks: usize) -> Option<usize>
+    ensures { IfSome result (λ half. (0 < half) × (half < len)) }
+{
+    if len < FULL || len / 24 < chunks / len {
+        return None;
+    }
+    Some(len / 2)
+}
+
 /// Splits a chunk in two, if it is full. Where an allocation fails, it stays as it is.
 pub fn split_full(alloc: Global, chunks: &mut Vec<Vec<u32>>, chunk: usize)
     ensures joined { concat (map (λ v. v.items) chunks.new.items)
@@ -168,15 +180,15 @@ pub fn split_full(alloc: Global, chunks: &mut Vec<Vec<u32>>, chunk: usize)
     let Some(first) = chunks.get(chunk) else {
         return;
     };
-    if first.len() < FULL {
+    let Some(half) = half_of_full(first.len(), chunks.len()) else {
         return;
-    }
-    let (_, rest) = first.split_at(HALF);
+    };
+    let (_, rest) = first.split_at(half);
     let Ok(second) = Vec::from_slice(alloc, rest) else {
         return;
     };
     if chunks.insert(chunk + 1, second).is_ok() {
-        chunks[chunk].truncate(HALF);
+        chunks[chunk].truncate(half);
     }
 }
 

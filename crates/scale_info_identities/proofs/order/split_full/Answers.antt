@@ -1,4 +1,4 @@
-use Rattle.std.proofs.Common.{rules, ◌≡◌, ◌≢◌, ◌+◌, ◌≤◌, suc, [], Some, slice_get, take, drop, length, get_or, arith, ap, ◌∙◌}
+use Rattle.std.proofs.Common.{rules, ◌≡◌, ◌≢◌, ◌+◌, ◌<◌, suc, [], Some, slice_get, take, drop, length, get_or, arith, ap, ◌∙◌}
 use Rattle.std.specs.List.{insert}
 use Rattle.std.proofs.lemmas.Grind.{common_steps}
 use Rattle.std.proofs.lemmas.List.Edits.{get_or-insert_below}
@@ -16,7 +16,7 @@ made c =
     let next : c.args.chunk + 1 ≡ suc c.args.chunk = omega arith in
     put ∙ ap (λ n. insert c.args.chunks.now.items n c.in-Ok.second) next
 
-first_half : (c : goal.After-chunks-1) → c.truncate.new.self.items ≡ take 256 c.in-Some.first.now.items
+first_half : (c : goal.After-chunks-1) → c.truncate.new.self.items ≡ take c.in-Some-half_of_full.half c.in-Some.first.now.items
 first_half c =
     let vs = c.args.chunks.now.items in
     let i = c.args.chunk in
@@ -28,28 +28,32 @@ first_half c =
     ∙ get_or-insert_below vs (suc i) c.in-Ok.second c.index_mut.result.now i (omega arith)
     (omega (arith, within))
     ∙ get_or_from_slice_get vs i first c.index_mut.result.now (there c) in
-    c.truncate.ensures.items ∙ ap (λ t. take 256 t.items) same
+    c.truncate.ensures.items ∙ ap (λ t. take c.in-Some-half_of_full.half t.items) same
 
-second_half : (c : goal.After-chunks-1) → c.in-Ok.second.items ≡ drop 256 c.in-Some.first.now.items
+second_half : (c : goal.After-chunks-1) → c.in-Ok.second.items ≡ drop c.in-Some-half_of_full.half c.in-Some.first.now.items
 second_half c =
-    c.in-Ok.ensures.items ∙ c.split_at.ensures.back ∙ ap (λ t. drop 256 t) c.deref-2.ensures.value
+    c.in-Ok.ensures.items ∙ c.split_at.ensures.back ∙ ap (λ t. drop c.in-Some-half_of_full.half t) c.deref-2.ensures.value
 
-long : (c : goal.After-chunks-1) → 512 ≤ length c.in-Some.first.now.items
-long c = grind (arith, rules, c.if-len-lt-FULL.false)
+inside : (c : goal.After-chunks-1) → (0 < c.in-Some-half_of_full.half)
+    × (c.in-Some-half_of_full.half < length c.in-Some.first.now.items)
+inside c = search rules
 
 pub returns-then-is_ok-clause-joined : goal.returns-then-is_ok-clause-joined
 returns-then-is_ok-clause-joined c =
-    rw (made c) (split_joined (λ v. v.items) c.args.chunks.now.items c.args.chunk 256
-    c.in-Some.first.now c.truncate.new.self c.in-Ok.second (there c) (first_half c) (second_half c))
+    rw (made c) (split_joined (λ v. v.items) c.args.chunks.now.items c.args.chunk
+    c.in-Some-half_of_full.half c.in-Some.first.now c.truncate.new.self c.in-Ok.second (there c)
+    (first_half c) (second_half c))
 
 pub returns-then-is_ok-clause-filled : goal.returns-then-is_ok-clause-filled
 returns-then-is_ok-clause-filled c = λ all.
     let items = c.in-Some.first.now.items in
-    let enough = long c in
-    let short = length-take-le 256 items (omega (arith, enough)) in
-    let rest = length-drop 256 items in
+    let half = c.in-Some-half_of_full.half in
+    let above = (inside c).0 in
+    let below = (inside c).1 in
+    let short = length-take-le half items (omega (arith, below)) in
+    let rest = length-drop half items in
     rw (made c) (split_filled (λ v. v.items) (λ v. v ≢ []) c.args.chunks.now.items c.args.chunk
     c.truncate.new.self c.in-Ok.second
-    (some_items c.truncate.new.self.items (rw (first_half c) (omega (arith, short))))
-    (some_items c.in-Ok.second.items (rw (second_half c) (omega (arith, rest, enough))))
+    (some_items c.truncate.new.self.items (rw (first_half c) (omega (arith, short, above))))
+    (some_items c.in-Ok.second.items (rw (second_half c) (omega (arith, rest, below))))
     all (slice_get_within c.args.chunks.now.items c.args.chunk c.in-Some.first.now (there c)))
