@@ -18,10 +18,10 @@ fn built(alloc: Global, table: PortableRegistry) -> Result<PortableRegistryBuild
     Ok(builder)
 }
 
-/// The builder of fifteen sequences, whose map of indices needs room for one more.
-fn fifteen(alloc: Global) -> Result<PortableRegistryBuilder, Fail> {
+/// The builder of a sequence of each type from 1000 on, up to but not including an end.
+fn sequences(alloc: Global, end: u32) -> Result<PortableRegistryBuilder, Fail> {
     let mut builder = PortableRegistryBuilder::new(alloc);
-    for id in 1000..1015 {
+    for id in 1000..end {
         builder.register_type(Type::from_def(alloc, sequence(id)))?;
     }
     Ok(builder)
@@ -62,9 +62,16 @@ fn register(
     Outcome::lending(before, after, shown(rt.alloc(), returned))
 }
 
-/// Registers the last description of a table after fifteen others.
+/// Registers the last description of a table after fifteen others, behind which there is room.
 pub fn register_type(rt: &HostRuntime, row: &str) -> Result<Outcome, Fail> {
-    let builder = fifteen(rt.alloc())?;
+    let builder = sequences(rt.alloc(), 1015)?;
+    register(rt, builder, last_of(rt.alloc(), row)?)
+}
+
+/// Registers the last description of a table after sixteen others, which leave no room for one
+/// more, and none for its index.
+pub fn register_seventeenth_type(rt: &HostRuntime, row: &str) -> Result<Outcome, Fail> {
+    let builder = sequences(rt.alloc(), 1016)?;
     register(rt, builder, last_of(rt.alloc(), row)?)
 }
 

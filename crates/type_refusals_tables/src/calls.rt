@@ -34,6 +34,9 @@ fn call_of_walks(rt: &HostRuntime, name: &str, input: &str) -> Option<Result<Out
         "Refs::prepend_of" => prunings::prepend(rt, input),
         "PortableRegistryBuilder::register_type" => builders::register_type(rt, input),
         "PortableRegistryBuilder::register_first_type" => builders::register_first_type(rt, input),
+        "PortableRegistryBuilder::register_seventeenth_type" => {
+            builders::register_seventeenth_type(rt, input)
+        }
         "PortableRegistryBuilder::finish" => builders::finish(rt, input),
         _ => return call_of_registries(rt, name, input),
     };
