@@ -1,34 +1,76 @@
-//! Bytes that are tested for UTF-8. Most strings of a table are short and ASCII, and for these a test
-//! for ASCII is shorter than the whole test.
-ghost use Rattle.std.specs.Prelude.{◌≡◌, ◌↔◌, ◌<◌, EachIndex, IsTrue, IsUtf8, MatchResult};
-ghost use Rattle.std.specs.Prelude.{slice_index};
+//! Bytes that are tested for UTF-8. Most strings of a table are ASCII and no longer than a line of
+//! docs, and for these a test for ASCII by blocks is shorter than the whole test.
+ghost use Rattle.std.specs.Prelude.{◌≡◌, ◌<◌, ◌≤◌, ◌+◌, ℕ, IsTrue, IsUtf8, MatchResult};
+ghost use Rattle.std.specs.Prelude.{length, slice_index, take};
 ghost use Rattle.std.specs.Str.{IsAscii, IsValidUpTo, valid_up_to};
 
+use std::simd::prelude::*;
 use std::str::Utf8Error;
 
-/// From so many bytes on, the standard library's test is as fast, which goes by words too.
-const LONG: usize = 16;
+/// From so many bytes on, the standard library's test is as fast, which goes by blocks too.
+const LONG: usize = 256;
 
-/// Whether each byte is ASCII, byte by byte.
-fn is_ascii_by_bytes(bytes: &[u8]) -> bool
-    ensures { IsTrue result ↔ EachIndex bytes.now (λ k. slice_index bytes.now k < 128) }
+/// Whether N bytes are ASCII, the first of which is at a place.
+#[inline(always)]
+fn is_ascii_block<const N: usize>(bytes: &[u8], at: usize) -> bool
+    requires { (N ≤ 64) × (at + N ≤ length bytes.now) }
+    ensures { IsTrue result → (i : ℕ) → at ≤ i → i < at + N → slice_index bytes.now i < 128 }
 {
-    bytes.iter().all(|byte| *byte < 128)
+    let block = Simd::<u8, N>::from_slice(&bytes[at..]);
+    block.simd_ge(Simd::splat(0x80)).to_bitmask() == 0
 }
 
-/// Whether each byte is ASCII. True only if it is so.
-#[inline]
-fn is_ascii(bytes: &[u8]) -> bool
-    ensures { IsTrue result → IsAscii bytes.now }
+/// How many bytes at the start are seen to be ASCII, by blocks of N. The last block may overlap the
+/// one before it.
+#[inline(always)]
+fn ascii_len_by<const N: usize>(bytes: &[u8]) -> usize
+    requires { (0 < N) × (N ≤ 64) × (N ≤ length bytes.now) }
+    ensures bound { result ≤ length bytes.now }
+    ensures ascii { (i : ℕ) → i < result → slice_index bytes.now i < 128 }
 {
-    let mut rest = bytes;
-    while let [a, b, c, d, e, f, g, h, more @ ..] = rest {
-        if (*a | *b | *c | *d | *e | *f | *g | *h) >= 128 {
-            return false;
+    let last = bytes.len() - N;
+    let mut at = 0;
+    while at < last {
+        if !is_ascii_block::<N>(bytes, at) {
+            return at;
         }
-        rest = more;
+        at += N;
     }
-    is_ascii_by_bytes(rest)
+    if is_ascii_block::<N>(bytes, last) {
+        bytes.len()
+    } else {
+        at
+    }
+}
+
+/// How many bytes at the start are seen to be ASCII: all of them, if all are.
+#[inline]
+fn ascii_len(bytes: &[u8]) -> usize
+    ensures bound { result ≤ length bytes.now }
+    ensures ascii { IsAscii (take result bytes.now) }
+{
+    match bytes.len() {
+        0..=3 => bytes.iter().take_while(|byte| **byte < 128).count(),
+        4..=7 => ascii_len_by::<4>(bytes),
+        8..=15 => ascii_len_by::<8>(bytes),
+        _ => ascii_len_by::<16>(bytes),
+    }
+}
+
+/// Whether the bytes are UTF-8, of which so many at the start are ASCII.
+#[inline]
+fn is_utf8_after(ascii: usize, bytes: &[u8]) -> bool
+    requires bound { ascii ≤ length bytes.now }
+    requires ascii { IsAscii (take ascii bytes.now) }
+    ensures { IsTrue result → IsUtf8 bytes.now }
+{
+    if ascii == bytes.len() {
+        return true;
+    }
+    match str::from_utf8(&bytes[ascii..]) {
+        Ok(_) => true,
+        Err(_) => false,
+    }
 }
 
 /// The string that the bytes are, as `str::from_utf8` of the standard library returns it.
@@ -39,7 +81,7 @@ pub fn from_utf8(bytes: &[u8]) -> Result<&str, Utf8Error>
     ensures cases { MatchResult result (λ text. (text.now ≡ bytes.now) × IsUtf8 bytes.now)
         (λ e. ¬ (IsUtf8 bytes.now) × IsValidUpTo bytes.now (valid_up_to e)) }
 {
-    if bytes.len() < LONG && is_ascii(bytes) {
+    if bytes.len() < LONG && is_utf8_after(ascii_len(bytes), bytes) {
         return Ok(unsafe { str::from_utf8_unchecked(bytes) });
     }
     str::from_utf8(bytes)
