@@ -1,5 +1,5 @@
 //! Strings as bytes.
-ghost use Rattle.std.specs.Prelude.{◌≡◌, IfOk, IfErr, OnOk, OnErr};
+ghost use Rattle.std.specs.Prelude.{◌≡◌, IfOk, IfErr, IfSome, IfNone, OnOk, OnErr};
 ghost use Rattle.scale_info_bytes.specs.Encodings.{AppendsEncoding, HasPrefix, IsPrefix};
 ghost use Rattle.scale_info_bytes.specs.Encodings.{HasNoPrefix, HasNoEncoding, IfTooLong};
 ghost use Rattle.scale_info_bytes.specs.Encodings.{IfMalformed};
@@ -39,7 +39,29 @@ pub fn encode_text(out: &mut Vec<u8>, text: &str) -> Result<(), EncodeError>
     truncate_on_err(out, start, written)
 }
 
-/// The string at the start of the input, and the rest.
+/// The string at the start of the input, which stays where it is, and the rest; None, if no prefix
+/// of the input encodes a string.
+#[inline]
+pub fn decode_str(input: &[u8]) -> Option<(&str, &[u8])>
+    ensures some { IfSome result
+        (λ found. HasPrefix (EncodesText found.0.now) input.now found.1.now) }
+    ensures none { IfNone result (HasNoPrefix EncodesText input.now) }
+{
+    let Some((count, rest)) = decode_compact(input) else {
+        return None;
+    };
+    let count = count as usize;
+    if rest.len() < count {
+        return None;
+    }
+    let (bytes, rest) = rest.split_at(count);
+    match from_utf8(bytes) {
+        Ok(text) => Some((text, rest)),
+        Err(_) => None,
+    }
+}
+
+/// A copy of the string at the start of the input, and the rest.
 ///
 /// Errors: `Malformed`, if no prefix of the input encodes a string; `Memory`, if an allocation
 /// failed.
@@ -47,18 +69,8 @@ pub fn decode_text(alloc: Global, input: &[u8]) -> Result<(Text, &[u8]), DecodeE
     ensures ok { IfOk result (λ found. HasPrefix (EncodesText found.0) input.now found.1.now) }
     ensures malformed { IfErr result (IfMalformed (HasNoPrefix EncodesText input.now)) }
 {
-    match decode_compact(input) {
+    match decode_str(input) {
         None => Err(DecodeError::Malformed),
-        Some((count, rest)) => {
-            let count = count as usize;
-            if rest.len() < count {
-                return Err(DecodeError::Malformed);
-            }
-            let (bytes, rest) = rest.split_at(count);
-            match from_utf8(bytes) {
-                Ok(text) => Ok((Text::from(String::from_str(alloc, text)?), rest)),
-                Err(_) => Err(DecodeError::Malformed),
-            }
-        }
+        Some((text, rest)) => Ok((Text::from(String::from_str(alloc, text)?), rest)),
     }
 }

@@ -7,8 +7,7 @@ ghost use Rattle.scale_info_bytes.specs.Strings.{EncodesText};
 
 use crate::transcode::Transcode;
 use json::Writer;
-use scale_info_bytes::number::decode_compact;
-use scale_info_bytes::utf8::from_utf8;
+use scale_info_bytes::text;
 use scale_info_codec::DecodeError;
 use scale_info_collections::text::Text;
 use std::alloc::Global;
@@ -20,19 +19,9 @@ pub fn decode_str(input: &[u8]) -> Result<(&str, &[u8]), DecodeError>
     ensures ok { IfOk result (λ found. HasPrefix (EncodesText found.0.now) input.now found.1.now) }
     ensures malformed { IfErr result (IfMalformed (HasNoPrefix EncodesText input.now)) }
 {
-    match decode_compact(input) {
+    match text::decode_str(input) {
+        Some(found) => Ok(found),
         None => Err(DecodeError::Malformed),
-        Some((count, rest)) => {
-            let count = count as usize;
-            if rest.len() < count {
-                return Err(DecodeError::Malformed);
-            }
-            let (bytes, rest) = rest.split_at(count);
-            match from_utf8(bytes) {
-                Ok(text) => Ok((text, rest)),
-                Err(_) => Err(DecodeError::Malformed),
-            }
-        }
     }
 }
 
