@@ -41,7 +41,7 @@ pub fn encode_text(out: &mut Vec<u8>, text: &str) -> Result<(), EncodeError>
 
 /// The string at the start of the input, which stays where it is, and the rest; None, if no prefix
 /// of the input encodes a string.
-#[inline]
+#[inline(always)]
 pub fn decode_str(input: &[u8]) -> Option<(&str, &[u8])>
     ensures some { IfSome result
         (λ found. HasPrefix (EncodesText found.0.now) input.now found.1.now) }

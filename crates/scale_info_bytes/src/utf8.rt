@@ -7,9 +7,6 @@ ghost use Rattle.std.specs.Str.{IsAscii, IsValidUpTo, valid_up_to};
 use std::simd::prelude::*;
 use std::str::Utf8Error;
 
-/// From so many bytes on, the standard library's test is as fast, which goes by blocks too.
-const LONG: usize = 256;
-
 /// Whether N bytes are ASCII, the first of which is at a place.
 #[inline(always)]
 fn is_ascii_block<const N: usize>(bytes: &[u8], at: usize) -> bool
@@ -43,8 +40,9 @@ fn ascii_len_by<const N: usize>(bytes: &[u8]) -> usize
     }
 }
 
-/// How many bytes at the start are seen to be ASCII: all of them, if all are.
-#[inline]
+/// How many bytes at the start are seen to be ASCII: all of them, if all are, below 256 bytes. From
+/// there on none is looked at, since the standard library's test is as fast, which goes by blocks too.
+#[inline(always)]
 fn ascii_len(bytes: &[u8]) -> usize
     ensures bound { result ≤ length bytes.now }
     ensures ascii { IsAscii (take result bytes.now) }
@@ -53,36 +51,49 @@ fn ascii_len(bytes: &[u8]) -> usize
         0..=3 => bytes.iter().take_while(|byte| **byte < 128).count(),
         4..=7 => ascii_len_by::<4>(bytes),
         8..=15 => ascii_len_by::<8>(bytes),
-        _ => ascii_len_by::<16>(bytes),
+        16..=255 => ascii_len_by::<16>(bytes),
+        _ => 0,
     }
 }
 
 /// Whether the bytes are UTF-8, of which so many at the start are ASCII.
-#[inline]
 fn is_utf8_after(ascii: usize, bytes: &[u8]) -> bool
-    requires bound { ascii ≤ length bytes.now }
     requires ascii { IsAscii (take ascii bytes.now) }
+    requires bound { ascii ≤ length bytes.now }
     ensures { IsTrue result → IsUtf8 bytes.now }
 {
-    if ascii == bytes.len() {
-        return true;
-    }
     match str::from_utf8(&bytes[ascii..]) {
         Ok(_) => true,
         Err(_) => false,
     }
 }
 
+/// The string that the bytes are, of which so many at the start are ASCII. Out of line, so that a
+/// string that is all ASCII costs no call.
+#[inline(never)]
+fn from_utf8_after(ascii: usize, bytes: &[u8]) -> Result<&str, Utf8Error>
+    requires ascii { IsAscii (take ascii bytes.now) }
+    requires bound { ascii ≤ length bytes.now }
+    ensures cases { MatchResult result (λ text. (text.now ≡ bytes.now) × IsUtf8 bytes.now)
+        (λ e. ¬ (IsUtf8 bytes.now) × IsValidUpTo bytes.now (valid_up_to e)) }
+{
+    if 0 < ascii && is_utf8_after(ascii, bytes) {
+        return Ok(unsafe { str::from_utf8_unchecked(bytes) });
+    }
+    str::from_utf8(bytes)
+}
+
 /// The string that the bytes are, as `str::from_utf8` of the standard library returns it.
 ///
 /// Errors: that of the standard library, if the bytes are not UTF-8.
-#[inline]
+#[inline(always)]
 pub fn from_utf8(bytes: &[u8]) -> Result<&str, Utf8Error>
     ensures cases { MatchResult result (λ text. (text.now ≡ bytes.now) × IsUtf8 bytes.now)
         (λ e. ¬ (IsUtf8 bytes.now) × IsValidUpTo bytes.now (valid_up_to e)) }
 {
-    if bytes.len() < LONG && is_utf8_after(ascii_len(bytes), bytes) {
+    let ascii = ascii_len(bytes);
+    if ascii == bytes.len() {
         return Ok(unsafe { str::from_utf8_unchecked(bytes) });
     }
-    str::from_utf8(bytes)
+    from_utf8_after(ascii, bytes)
 }
