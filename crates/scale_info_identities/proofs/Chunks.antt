@@ -94,6 +94,20 @@ module _ {V : Type 0} (row : V → List ℕ) where
   split_joined (u ∷ vs) (suc c) half v w z p e f =
       ap (λ t. row u ++ t) (split_joined vs c half v w z p e f)
 
+  -- two chunks joined in one
+  pub merge_joined :
+      (vs : List V) (c : ℕ) (v w z : V) → slice_get vs c ≡ Some v → slice_get vs (suc c) ≡ Some z
+      → row w ≡ row v ++ row z
+      → concat (map row (set (remove vs (suc c)) c w)) ≡ concat (map row vs)
+  merge_joined [] c v w z p q e = cc
+  merge_joined (u ∷ []) zero v w z p q e = cc
+  merge_joined (u ∷ y ∷ vs) zero v w z p q e =
+      let rest = concat (map row vs) in
+      ap (λ t. t ++ rest) (e ∙ ap (λ t. t ++ row z) (ap row (sym (same_Some u v p))) ∙ ap (λ t. row u ++ row t) (sym (same_Some y z q)))
+      ∙ append_assoc (row u) (row y) rest
+  merge_joined (u ∷ vs) (suc c) v w z p q e =
+      ap (λ t. row u ++ t) (merge_joined vs c v w z p q e)
+
   -- ---- what holds of each chunk
 
   module _ (P : List ℕ → Type 0) where
@@ -118,6 +132,29 @@ module _ {V : Type 0} (row : V → List ℕ) where
     dropped_filled (u ∷ vs) (suc c) w all =
         All-cons P (row u) (map row (remove (set vs c w) c)) (All-head P (row u) (map row vs) all)
         (dropped_filled vs c w (All-tail P (row u) (map row vs) all))
+
+    -- of a chunk at a place
+    pub filled_at :
+        (vs : List V) (c : ℕ) (v : V) → All P (map row vs) → slice_get vs c ≡ Some v → P (row v)
+    filled_at [] c v all p = cc
+    filled_at (u ∷ vs) zero v all p =
+        subst (λ x. P (row x)) (same_Some u v p) (All-head P (row u) (map row vs) all)
+    filled_at (u ∷ vs) (suc c) v all p =
+        filled_at vs c v (All-tail P (row u) (map row vs) all) p
+
+    -- of one that is written where the next is taken out
+    pub merge_filled :
+        (vs : List V) (c : ℕ) (w : V) → P (row w) → All P (map row vs)
+        → All P (map row (set (remove vs (suc c)) c w))
+    merge_filled [] c w h all = all
+    merge_filled (u ∷ []) zero w h all = set_filled (u ∷ []) zero w h all
+    merge_filled (u ∷ y ∷ vs) zero w h all =
+        All-cons P (row w) (map row vs) h
+        (All-tail P (row y) (map row vs) (All-tail P (row u) (row y ∷ map row vs) all))
+    merge_filled (u ∷ vs) (suc c) w h all =
+        All-cons P (row u) (map row (set (remove vs (suc c)) c w))
+        (All-head P (row u) (map row vs) all)
+        (merge_filled vs c w h (All-tail P (row u) (map row vs) all))
 
     -- of both halves of one that is split
     pub split_filled :
@@ -193,3 +230,8 @@ no_items (x ∷ xs) e = absurd (omega (arith, e))
 pub some_items : {X : Type 0} (xs : List X) → 0 < length xs → xs ≢ []
 some_items [] l e = omega (arith, l)
 some_items (x ∷ xs) l e = cc
+
+-- a list that begins with one that is not empty is not
+pub filled_before : {X : Type 0} (xs ys : List X) → xs ≢ [] → xs ++ ys ≢ []
+filled_before [] ys some h = some refl
+filled_before (x ∷ xs) ys some h = cc

@@ -9,7 +9,7 @@ ghost use Rattle.scale_info_identities.specs.Interned.{IsIndexOf, IsKnown, IsNew
 ghost use Rattle.scale_info_identities.specs.Orders.{IsOrder, before, after};
 ghost use Rattle.scale_info_identities.specs.declared.interner.InternError.TheVariants.{Memory};
 
-use crate::order::{Place, find, insert, locate, remove, split_full};
+use crate::order::{Place, find, insert, locate, merge_small, remove, split_full};
 use scale_info_collections::try_clone::TryClone;
 use std::alloc::{AllocError, AllocFailed, Global};
 use std::marker::{Model, PhantomData};
@@ -295,6 +295,7 @@ fn drop_last<T: Ord + Drop>(elements: &mut Vec<T>, chunks: &mut Vec<Vec<u32>>)
         unreachable!()
     };
     remove(chunks, place);
+    merge_small(chunks, place.chunk);
     elements.pop();
 }
 

@@ -5,6 +5,7 @@
 ghost use Rattle.std.specs.List.{All, concat};
 ghost use Rattle.std.specs.Prelude.{◌≡◌, ◌≢◌, ◌∷◌, ◌++◌, ◌+◌, ◌<◌, ◌≤◌, ◌↔◌, ℕ, List, [], Some};
 ghost use Rattle.std.specs.Prelude.{IfOk, IfErr, IfSome, OnOk, OnErr, IsTrue, length, map, slice_get};
+ghost use Rattle.std.specs.Prelude.{vec_capacity, vec_len};
 ghost use Rattle.std.specs.declared.cmp.Ordering.TheVariants.{Less, Equal, Greater};
 ghost use Rattle.scale_info_identities.specs.Orders.{against, first_against, before, after};
 ghost use Rattle.scale_info_identities.specs.Orders.{IsFoundAt, IsGapFor, IsOrder};
@@ -207,5 +208,57 @@ pub fn remove(chunks: &mut Vec<Vec<u32>>, place: Place)
     chunk.remove(place.at);
     if chunk.is_empty() {
         chunks.remove(place.chunk);
+    }
+}
+
+/// Joins a chunk with the ones beside it, as far as they are small. Does not allocate.
+///
+/// So the room of the chunks follows the number of indices: no two chunks in a row hold less than
+/// a half of the first one's room, or of a full chunk. A chunk that was joined takes as many more
+/// indices as it has, and more, before it is split.
+pub fn merge_small(chunks: &mut Vec<Vec<u32>>, chunk: usize)
+    ensures joined { concat (map (λ v. v.items) chunks.new.items)
+        ≡ concat (map (λ v. v.items) chunks.old.items) }
+    ensures filled { All (λ c. c ≢ []) (map (λ v. v.items) chunks.old.items)
+        → All (λ c. c ≢ []) (map (λ v. v.items) chunks.new.items) }
+{
+    merge_next(chunks, chunk);
+    if let Some(before) = chunk.checked_sub(1) {
+        merge_next(chunks, before);
+    }
+}
+
+/// Moves the indices of the next chunk behind those of a chunk, and drops it, if both are small.
+fn merge_next(chunks: &mut Vec<Vec<u32>>, chunk: usize)
+    ensures joined { concat (map (λ v. v.items) chunks.new.items)
+        ≡ concat (map (λ v. v.items) chunks.old.items) }
+    ensures filled { All (λ c. c ≢ []) (map (λ v. v.items) chunks.old.items)
+        → All (λ c. c ≢ []) (map (λ v. v.items) chunks.new.items) }
+{
+    if !is_small_with_next(chunks, chunk) {
+        return;
+    }
+    let next = chunks.remove(chunk + 1);
+    if chunks[chunk].extend_from_slice(&next).is_err() {
+        unreachable!()
+    }
+}
+
+/// Whether a chunk and the next are small: both fill a half of the room of the first one, or of a
+/// full chunk, at most.
+fn is_small_with_next(chunks: &[Vec<u32>], chunk: usize) -> bool
+    ensures { IsTrue result → (first : _) × (next : _)
+        × (slice_get chunks.now chunk ≡ Some first) × (slice_get chunks.now (chunk + 1) ≡ Some next)
+        × (vec_len first + vec_len next ≤ vec_capacity first) }
+{
+    let Some(first) = chunks.get(chunk) else {
+        return false;
+    };
+    let Some(next) = chunks.get(chunk + 1) else {
+        return false;
+    };
+    match (first.capacity().min(FULL) / 2).checked_sub(first.len()) {
+        Some(room) => next.len() <= room,
+        None => false,
     }
 }
