@@ -90,7 +90,7 @@ pub fn discover<'a>(
 }
 
 /// The same as [`discover`], which also returns the descriptions of what is new, in the order of
-/// the numbers, and notes a hint for each of their references.
+/// the numbers, and notes a hint for each pending type and for each of their references.
 ///
 /// Errors: as those of [`discover`].
 pub fn discover_hinted<'a>(
@@ -109,7 +109,7 @@ pub fn discover_hinted<'a>(
         (stacked pending.entry.items)) }
 {
     let _distinct = identities.elements();
-    hints.pass_over(pending.len())?;
+    hints.expect(pending.len())?;
     let mut found = none_of(alloc, catalogue);
     while let Some(next) = pending.pop() {
         let (number, new) = number_new(alloc, identities, next.type_id(), catalogue)?;

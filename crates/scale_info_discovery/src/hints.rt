@@ -1,10 +1,11 @@
-//! Hints: the numbers that the references of new descriptions had when they were met.
+//! Hints: the numbers that pending types and references of new descriptions had when they were met.
 ghost use Rattle.std.specs.Prelude.{◌≡◌, []};
 
 use std::alloc::{AllocError, Global};
 use std::marker::Model;
 
-/// A number for each reference of the descriptions that [`discover_hinted`] found, in the order in
+/// A number for each type that was pending when [`discover_hinted`] began, in the order in which
+/// they are taken, and then for each reference of the descriptions that it found, in the order in
 /// which these got their numbers, and in each the order of its references.
 ///
 /// A hint saves a search and proves nothing: no clause says what it is, and whoever reads one
@@ -51,14 +52,6 @@ impl Hints {
         }
         let first = self.places.len().saturating_sub(count);
         self.places[first..].reverse();
-        Ok(())
-    }
-
-    /// Makes room for so many references that get no hint.
-    pub(crate) fn pass_over(&mut self, count: usize) -> Result<(), AllocError> {
-        for _ in 0..count {
-            self.places.push(usize::MAX)?;
-        }
         Ok(())
     }
 

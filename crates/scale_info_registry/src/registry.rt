@@ -47,6 +47,7 @@ ghost use Rattle.scale_info_registry.specs.Registrations.{
   HasIds,
   Keeps,
   IsConverted,
+  index_in,
 };
 ghost use Rattle.scale_info_discovery.specs.declared.discovery.RegisterError.TheVariants.{
   Memory,
@@ -59,6 +60,7 @@ use scale_info_discovery::hints::Hints;
 use scale_info_identities::interner::{Interner, UntrackedSymbol};
 use scale_info_identities::type_id::TypeId;
 use scale_info_references::conversion::{Numbers, convert};
+use scale_info_references::references::references_of_types;
 use scale_info_types::form::PortableForm;
 use scale_info_types::meta_type::MetaType;
 use scale_info_types::ty::Type;
@@ -145,9 +147,12 @@ impl Registry {
             return Ok(symbol.into_untracked());
         }
         let alloc = *self.types.allocator();
-        self.register(alloc, alone(alloc, ty)?, catalogue)?;
-        let ids = Identities {
+        let mut hints = Hints::new(alloc);
+        self.register(alloc, alone(alloc, ty)?, catalogue, &mut hints)?;
+        let ids = HintedIdentities {
             interner: &self.identities,
+            hints: hints.numbers(),
+            next: &Cell::new(0),
         };
         Ok(ids.id(ty))
     }
@@ -178,7 +183,47 @@ impl Registry {
             × IsCause (catalogue_system catalogue.now) (nodes_of self.old.identities)
             (roots_of given) e)) }
     {
-        self.map_into_portable(types, catalogue)
+        let given = Vec::from_iter(*self.types.allocator(), types)?;
+        self.register_all(&given, catalogue)
+    }
+
+    /// The ids of types that stay where they are, which are registered in order.
+    ///
+    /// The same as [`Registry::register_types`] of copies of them, without the copies.
+    ///
+    /// Errors: as for [`Registry::register_types`]. On an Err the registry is as before the whole
+    /// call.
+    pub fn register_all(
+        &mut self,
+        types: &[MetaType],
+        catalogue: &Catalogue,
+    ) -> Result<Vec<UntrackedSymbol<TypeId>>, RegisterError>
+        ensures ok { IfOk result (λ symbols.
+            IsRegistration (catalogue_system catalogue.now) self.old (roots_of types.now) self.new
+            × ArePlaces (nodes_of self.new.identities) (roots_of types.now)
+            (map (λ (s : UntrackedSymbol TypeId). s.id) symbols.items)) }
+        ensures kept { Keeps self.old self.new }
+        ensures err { OnErr result (self.new ≡ self.old) }
+        ensures cause { IfErr result (IsCause (catalogue_system catalogue.now)
+            (nodes_of self.old.identities) (roots_of types.now)) }
+    {
+        let alloc = *self.types.allocator();
+        let known = self.types.len();
+        let pending = stack_up(references_of_types(alloc, types)?, Vec::new(alloc))?;
+        let mut hints = Hints::new(alloc);
+        self.register(alloc, pending, catalogue, &mut hints)?;
+        let ids = HintedIdentities {
+            interner: &self.identities,
+            hints: hints.numbers(),
+            next: &Cell::new(0),
+        };
+        match symbols_of(alloc, &ids, types) {
+            Ok(symbols) => Ok(symbols),
+            Err(_) => {
+                cut_back(&mut self.identities, &mut self.types, known);
+                Err(RegisterError::Memory)
+            }
+        }
     }
 
     /// Registers the types that the values hold, in order, and returns the portable forms.
@@ -233,6 +278,17 @@ impl Registry {
         }
     }
 
+    /// The descriptions, in ascending order of id. The identities are dropped. Does not allocate.
+    pub fn into_types(self) -> Vec<Type<PortableForm>>
+        ensures list { result.items ≡ self.types }
+        ensures closed { IsClosedRegistry self }
+        ensures few { length self.types ≤ 4294967295 }
+    {
+        let _bounded = self.identities.elements();
+        let Registry { types, .. } = self;
+        types
+    }
+
     /// Registers the types that a value holds, and puts their ids in place of them.
     pub(crate) fn convert_value<T: HasTypes + Drop>(
         &mut self,
@@ -252,7 +308,7 @@ impl Registry {
         let own = *self.types.allocator();
         let known = self.types.len();
         let pending = stack_up(value.types(alloc)?, Vec::new(alloc))?;
-        self.register(own, pending, catalogue)?;
+        self.register(own, pending, catalogue, &mut Hints::new(own))?;
         let ids = Identities {
             interner: &self.identities,
         };
@@ -291,12 +347,14 @@ impl Registry {
         Ok(outputs)
     }
 
-    /// Registers the types on the stack, the last first. On an Err the registry is as before.
+    /// Registers the types on the stack, the last first, and notes hints for them. On an Err the
+    /// registry is as before.
     fn register<'a>(
         &mut self,
         alloc: Global,
         pending: Vec<&'a MetaType>,
         catalogue: &'a Catalogue,
+        hints: &mut Hints,
     ) -> Result<(), RegisterError>
         ensures ok { OnOk result (IsRegistration (catalogue_system catalogue.now) self.old
             (stacked pending.entry.items) self.new) }
@@ -312,6 +370,7 @@ impl Registry {
             &mut self.types,
             pending,
             catalogue,
+            hints,
         );
         if done.is_err() {
             cut_back(&mut self.identities, &mut self.types, known);
@@ -327,6 +386,7 @@ fn register_in<'a>(
     types: &mut Vec<Type<PortableForm>>,
     pending: Vec<&'a MetaType>,
     catalogue: &'a Catalogue,
+    hints: &mut Hints,
 ) -> Result<(), RegisterError>
     requires { length types.old.items ≡ length identities.old }
     ensures kept { (more : List TypeId) × (identities.new ≡ identities.old ++ more) }
@@ -339,10 +399,27 @@ fn register_in<'a>(
     ensures cause { IfErr result (IsCause (catalogue_system catalogue.now)
         (nodes_of identities.old) (stacked pending.entry.items)) }
 {
-    let mut hints = Hints::new(alloc);
-    let found = discover_hinted(alloc, identities, pending, catalogue, &mut hints)?;
-    describe(alloc, identities, found, hints.numbers(), types)?;
+    let first = pending.len();
+    let found = discover_hinted(alloc, identities, pending, catalogue, hints)?;
+    describe(alloc, identities, found, hints.numbers(), first, types)?;
     Ok(())
+}
+
+/// The ids of types, in order.
+fn symbols_of(
+    alloc: Global,
+    ids: &HintedIdentities<'_>,
+    types: &[MetaType],
+) -> Result<Vec<UntrackedSymbol<TypeId>>, AllocError>
+    ensures { IfOk result (λ symbols. map (λ (s : UntrackedSymbol TypeId). s.id) symbols.items
+        ≡ map (λ ty. index_in ⟦<TypeId as PartialEq>⟧.eq ids.now.interner.now ty.identity)
+        types.now) }
+{
+    let mut symbols = Vec::with_capacity(alloc, types.len())?;
+    for ty in types {
+        symbols.push(ids.id(ty))?;
+    }
+    Ok(symbols)
 }
 
 /// Cuts both lists back to their first so many entries.
@@ -354,12 +431,14 @@ fn cut_back(identities: &mut Interner<TypeId>, types: &mut Vec<Type<PortableForm
     types.truncate(known);
 }
 
-/// Describes the identities that have no description yet, in order, by those that were found.
+/// Describes the identities that have no description yet, in order, by those that were found. The
+/// hints for their references begin with the one at `first`.
 fn describe<'x, 'a>(
     alloc: Global,
     identities: &'x Interner<TypeId>,
     found: Vec<&'a Type>,
     hints: &'x [u32],
+    first: usize,
     types: &mut Vec<Type<PortableForm>>,
 ) -> Result<(), AllocError>
     requires fits { length types.old.items + length found.items ≡ length identities.now }
@@ -370,7 +449,7 @@ fn describe<'x, 'a>(
         → AreFound catalogue (drop (length types.old.items) identities.now) found.entry.items
         → AreDescribed catalogue identities.now (length types.old.items) types.new.items) }
 {
-    let next = Cell::new(0);
+    let next = Cell::new(first);
     let numbers = HintedIdentities {
         interner: identities,
         hints,
