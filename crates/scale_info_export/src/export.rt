@@ -19,7 +19,6 @@ use scale_info_identities::type_id::TypeId;
 use scale_info_registry::registry::{RegisterError, Registry};
 use scale_info_tables::laws::registered_tables;
 use scale_info_tables::portable::PortableRegistry;
-use scale_info_types::form::{Form, MetaForm};
 use scale_info_types::meta_type::MetaType;
 use scale_info_walk::walk::RetainError;
 use std::alloc::{AllocError, AllocFailed, Global};
@@ -159,21 +158,9 @@ fn registered_table(
 {
     registered_tables();
     let mut registry = Registry::new(alloc);
-    let symbols = registry.register_types(copies(alloc, types)?, catalogue)?;
-    let table = PortableRegistry::from_registry(alloc, &registry)?;
+    let symbols = registry.register_all(types, catalogue)?;
+    let table = PortableRegistry::from_finished(alloc, registry)?;
     Ok((table, ids_of(alloc, &symbols)?))
-}
-
-/// Copies of these types.
-fn copies(alloc: Global, types: &[MetaType]) -> Result<Vec<MetaType>, ExportError>
-    ensures ok { IfOk result (λ copied. roots_of copied.items ≡ roots_of types.now) }
-    ensures memory { IfErr result (λ e. e ≡ export_error.Memory) }
-{
-    let mut copied = Vec::with_capacity(alloc, types.len())?;
-    for ty in types {
-        copied.push(MetaForm::copy_type(alloc, ty)?)?;
-    }
-    Ok(copied)
 }
 
 /// The ids of these symbols.

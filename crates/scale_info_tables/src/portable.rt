@@ -69,6 +69,26 @@ impl PortableRegistry {
         Ok(PortableRegistry { types })
     }
 
+    /// The table of a registry that is not needed any more: its descriptions in order, each with its
+    /// index as `id`.
+    ///
+    /// The same as [`from_registry`](PortableRegistry::from_registry), but the descriptions are
+    /// moved into the table, and none is copied.
+    ///
+    /// Errors: `AllocError`, where an allocation for the list of entries failed.
+    pub fn from_finished(alloc: Global, registry: Registry) -> Result<PortableRegistry, AllocError>
+        ensures entries { IfOk result
+            (λ table. table.types ≡ numbered_from 0 registry.types) }
+        ensures long { IfOk result
+            (λ table. length table.types ≡ length registry.identities) }
+        ensures closed { IfOk result (λ table. IsClosed table) }
+        ensures few { IfOk result (λ table. length table.types ≤ 4294967295) }
+    {
+        Ok(PortableRegistry {
+            types: entries::of_descriptions(alloc, registry.into_types())?,
+        })
+    }
+
     /// The description at index `id`, counted from 0; None past the end.
     ///
     /// An id is an index, not the `id` field of a table that was read, which may be any number. The

@@ -7,6 +7,7 @@ ghost use Rattle.scale_info_numberings.specs.Numberings.{AreDistinct};
 ghost use Rattle.scale_info_tables.specs.BuiltTables.{IsUnregistered, numbered_from};
 
 use super::PortableRegistry;
+use super::entries::push_entry;
 use scale_info_collections::items::Items;
 use scale_info_collections::try_clone::TryClone;
 use scale_info_identities::interner::{InternError, Interner};
@@ -127,9 +128,7 @@ fn push_copy(
     ensures { OnOk result (entries.new
         ≡ entries.old ++ numbered_from (length entries.old) (ty.now ∷ [])) }
 {
-    let id = entries.len() as u32;
-    entries.push(PortableType::new(id, ty.try_clone(alloc)?))?;
-    Ok(())
+    push_entry(ty.try_clone(alloc)?, entries)
 }
 
 /// The number of a value in an interner, where it goes last if it is new.

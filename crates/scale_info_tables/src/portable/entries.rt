@@ -1,8 +1,12 @@
 //! The entries of a table, each with its index.
 ghost use Rattle.std.specs.Iterator.{YieldsFirstBy, item_count};
+ghost use Rattle.std.specs.Prelude.{◌≡◌, ◌≤◌, ◌++◌, ◌∷◌, [], length, IfOk, OnOk};
+ghost use Rattle.scale_info_tables.specs.BuiltTables.{numbered_from};
 
+use scale_info_collections::items::Items;
 use scale_info_types::form::PortableForm;
 use scale_info_types::ty::{PortableType, Type};
+use std::alloc::{AllocError, Global};
 use std::marker::Model;
 
 /// The entries of a table, each with the index that references to it have, in ascending order.
@@ -46,4 +50,34 @@ impl<'a> Iterator for Entries<'a> {
     fn size_hint(&self) -> (usize, Option<usize>) {
         (self.types.len(), Some(self.types.len()))
     }
+}
+
+/// Descriptions as the entries of a table, each with its index as its id. They are moved, and none
+/// is copied.
+pub(super) fn of_descriptions(
+    alloc: Global,
+    types: Vec<Type<PortableForm>>,
+) -> Result<Items<PortableType>, AllocError>
+    requires { length types.items ≤ 4294967295 }
+    ensures { IfOk result (λ entries. entries ≡ numbered_from 0 types.items) }
+{
+    let mut entries = Items::with_capacity(alloc, types.len())?;
+    for ty in types {
+        push_entry(ty, &mut entries)?;
+    }
+    Ok(entries)
+}
+
+/// Appends a description, with its index as its id.
+pub(super) fn push_entry(
+    ty: Type<PortableForm>,
+    entries: &mut Items<PortableType>,
+) -> Result<(), AllocError>
+    requires { length entries.old ≤ 4294967295 }
+    ensures { OnOk result (entries.new
+        ≡ entries.old ++ numbered_from (length entries.old) (ty ∷ [])) }
+{
+    let id = entries.len() as u32;
+    entries.push(PortableType::new(id, ty))?;
+    Ok(())
 }

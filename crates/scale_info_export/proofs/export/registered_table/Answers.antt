@@ -1,13 +1,10 @@
-use Rattle.std.proofs.Common.{rules, ◌≡◌, ◌∙◌, [], List, inl, inr, ◌⊎◌, ℕ, ap, sym, subst, map}
+use Rattle.std.proofs.Common.{◌≡◌, ◌∙◌, [], inr, ℕ, ap, sym, subst, map}
 use Rattle.std.proofs.lemmas.Result.{err_from_is_err_and}
-use Rattle.scale_info_identities.specs.TypeIds.{Term}
-use Rattle.scale_info_types.proofs.Iterators.{drained}
 use Rattle.scale_info_types.specs.Portable.{Id}
 use Rattle.scale_info_numberings.specs.Tables.{ArePlaces}
 use Rattle.scale_info_discovery.specs.CatalogueSystems.{catalogue_system}
 use Rattle.scale_info_discovery.specs.Discoveries.{IsCause, nodes_of, roots_of}
 use Rattle.scale_info_registry.specs.Registrations.{IsRegistration, registered}
-use Rattle.scale_info_discovery.specs.declared.discovery.RegisterError.TheVariants as register
 use Rattle.scale_info_export.proofs.Exported.{register_error}
 use Rattle.scale_info_export.proofs.export.registered_table.Goals as goal
 
@@ -15,32 +12,20 @@ pub returns-in_err-symbols-clause-cause : goal.returns-in_err-symbols-clause-cau
 returns-in_err-symbols-clause-cause c =
     let S = catalogue_system c.args.catalogue.now in
     let roots = roots_of c.args.types.now in
-    let p = err_from_is_err_and c.from_residual-in_err-symbols.result c.from_residual-in_err-symbols.ensures.1 in
+    let p = err_from_is_err_and c.from_residual.result c.from_residual.ensures.1 in
     let e = c.in_err-symbols.field-0.0 in
-    let why : (e ≡ register.Memory) ⊎ IsCause S [] roots e =
-    elim c.in_err-symbols.ensures.cause [
-      | inl memory ↦ inl memory
-      | inr k ↦
-          let (given, (iterator, made, drains), cause) = k in
-          let same : given ≡ c.in_ok-copies.field-0.items =
-          drained iterator c.in_ok-copies.field-0.items given made.0 (search rules) drains in
-          inr (subst (λ rs. IsCause S [] rs e) (ap roots_of same ∙ c.in_ok-copies.ensures.ok)
-          (subst (λ r. IsCause S (nodes_of r.identities) (roots_of given) e) c.new-registry.ensures cause))
-    ] in
-    rw (p.1, p.2) (register_error S roots e why)
+    let cause : IsCause S [] roots e =
+    subst (λ r. IsCause S (nodes_of r.identities) roots e) c.new-registry.ensures c.in_err-symbols.ensures.cause in
+    rw (p.1, p.2) (register_error S roots e (inr cause))
 
 pub returns-clause-ok : goal.returns-clause-ok
 returns-clause-ok c =
     let S = catalogue_system c.args.catalogue.now in
     let roots = roots_of c.args.types.now in
-    let after = c.register_types.new.self in
-    let (given, (iterator, made, drains), registration, places) = c.in_ok-symbols.ensures.ok in
-    let same : given ≡ c.in_ok-copies.field-0.items =
-    drained iterator c.in_ok-copies.field-0.items given made.0 (search rules) drains in
-    let rooted : roots_of given ≡ roots = ap roots_of same ∙ c.in_ok-copies.ensures.ok in
+    let after = c.register_all.new.self in
+    let (registration, places) = c.in_ok-symbols.ensures.ok in
     let made : IsRegistration S (registered [] []) roots after =
-    subst (λ rs. IsRegistration S (registered [] []) rs after) rooted
-    (subst (λ r. IsRegistration S r (roots_of given) after) c.new-registry.ensures registration) in
+    subst (λ r. IsRegistration S r roots after) c.new-registry.ensures registration in
     let table =
     c.registered_tables.ensures S roots after c.in_ok-table.table made c.in_ok-table.ensures.entries c.in_ok-table.ensures.long in
     let is_id : Id → ℕ = λ symbol. symbol.id in
@@ -49,9 +34,7 @@ returns-clause-ok c =
     record {
       order = nodes_of after.identities;
       numbering = table.0;
-      places =
-          subst (λ ns. ArePlaces (nodes_of after.identities) roots ns) ids
-          (subst (λ rs. ArePlaces (nodes_of after.identities) rs (map is_id c.in_ok-symbols.symbols.items)) rooted places);
+      places = subst (λ ns. ArePlaces (nodes_of after.identities) roots ns) ids places;
       entries = table.1;
       few = c.in_ok-table.ensures.few;
     }
