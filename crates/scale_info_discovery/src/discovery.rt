@@ -1,6 +1,8 @@
 //! The new identities of a registration, numbered in depth-first order by a list of work.
 ghost use Rattle.std.specs.Option.{option_copied};
-ghost use Rattle.std.specs.Prelude.{◌≡◌, ◌++◌, ◌∷◌, [], List, OnErr, OnOk, IfErr, IfOk, reverse};
+ghost use Rattle.std.specs.Prelude.{◌≡◌, ◌++◌, ◌∷◌, [], List, OnErr, OnOk, IfErr, IfOk, IfSome};
+ghost use Rattle.std.specs.Prelude.{reverse};
+ghost use Rattle.scale_info_identities.specs.Interned.{IsIndexOf};
 ghost use Rattle.scale_info_identities.specs.declared.type_id.TypeId.{TypeId};
 ghost use Rattle.scale_info_numberings.specs.Extensions.{IsExtension};
 ghost use Rattle.scale_info_discovery.specs.CatalogueSystems.{catalogue_system};
@@ -8,7 +10,8 @@ ghost use Rattle.scale_info_discovery.specs.Discoveries.{nodes_of, stacked, AreF
 ghost use Rattle.scale_info_discovery.specs.Discoveries.{IsCause, IsNumbered, IsNumberError};
 ghost use Rattle.scale_info_discovery.specs.declared.discovery.RegisterError.TheVariants.{Memory};
 
-use crate::hints::Hints;
+use crate::hints::{Hints, confirmed};
+use crate::number_cache::NumberCache;
 use scale_info_catalogue::catalogue::Catalogue;
 use scale_info_collections::try_clone::TryClone;
 use scale_info_identities::interner::{InternError, Interner};
@@ -110,9 +113,16 @@ pub fn discover_hinted<'a>(
 {
     let _distinct = identities.elements();
     hints.expect(pending.len())?;
+    let mut cache = NumberCache::new(alloc);
     let mut found = none_of(alloc, catalogue);
     while let Some(next) = pending.pop() {
-        let (number, new) = number_new(alloc, identities, next.type_id(), catalogue)?;
+        let (number, new) = number_cached(
+            alloc,
+            identities,
+            next.type_id(),
+            catalogue,
+            &mut cache,
+        )?;
         hints.meet(number);
         if let Some(described) = new {
             found = with_one(found, described)?;
@@ -142,9 +152,39 @@ fn with_one<'a>(mut list: Vec<&'a Type>, one: &'a Type) -> Result<Vec<&'a Type>,
     Ok(list)
 }
 
-/// The number of an identity, and its description, if it is new and gets the next number.
+/// The number of an identity, and its description, if it is new and gets the next number. It is not
+/// searched where the cache has its number.
 ///
 /// Errors: as those of [`discover`], for this identity. On an Err no number was given.
+fn number_cached<'a>(
+    alloc: Global,
+    identities: &mut Interner<TypeId>,
+    id: &TypeId,
+    catalogue: &'a Catalogue,
+    cache: &mut NumberCache,
+) -> Result<(u32, Option<&'a Type>), RegisterError>
+    ensures ok { IfOk result (λ found.
+        IsNumbered catalogue.now identities.old id.now (option_copied found.1) identities.new) }
+    ensures err { OnErr result (identities.new ≡ identities.old) }
+    ensures cause { IfErr result (IsNumberError catalogue.now identities.old id.now) }
+{
+    if let Some(number) = known_by(cache, identities, id) {
+        return Ok((number, None));
+    }
+    let (number, new) = number_new(alloc, identities, id, catalogue)?;
+    cache.put(alloc, identities.elements(), id, number);
+    Ok((number, new))
+}
+
+/// The number of an identity, if the cache has it.
+fn known_by(cache: &NumberCache, identities: &Interner<TypeId>, id: &TypeId) -> Option<u32>
+    ensures { IfSome result
+        (IsIndexOf ⟦<TypeId as PartialEq>⟧.eq identities.now id.now) }
+{
+    confirmed(identities, cache.get(id)?, id)
+}
+
+/// The same by a search.
 fn number_new<'a>(
     alloc: Global,
     identities: &mut Interner<TypeId>,

@@ -1,6 +1,9 @@
 //! Hints: the numbers that pending types and references of new descriptions had when they were met.
-ghost use Rattle.std.specs.Prelude.{◌≡◌, []};
+ghost use Rattle.std.specs.Prelude.{◌≡◌, [], IfSome};
+ghost use Rattle.scale_info_identities.specs.Interned.{IsIndexOf};
 
+use scale_info_identities::interner::Interner;
+use scale_info_identities::type_id::TypeId;
 use std::alloc::{AllocError, Global};
 use std::marker::Model;
 
@@ -63,4 +66,13 @@ impl Hints {
             }
         }
     }
+}
+
+/// A number that a hint names, if it is that of the identity.
+pub fn confirmed(identities: &Interner<TypeId>, number: u32, id: &TypeId) -> Option<u32>
+    ensures { IfSome result
+        (IsIndexOf ⟦<TypeId as PartialEq>⟧.eq identities.now id.now) }
+{
+    let known = identities.elements().get(number as usize)?;
+    if id == known { Some(number) } else { None }
 }

@@ -4,3 +4,4 @@
 pub mod discovery;
 pub mod hints;
 pub mod laws;
+mod number_cache;

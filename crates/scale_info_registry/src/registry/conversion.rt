@@ -28,6 +28,7 @@ ghost use Rattle.scale_info_registry.specs.Registrations.{index_in};
 
 use scale_info_collections::items::Items;
 use scale_info_collections::text::Text;
+use scale_info_discovery::hints::confirmed;
 use scale_info_identities::interner::{Interner, UntrackedSymbol};
 use scale_info_identities::type_id::TypeId;
 use scale_info_references::conversion::{
@@ -89,9 +90,7 @@ impl<'a> HintedIdentities<'a> {
     {
         let place = self.next.get();
         self.next.set(place.saturating_add(1));
-        let number = *self.hints.get(place)?;
-        let known = self.interner.elements().get(number as usize)?;
-        if id == known { Some(number) } else { None }
+        confirmed(self.interner, *self.hints.get(place)?, id)
     }
 }
 

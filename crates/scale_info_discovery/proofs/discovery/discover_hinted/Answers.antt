@@ -18,7 +18,7 @@ loop-next-init c = (
 pub loop-next-preserved : goal.loop-next-preserved
 loop-next-preserved c =
     let id = c.type_id.result.now in
-    let n = subst (λ o. IsNumbered c.args.catalogue.now c.loop-next.identities id (option_copied o) c.number_new.new.identities) c.in_default-new.is c.in_ok-number.ensures.ok in
+    let n = subst (λ o. IsNumbered c.args.catalogue.now c.loop-next.identities id (option_copied o) c.number_cached.new.identities) c.in_default-new.is c.in_ok-number.ensures.ok in
     rw n.1 (
       passes c.args.catalogue.now c.args.identities.now c.args.pending.items c.loop-next.identities c.loop-next.pending.items c.pop.new.self.items c.in-Some.next id c.in-Some.ensures.items c.type_id.ensures n.0 c.loop-next.invariant.0,
       c.loop-next.invariant.1,
@@ -37,11 +37,11 @@ loop-next-preserved-in-Some-new c =
     let cat = c.args.catalogue.now in
     let id = c.type_id.result.now in
     let d = c.in-Some-new.described.now in
-    let n = subst (λ o. IsNumbered cat c.loop-next.identities id (option_copied o) c.number_new.new.identities) c.in-Some-new.is c.in_ok-number.ensures.ok in (
-      adds cat c.args.identities.now c.args.pending.items c.loop-next.identities c.number_new.new.identities c.loop-next.pending.items c.pop.new.self.items c.in_ok-pending.pending.items c.in_ok-references.references.items c.in-Some.next id d
+    let n = subst (λ o. IsNumbered cat c.loop-next.identities id (option_copied o) c.number_cached.new.identities) c.in-Some-new.is c.in_ok-number.ensures.ok in (
+      adds cat c.args.identities.now c.args.pending.items c.loop-next.identities c.number_cached.new.identities c.loop-next.pending.items c.pop.new.self.items c.in_ok-pending.pending.items c.in_ok-references.references.items c.in-Some.next id d
           c.in-Some.ensures.items c.type_id.ensures n.0 n.1 n.2 c.in_ok-pending.ensures.ok c.in_ok-references.ensures c.loop-next.invariant.0,
-      kept_more c.args.identities.now c.loop-next.identities c.number_new.new.identities id c.loop-next.invariant.1 n.2,
-      found_more cat c.args.identities.now c.loop-next.identities c.number_new.new.identities id c.loop-next.found.items c.in_ok-found.found.items c.in-Some-new.described n.1 n.2 (search rules) c.loop-next.invariant.2,
+      kept_more c.args.identities.now c.loop-next.identities c.number_cached.new.identities id c.loop-next.invariant.1 n.2,
+      found_more cat c.args.identities.now c.loop-next.identities c.number_cached.new.identities id c.loop-next.found.items c.in_ok-found.found.items c.in-Some-new.described n.1 n.2 (search rules) c.loop-next.invariant.2,
     )
 
 pub loop-next-smaller-in-Some-new : goal.loop-next-smaller-in-Some-new
@@ -49,9 +49,9 @@ loop-next-smaller-in-Some-new c =
     let cat = c.args.catalogue.now in
     let id = c.type_id.result.now in
     let d = c.in-Some-new.described.now in
-    let n = subst (λ o. IsNumbered cat c.loop-next.identities id (option_copied o) c.number_new.new.identities) c.in-Some-new.is c.in_ok-number.ensures.ok in
+    let n = subst (λ o. IsNumbered cat c.loop-next.identities id (option_copied o) c.number_cached.new.identities) c.in-Some-new.is c.in_ok-number.ensures.ok in
     let walking = loop-next-preserved-in-Some-new c in
-    shrinks cat c.args.identities.now c.args.pending.items c.loop-next.identities c.number_new.new.identities c.loop-next.pending.items c.pop.new.self.items c.in_ok-pending.pending.items c.in_ok-references.references.items c.in-Some.next id d
+    shrinks cat c.args.identities.now c.args.pending.items c.loop-next.identities c.number_cached.new.identities c.loop-next.pending.items c.pop.new.self.items c.in_ok-pending.pending.items c.in_ok-references.references.items c.in-Some.next id d
     c.in-Some.ensures.items n.1 n.2 c.in_ok-pending.ensures.ok c.in_ok-references.ensures walking.0
 
 pub returns-clause-ok : goal.returns-clause-ok
