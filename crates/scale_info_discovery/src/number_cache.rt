@@ -1,8 +1,8 @@
 //! A cache of the numbers of identities, by a hash.
 //!
 //! A description refers to the same types again and again, and a search takes a comparison of
-//! identities for each halving of their list. A hash takes about as much as one of these, and leads to a
-//! number that is then compared with the one identity that has it.
+//! identities for each halving of their list. A hash takes about as much as one of these, and leads
+//! to a number, which is then confirmed by the one identity that has it.
 
 use scale_info_identities::type_id::TypeId;
 use std::alloc::Global;
@@ -14,7 +14,7 @@ const NONE: u32 = u32::MAX;
 /// So many numbers are put before there is a cache at all.
 const FIRST: usize = 64;
 
-/// So many identities are hashed of one and its arguments, theirs and so on.
+/// An identity is hashed with so many of its arguments, their arguments and so on, at most.
 const PARTS: usize = 64;
 
 /// Numbers of identities, each in the slot of its hash, where it stays until another one comes.
@@ -44,11 +44,10 @@ impl NumberCache {
 
     /// Notes the number of an identity, which is among these.
     pub(crate) fn put(&mut self, alloc: Global, identities: &[TypeId], id: &TypeId, number: u32) {
-        if self.taken < (self.slots.len() / 2).max(FIRST) {
-            self.put_in_slot(id, number);
-        } else {
+        if self.taken >= (self.slots.len() / 2).max(FIRST) {
             self.grow(alloc, identities);
         }
+        self.put_in_slot(id, number);
     }
 
     /// Puts a number in the slot of its identity. Before there are slots it counts alone.
