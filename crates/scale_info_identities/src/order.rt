@@ -213,9 +213,8 @@ pub fn remove(chunks: &mut Vec<Vec<u32>>, place: Place)
 
 /// Joins a chunk with the ones beside it, as far as they are small. Does not allocate.
 ///
-/// So the room of the chunks follows the number of indices: no two chunks in a row hold less than
-/// a half of the first one's room, or of a full chunk. A chunk that was joined takes as many more
-/// indices as it has, and more, before it is split.
+/// So the room of the chunks follows the number of indices that stay. A chunk that was joined takes
+/// as many more indices as it has, at least, before it is split.
 pub fn merge_small(chunks: &mut Vec<Vec<u32>>, chunk: usize)
     ensures joined { concat (map (λ v. v.items) chunks.new.items)
         ≡ concat (map (λ v. v.items) chunks.old.items) }
