@@ -1,5 +1,5 @@
 //! Hints: the numbers that pending types and references of new descriptions had when they were met.
-ghost use Rattle.std.specs.Prelude.{◌≡◌, [], IfSome};
+ghost use Rattle.std.specs.Prelude.{◌≡◌, [], IfNone, IfSome};
 ghost use Rattle.scale_info_identities.specs.Interned.{IsIndexOf};
 
 use scale_info_identities::interner::Interner;
@@ -68,10 +68,13 @@ impl Hints {
     }
 }
 
-/// A number that a hint names, if it is that of the identity.
+/// A number that a hint names, if it is that of the identity; None if it is not.
 pub fn confirmed(identities: &Interner<TypeId>, number: u32, id: &TypeId) -> Option<u32>
-    ensures { IfSome result
+    ensures index { IfSome result
         (IsIndexOf ⟦<TypeId as PartialEq>⟧.eq identities.now id.now) }
+    ensures same { IfSome result (λ confirmed. confirmed ≡ number) }
+    ensures none { IfNone result
+        (¬ (IsIndexOf ⟦<TypeId as PartialEq>⟧.eq identities.now id.now number)) }
 {
     let known = identities.elements().get(number as usize)?;
     if id == known { Some(number) } else { None }
