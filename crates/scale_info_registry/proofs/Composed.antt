@@ -1,9 +1,9 @@
 -- One registration after another.
 use Rattle.std.proofs.Common.{◌≡◌, ℕ, List, [], ◌∷◌, ◌++◌, length, Some, slice_get, map, option_map, flat_map}
-use Rattle.std.proofs.Common.{refl, ap, sym, ◌∙◌, subst, arith, Contains, inl, inr, append_assoc, append-nil}
+use Rattle.std.proofs.Common.{refl, ap, sym, ◌∙◌, subst, arith, Contains, inl, inr, append_assoc, append-nil, take, drop, ◌-◌}
 use Rattle.std.proofs.lemmas.Bool.{cases_lt}
 use Rattle.std.proofs.lemmas.Grind.{flat_map-append}
-use Rattle.std.proofs.lemmas.List.{length-map}
+use Rattle.std.proofs.lemmas.List.{length-map, length-drop, map-append, take-append-drop, take_all}
 use Rattle.std.proofs.lemmas.List.Elements.{Contains-append_left, Contains-append_right}
 use Rattle.std.proofs.lemmas.Option.{slice_get-map}
 use Rattle.std.specs.Iterator.{Yields}
@@ -22,17 +22,20 @@ use Rattle.std.proofs.Common.{zero-le}
 use Rattle.scale_info_numberings.proofs.ExtensionOfExtension.{extension_composes}
 use Rattle.scale_info_numberings.proofs.Reached.{extension_holds}
 use Rattle.scale_info_numberings.proofs.Zip.{zip_weaker}
-use Rattle.scale_info_numberings.proofs.Places.{at_left, begins_at, begins_from}
+use Rattle.scale_info_numberings.proofs.Places.{at_left, begins_at, begins_from, contains_at}
 use Rattle.scale_info_numberings.proofs.PlacesOf.{places_in_more}
 use Rattle.scale_info_discovery.specs.declared.discovery.RegisterError.{RegisterError}
 use Rattle.scale_info_discovery.specs.declared.discovery.RegisterError.TheVariants.{Undescribed, Full, Memory}
 use Rattle.scale_info_references.specs.Conversions.{ids_in}
-use Rattle.scale_info_discovery.specs.Discoveries.{nodes_of}
+use Rattle.scale_info_discovery.specs.Discoveries.{nodes_of, roots_of}
 use Rattle.scale_info_registry.specs.Registrations.{portable_entry, Registered, registered}
 use Rattle.scale_info_discovery.specs.Discoveries.{IsCause}
 use Rattle.scale_info_registry.specs.Registrations.{IsRegistration, IsConverted}
 use Rattle.scale_info_types.specs.MetaDescriptions.{type_term}
 use Rattle.scale_info_discovery.proofs.Terms.{length_nodes}
+use Rattle.scale_info_identities.specs.Interned as interned
+use Rattle.scale_info_identities.specs.contracts.type_id.TypeIdPartialEq.TheImpl.{ghosts as equals}
+use Rattle.scale_info_registry.proofs.Registered.{registers_known, registers_nothing}
 
 joined_more :
     {A : Type 0} (xs ys zs : List A) → (more : List A) × (ys ≡ xs ++ more) → (more : List A) × (zs ≡ ys ++ more)
@@ -71,13 +74,19 @@ pub converted_stays :
 converted_stays replaced S b c roots Q value output y k =
     (k.0, places_in_more (nodes_of b.identities) (nodes_of c.identities) (begins_at (nodes_of b.identities) (nodes_of c.identities) y.nodes.1.begins) roots k.0 k.1, k.2)
 
-zip_push :
+-- two lists related to two others are so one after the other
+pub zip_append :
+    {A B : Type 0} (P : A → B → Type 0) (xs more : List A) (ys rest : List B) → AllZip P xs ys → AllZip P more rest
+    → AllZip P (xs ++ more) (ys ++ rest)
+zip_append P [] more [] rest z w = w
+zip_append P [] more (b ∷ ys) rest z w = absurd z
+zip_append P (a ∷ xs) more [] rest z w = absurd z
+zip_append P (a ∷ xs) more (b ∷ ys) rest z w = (z.0, zip_append P xs more ys rest z.1 w)
+
+pub zip_push :
     {A B : Type 0} (P : A → B → Type 0) (xs : List A) (ys : List B) (x : A) (y : B) → AllZip P xs ys → P x y
     → AllZip P (xs ++ x ∷ []) (ys ++ y ∷ [])
-zip_push P [] [] x y z p = (p, tt)
-zip_push P [] (b ∷ ys) x y z p = absurd z
-zip_push P (a ∷ xs) [] x y z p = absurd z
-zip_push P (a ∷ xs) (b ∷ ys) x y z p = (z.0, zip_push P xs ys x y z.1 p)
+zip_push P xs ys x y z p = zip_append P xs (x ∷ []) ys (y ∷ []) z (p, tt)
 
 -- where an element is appended, its list is appended to the joined lists
 pub flat_map_push :
@@ -195,3 +204,61 @@ symbols_are_indices L r (ty ∷ tys) (s ∷ symbols) e z =
 pub roots_alone : (tys : List MetaType) → flat_map (λ ty. type_term ty ∷ []) tys ≡ map type_term tys
 roots_alone [] = refl
 roots_alone (ty ∷ tys) = ap (λ ns. type_term ty ∷ ns) (roots_alone tys)
+
+-- as many elements as there are past the first k are all of these
+pub take_rest : {A : Type 0} (xs : List A) (k : ℕ) → take (length xs - k) (drop k xs) ≡ drop k xs
+take_rest xs k = let long = length-drop k xs in take_all (length xs - k) (drop k xs) (omega (arith, long))
+
+-- a list of no length is empty
+pub no_elements : {A : Type 0} (xs : List A) → length xs ≡ 0 → xs ≡ []
+no_elements [] e = refl
+no_elements (x ∷ xs) e = absurd (omega (arith, e))
+
+-- the roots of all types are those of the first k, and those of the rest
+pub roots_split :
+    (all : List MetaType) (k : ℕ) → roots_of all ≡ roots_of (take k all) ++ roots_of (drop k all)
+roots_split all k =
+    ap roots_of (sym (take-append-drop k all)) ∙ map-append type_term (take k all) (drop k all)
+
+module _ (S : System Shape Term) (old : Registered) (distinct : interned.AreDistinctBy equals.eq old.identities) where
+  -- known types, registered, change nothing
+  pub registers_all_known :
+      (tys : List MetaType) (ids : List ℕ) → ArePlaces (nodes_of old.identities) (roots_of tys) ids
+      → IsRegistration S old (roots_of tys) old
+  registers_all_known [] ids z = registers_nothing S old distinct
+  registers_all_known (ty ∷ tys) [] z = absurd z
+  registers_all_known (ty ∷ tys) (i ∷ ids) z =
+      registrations_compose S old old old (type_term ty ∷ []) (roots_of tys)
+      (registers_known S old ty.identity distinct (contains_at (nodes_of old.identities) (type_term ty) i z.0))
+      (registers_all_known tys ids z.1)
+
+  -- where the first k types are known, a registration of the rest is one of all
+  pub rest_registered :
+      (new : Registered) (all : List MetaType) (k : ℕ) (ids more : List ℕ)
+      → ArePlaces (nodes_of old.identities) (roots_of (take k all)) ids
+      → IsRegistration S old (roots_of (drop k all)) new
+      → ArePlaces (nodes_of new.identities) (roots_of (drop k all)) more
+      → IsRegistration S old (roots_of all) new × ArePlaces (nodes_of new.identities) (roots_of all) (ids ++ more)
+  rest_registered new all k ids more places now rest =
+      let split = sym (roots_split all k) in
+      let L = nodes_of new.identities in
+      let kept = places_in_more (nodes_of old.identities) L (begins_at (nodes_of old.identities) L now.nodes.1.begins) (roots_of (take k all)) ids places in (
+        subst (λ rs. IsRegistration S old rs new) split
+            (registrations_compose S old old new (roots_of (take k all)) (roots_of (drop k all)) (registers_all_known (take k all) ids places) now),
+        subst (λ rs. ArePlaces L rs (ids ++ more)) split
+            (zip_append (λ n p. slice_get L p ≡ Some n) (roots_of (take k all)) (roots_of (drop k all)) ids more kept rest),
+      )
+
+  -- the cause of a refusal of the rest is one of all
+  pub rest_cause :
+      (all : List MetaType) (k : ℕ) (ids : List ℕ) (e : RegisterError)
+      → ArePlaces (nodes_of old.identities) (roots_of (take k all)) ids
+      → IsCause S (nodes_of old.identities) (roots_of (drop k all)) e
+      → IsCause S (nodes_of old.identities) (roots_of all) e
+  rest_cause all k ids e places cause =
+      let split = sym (roots_split all k) in
+      cause_before S old old (roots_of (take k all)) (roots_of (drop k all)) (roots_of all) e
+      (registers_all_known (take k all) ids places)
+      (λ n c. subst (λ rs. Contains rs n) split (Contains-append_left (roots_of (take k all)) (roots_of (drop k all)) n c))
+      (λ n c. subst (λ rs. Contains rs n) split (Contains-append_right (roots_of (take k all)) (roots_of (drop k all)) n c))
+      cause

@@ -207,9 +207,37 @@ impl Registry {
         ensures cause { IfErr result (IsCause (catalogue_system catalogue.now)
             (nodes_of self.old.identities) (roots_of types.now)) }
     {
+        let _distinct = self.identities.elements();
         let alloc = *self.types.allocator();
+        let known = known_symbols(alloc, &self.identities, types)?;
+        let rest = &types[known.len()..];
+        if rest.is_empty() {
+            return Ok(known);
+        }
+        self.register_rest(alloc, known, rest, catalogue)
+    }
+
+    /// The symbols with those of more types after them, which are registered in order. On an Err
+    /// the registry is as before.
+    fn register_rest(
+        &mut self,
+        alloc: Global,
+        symbols: Vec<UntrackedSymbol<TypeId>>,
+        rest: &[MetaType],
+        catalogue: &Catalogue,
+    ) -> Result<Vec<UntrackedSymbol<TypeId>>, RegisterError>
+        ensures ok { IfOk result (λ all. (ids : List ℕ)
+            × IsRegistration (catalogue_system catalogue.now) self.old (roots_of rest.now) self.new
+            × ArePlaces (nodes_of self.new.identities) (roots_of rest.now) ids
+            × (map (λ (s : UntrackedSymbol TypeId). s.id) all.items
+            ≡ map (λ (s : UntrackedSymbol TypeId). s.id) symbols.items ++ ids)) }
+        ensures kept { Keeps self.old self.new }
+        ensures err { OnErr result (self.new ≡ self.old) }
+        ensures cause { IfErr result (IsCause (catalogue_system catalogue.now)
+            (nodes_of self.old.identities) (roots_of rest.now)) }
+    {
         let known = self.types.len();
-        let pending = stack_up(references_of_types(alloc, types)?, Vec::new(alloc))?;
+        let pending = stack_up(references_of_types(alloc, rest)?, Vec::new(alloc))?;
         let mut hints = Hints::new(alloc);
         self.register(alloc, pending, catalogue, &mut hints)?;
         let ids = HintedIdentities {
@@ -217,8 +245,8 @@ impl Registry {
             hints: hints.numbers(),
             next: &Cell::new(0),
         };
-        match symbols_of(alloc, &ids, types) {
-            Ok(symbols) => Ok(symbols),
+        match with_symbols_of(symbols, &ids, rest) {
+            Ok(all) => Ok(all),
             Err(_) => {
                 cut_back(&mut self.identities, &mut self.types, known);
                 Err(RegisterError::Memory)
@@ -405,17 +433,38 @@ fn register_in<'a>(
     Ok(())
 }
 
-/// The ids of types, in order.
-fn symbols_of(
+/// The ids of the first types, as far as they are known.
+fn known_symbols(
     alloc: Global,
+    identities: &Interner<TypeId>,
+    types: &[MetaType],
+) -> Result<Vec<UntrackedSymbol<TypeId>>, AllocError>
+    ensures few { IfOk result (λ symbols. length symbols.items ≤ length types.now) }
+    ensures places { IfOk result (λ symbols. ArePlaces (nodes_of identities.now)
+        (roots_of (take (length symbols.items) types.now))
+        (map (λ (s : UntrackedSymbol TypeId). s.id) symbols.items)) }
+{
+    let mut symbols = Vec::with_capacity(alloc, types.len())?;
+    for ty in types {
+        let Some(symbol) = identities.get(ty.type_id()) else {
+            break;
+        };
+        symbols.push(symbol.into_untracked())?;
+    }
+    Ok(symbols)
+}
+
+/// The symbols with the ids of types after them, in order.
+fn with_symbols_of(
+    mut symbols: Vec<UntrackedSymbol<TypeId>>,
     ids: &HintedIdentities<'_>,
     types: &[MetaType],
 ) -> Result<Vec<UntrackedSymbol<TypeId>>, AllocError>
-    ensures { IfOk result (λ symbols. map (λ (s : UntrackedSymbol TypeId). s.id) symbols.items
-        ≡ map (λ ty. index_in ⟦<TypeId as PartialEq>⟧.eq ids.now.interner.now ty.identity)
+    ensures { IfOk result (λ all. map (λ (s : UntrackedSymbol TypeId). s.id) all.items
+        ≡ map (λ (s : UntrackedSymbol TypeId). s.id) symbols.items
+        ++ map (λ ty. index_in ⟦<TypeId as PartialEq>⟧.eq ids.now.interner.now ty.identity)
         types.now) }
 {
-    let mut symbols = Vec::with_capacity(alloc, types.len())?;
     for ty in types {
         symbols.push(ids.id(ty))?;
     }

@@ -1,47 +1,75 @@
-use Rattle.std.proofs.Common.{rules, ◌≡◌, subst, sym, map, ℕ}
-use Rattle.std.proofs.lemmas.Result.{err_from_is_err_and}
-use Rattle.scale_info_numberings.specs.Tables.{ArePlaces}
+use Rattle.std.proofs.Common.{rules, ◌≡◌, ◌∙◌, ◌-◌, [], ℕ, ap, drop, length, map, subst, sym, take, append-nil}
+use Rattle.std.proofs.lemmas.Result.{IfErr-weaker, IfOk-weaker}
+use Rattle.scale_info_identities.specs.Interned as interned
 use Rattle.scale_info_identities.specs.contracts.type_id.TypeIdPartialEq.TheImpl.{ghosts as equals}
-use Rattle.scale_info_discovery.specs.CatalogueSystems.{catalogue_system}
-use Rattle.scale_info_discovery.specs.Discoveries.{nodes_of, roots_of, stacked, IsCause}
-use Rattle.scale_info_registry.specs.Registrations.{index_in, registered, IsRegistration}
+use Rattle.scale_info_numberings.specs.Tables.{ArePlaces}
 use Rattle.scale_info_types.specs.Portable.{Id}
-use Rattle.scale_info_discovery.proofs.Discovered.{stacked_alone}
-use Rattle.scale_info_registry.proofs.Registered.{cut_kept, cut_same, keeps, keeps_itself, root_indices}
+use Rattle.scale_info_discovery.specs.CatalogueSystems.{catalogue_system}
+use Rattle.scale_info_discovery.specs.Discoveries.{IsCause, nodes_of, roots_of}
+use Rattle.scale_info_registry.specs.Registrations.{IsRegistration}
+use Rattle.scale_info_registry.proofs.Composed.{no_elements, rest_cause, rest_registered, take_rest}
+use Rattle.scale_info_registry.proofs.Registered.{registers_nothing}
 use Rattle.scale_info_registry.proofs.registry.Registry.register_all.Goals as goal
 
-pub returns-in_err-register-clause-cause : goal.returns-in_err-register-clause-cause
-returns-in_err-register-clause-cause c =
-    let p = err_from_is_err_and c.from_residual-in_err-register.result c.from_residual-in_err-register.ensures.1 in
-    let types = c.args.types.now in
-    let e = stacked_alone c.in_ok-pending.pending.items c.in_ok-references_of_types.field-0.items c.new.result.items types c.in_ok-pending.ensures.ok c.new.ensures.items c.in_ok-references_of_types.ensures in
-    rw (p.1, p.2) (subst (λ ns. IsCause (catalogue_system c.args.catalogue.now) (nodes_of c.args.self.now.identities) ns c.in_err-register.field-0.0) e c.in_err-register.ensures.cause)
-
-pub returns-in-Ok-clause-ok : goal.returns-in-Ok-clause-ok
-returns-in-Ok-clause-ok c =
+pub returns-then-is_empty-clause-ok : goal.returns-then-is_empty-clause-ok
+returns-then-is_empty-clause-ok c =
     let S = catalogue_system c.args.catalogue.now in
+    let old = c.args.self.now in
     let types = c.args.types.now in
-    let after = c.register.new.self in
+    let k = c.len.result in
     let is_id : Id → ℕ = λ s. s.id in
-    let e = stacked_alone c.in_ok-pending.pending.items c.in_ok-references_of_types.field-0.items c.new.result.items types c.in_ok-pending.ensures.ok c.new.ensures.items c.in_ok-references_of_types.ensures in
-    let done : IsRegistration S c.args.self.now (roots_of types) after =
-    subst (λ ns. IsRegistration S c.args.self.now ns after) e c.in_ok-register.ensures.ok in
-    let ids : map is_id c.in-Ok.symbols.items ≡ map (λ ty. index_in equals.eq c.self-2.inside.identities ty.identity) types =
-    c.in-Ok.ensures in
-    let places =
-    subst (λ v. ArePlaces (nodes_of after.identities) (roots_of types) (map (λ ty. index_in equals.eq v.identities ty.identity) types))
-    (sym c.self-2.view_is) (root_indices S c.args.self.now after types done) in
-    (done, subst (λ ps. ArePlaces (nodes_of after.identities) (roots_of types) ps) (sym ids) places)
+    let ids = map is_id c.in_ok-known.known.items in
+    let distinct = subst (λ v. interned.AreDistinctBy equals.eq v.identities) c.self.view_is c.elements-distinct.ensures.distinct in
+    let long : k ≡ length c.in_ok-known.known.items = search rules in
+    let places : ArePlaces (nodes_of old.identities) (roots_of (take k types)) ids =
+    subst (λ v. ArePlaces (nodes_of v.identities) (roots_of (take k types)) ids) c.self.view_is
+    (subst (λ n. ArePlaces (nodes_of c.self.inside.identities) (roots_of (take n types)) ids) (sym long) c.in_ok-known.ensures.places) in
+    let short : length (take (length types - k) (drop k types)) ≡ 0 = search rules in
+    let none : drop k types ≡ [] = no_elements (drop k types) (ap length (sym (take_rest types k)) ∙ short) in
+    let made =
+    rest_registered S old distinct old types k ids [] places
+    (subst (λ ts. IsRegistration S old (roots_of ts) old) (sym none) (registers_nothing S old distinct))
+    (subst (λ ts. ArePlaces (nodes_of old.identities) (roots_of ts) []) (sym none) tt) in
+    (made.0, subst (λ ps. ArePlaces (nodes_of old.identities) (roots_of types) ps) (append-nil ids) made.1)
 
-pub invariant_of-self : goal.invariant_of-self
-invariant_of-self c =
-    cut_kept c.self.inside.identities c.self-2.inside.identities c.cut_back.new.identities c.self.inside.types.items c.self-2.inside.types.items c.cut_back.new.types.items
-    c.len-known.result (search rules) c.self.invariant c.cut_back.ensures.identities c.cut_back.ensures.types c.args.self.now c.register.new.self c.self.view_is c.self-2.view_is
-    (keeps (catalogue_system c.args.catalogue.now) c.args.self.now c.register.new.self (stacked c.in_ok-pending.pending.items) c.in_ok-register.ensures.ok)
+pub returns-clause-ok : goal.returns-clause-ok
+returns-clause-ok c =
+    let S = catalogue_system c.args.catalogue.now in
+    let old = c.args.self.now in
+    let new = c.register_rest.new.self in
+    let L = nodes_of new.identities in
+    let types = c.args.types.now in
+    let k = c.len.result in
+    let is_id : Id → ℕ = λ s. s.id in
+    let ids = map is_id c.in_ok-known.known.items in
+    let distinct = subst (λ v. interned.AreDistinctBy equals.eq v.identities) c.self.view_is c.elements-distinct.ensures.distinct in
+    let long : k ≡ length c.in_ok-known.known.items = search rules in
+    let places : ArePlaces (nodes_of old.identities) (roots_of (take k types)) ids =
+    subst (λ v. ArePlaces (nodes_of v.identities) (roots_of (take k types)) ids) c.self.view_is
+    (subst (λ n. ArePlaces (nodes_of c.self.inside.identities) (roots_of (take n types)) ids) (sym long) c.in_ok-known.ensures.places) in
+    IfOk-weaker c.register_rest.result _ _
+    (λ all h.
+    let made =
+    rest_registered S old distinct new types k ids h.0 places
+    (subst (λ ts. IsRegistration S old (roots_of ts) new) (take_rest types k) h.1)
+    (subst (λ ts. ArePlaces L (roots_of ts) h.0) (take_rest types k) h.2) in
+    (made.0, subst (λ ps. ArePlaces L (roots_of types) ps) (sym h.3) made.1))
+    c.register_rest.ensures.ok
 
-pub returns-clause-kept : goal.returns-clause-kept
-returns-clause-kept c =
-    keeps_itself c.args.self.now (registered c.cut_back.new.identities c.cut_back.new.types.items)
-    (cut_same c.self.inside.identities c.self-2.inside.identities c.cut_back.new.identities c.self.inside.types.items c.self-2.inside.types.items c.cut_back.new.types.items
-    c.len-known.result (search rules) c.self.invariant c.cut_back.ensures.identities c.cut_back.ensures.types c.args.self.now c.register.new.self c.self.view_is c.self-2.view_is
-    (keeps (catalogue_system c.args.catalogue.now) c.args.self.now c.register.new.self (stacked c.in_ok-pending.pending.items) c.in_ok-register.ensures.ok))
+pub returns-clause-cause : goal.returns-clause-cause
+returns-clause-cause c =
+    let S = catalogue_system c.args.catalogue.now in
+    let old = c.args.self.now in
+    let types = c.args.types.now in
+    let k = c.len.result in
+    let is_id : Id → ℕ = λ s. s.id in
+    let ids = map is_id c.in_ok-known.known.items in
+    let distinct = subst (λ v. interned.AreDistinctBy equals.eq v.identities) c.self.view_is c.elements-distinct.ensures.distinct in
+    let long : k ≡ length c.in_ok-known.known.items = search rules in
+    let places : ArePlaces (nodes_of old.identities) (roots_of (take k types)) ids =
+    subst (λ v. ArePlaces (nodes_of v.identities) (roots_of (take k types)) ids) c.self.view_is
+    (subst (λ n. ArePlaces (nodes_of c.self.inside.identities) (roots_of (take n types)) ids) (sym long) c.in_ok-known.ensures.places) in
+    IfErr-weaker c.register_rest.result _ _
+    (λ e h. rest_cause S old distinct types k ids e places
+    (subst (λ ts. IsCause S (nodes_of old.identities) (roots_of ts) e) (take_rest types k) h))
+    c.register_rest.ensures.cause
