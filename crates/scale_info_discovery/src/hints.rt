@@ -49,6 +49,8 @@ impl Hints {
 
     /// Makes places for the hints of so many references, the first of which is met next.
     pub(crate) fn expect(&mut self, count: usize) -> Result<(), AllocError> {
+        self.places.reserve(count)?;
+        self.numbers.reserve(count)?;
         for _ in 0..count {
             self.places.push(self.numbers.len())?;
             self.numbers.push(0)?;

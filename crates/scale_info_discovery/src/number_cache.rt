@@ -12,7 +12,7 @@ use std::mem;
 const NONE: u32 = u32::MAX;
 
 /// So many numbers are put before there is a cache at all.
-const FIRST: usize = 64;
+const FIRST: usize = 16;
 
 /// An identity is hashed with so many of its arguments, their arguments and so on, at most.
 const PARTS: usize = 64;
