@@ -83,6 +83,7 @@ zip_append P [] more (b ∷ ys) rest z w = absurd z
 zip_append P (a ∷ xs) more [] rest z w = absurd z
 zip_append P (a ∷ xs) more (b ∷ ys) rest z w = (z.0, zip_append P xs more ys rest z.1 w)
 
+-- one more element at the end of each
 pub zip_push :
     {A B : Type 0} (P : A → B → Type 0) (xs : List A) (ys : List B) (x : A) (y : B) → AllZip P xs ys → P x y
     → AllZip P (xs ++ x ∷ []) (ys ++ y ∷ [])
