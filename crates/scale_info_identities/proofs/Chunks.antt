@@ -221,11 +221,6 @@ removed_joined row vs c at index i rest chunk v w there within read read_index m
     slice_get_read (row v) (length (row v)) at i refl short read_index in
     remove_joined row vs c at index rest v w i held here made first
 
--- a list of no length is empty
-pub no_items : {X : Type 0} (xs : List X) → length xs ≡ 0 → xs ≡ []
-no_items [] e = refl
-no_items (x ∷ xs) e = absurd (omega (arith, e))
-
 -- a list of some length is not
 pub some_items : {X : Type 0} (xs : List X) → 0 < length xs → xs ≢ []
 some_items [] l e = omega (arith, l)

@@ -10,6 +10,7 @@ ghost use Rattle.scale_info_identities.specs.Orders.{IsOrder, before, after};
 ghost use Rattle.scale_info_identities.specs.declared.interner.InternError.TheVariants.{Memory};
 
 use crate::order::{Place, find, insert, locate, merge_small, remove, split_full};
+use crate::rooms::{narrow, widen};
 use scale_info_collections::try_clone::TryClone;
 use std::alloc::{AllocError, AllocFailed, Global};
 use std::marker::{Model, PhantomData};
@@ -120,6 +121,8 @@ impl<T: Drop> From<AllocFailed<T>> for InternError {
 pub struct Interner<T: Ord> {
     elements: Vec<T>,
     chunks: Vec<Vec<u32>>,
+    // Rooms that the list of chunks had before.
+    rooms: Vec<Vec<Vec<u32>>>,
 }
 
 impl<T: Ord> Model for Interner<T> {
@@ -144,6 +147,7 @@ impl<T: Ord + Drop> Interner<T> {
         Interner {
             elements: Vec::new(alloc),
             chunks: Vec::new(alloc),
+            rooms: Vec::new(alloc),
         }
     }
 
@@ -186,7 +190,7 @@ impl<T: Ord + Drop> Interner<T> {
         ensures { self.new ≡ take len self.old }
     {
         while self.elements.len() > len {
-            drop_last(&mut self.elements, &mut self.chunks);
+            drop_last(&mut self.elements, &mut self.chunks, &mut self.rooms);
         }
     }
 
@@ -231,7 +235,13 @@ impl<T: Ord + TryClone> Interner<T> {
         if self.is_full() {
             return Err(InternError::Full);
         }
-        let symbol = push_new(&mut self.elements, &mut self.chunks, place, value)?;
+        let symbol = push_new(
+            &mut self.elements,
+            &mut self.chunks,
+            &mut self.rooms,
+            place,
+            value,
+        )?;
         Ok((true, symbol))
     }
 
@@ -250,6 +260,7 @@ impl<T: Ord + TryClone> Interner<T> {
 fn push_new<T: Drop>(
     elements: &mut Vec<T>,
     chunks: &mut Vec<Vec<u32>>,
+    rooms: &mut Vec<Vec<Vec<u32>>>,
     place: Place,
     value: T,
 ) -> Result<UntrackedSymbol<T>, InternError>
@@ -277,12 +288,17 @@ fn push_new<T: Drop>(
         elements.pop();
         return Err(InternError::Memory);
     }
+    widen(alloc, chunks, rooms);
     split_full(alloc, chunks, place.chunk);
     Ok(UntrackedSymbol::from(index))
 }
 
 /// Takes out the last element, if there is one, and its index. Does not allocate.
-fn drop_last<T: Ord + Drop>(elements: &mut Vec<T>, chunks: &mut Vec<Vec<u32>>)
+fn drop_last<T: Ord + Drop>(
+    elements: &mut Vec<T>,
+    chunks: &mut Vec<Vec<u32>>,
+    rooms: &mut Vec<Vec<Vec<u32>>>,
+)
     requires { IsOrder T.cmp elements.old.items (map (λ v. v.items) chunks.old.items) }
     ensures elements { elements.new.items
         ≡ take (length elements.old.items - 1) elements.old.items }
@@ -296,6 +312,7 @@ fn drop_last<T: Ord + Drop>(elements: &mut Vec<T>, chunks: &mut Vec<Vec<u32>>)
     };
     remove(chunks, place);
     merge_small(chunks, place.chunk);
+    narrow(chunks, rooms);
     elements.pop();
 }
 

@@ -4,5 +4,6 @@
 pub mod interner;
 pub mod laws;
 mod order;
+mod rooms;
 pub mod type_id;
 pub mod utils;

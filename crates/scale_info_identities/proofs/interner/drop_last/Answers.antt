@@ -53,7 +53,8 @@ returns-clause-order g c =
     (last_index g.met.T.Ord.total eq ties xs x) in
     let first = after_at chunks place.chunk place.at found.index found.chunk found.there found.here in
     let rest = after chunks place.chunk (suc place.at) in
-    order_pop g.met.T.Ord.total xs x chunks (map (λ v. v.items) c.merge_small.new.chunks.items)
+    rw c.narrow.ensures
+    (order_pop g.met.T.Ord.total xs x chunks (map (λ v. v.items) c.merge_small.new.chunks.items)
     place.chunk place.at rest order (first ∙ ap (λ i. i ∷ rest) index)
     (c.merge_small.ensures.filled (c.remove.ensures.filled order.filled))
-    (c.merge_small.ensures.joined ∙ c.remove.ensures.joined found.index rest first)
+    (c.merge_small.ensures.joined ∙ c.remove.ensures.joined found.index rest first))

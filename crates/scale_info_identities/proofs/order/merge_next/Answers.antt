@@ -1,9 +1,7 @@
-use Rattle.std.proofs.Common.{rules, ◌≡◌, ◌≢◌, ◌++◌, ◌+◌, ◌<◌, ℕ, Vec, suc, [], Some, slice_get, get_or, length, arith}
-use Rattle.std.proofs.Common.{ap, subst, sym, ◌∙◌, refl, IsTrue, Global, List, map}
-use Rattle.std.specs.List.{All, remove}
-use Rattle.std.proofs.lemmas.Grind.{common_steps}
+use Rattle.std.proofs.Common.{rules, ◌≡◌, ◌≢◌, ◌++◌, ◌+◌, ℕ, Vec, suc, [], Some, slice_get, get_or, arith}
+use Rattle.std.proofs.Common.{ap, subst, sym, ◌∙◌, IsTrue, Global}
+use Rattle.std.specs.List.{remove}
 use Rattle.std.proofs.lemmas.List.Edits.{get_or-remove_below}
-use Rattle.std.proofs.lemmas.List.Elements.{All-contains}
 use Rattle.std.proofs.lemmas.Option.{slice_get_within, get_or_from_slice_get}
 use Rattle.scale_info_identities.proofs.Chunks.{merge_joined, merge_filled, filled_at, filled_before}
 use Rattle.scale_info_identities.proofs.order.merge_next.Goals as goal

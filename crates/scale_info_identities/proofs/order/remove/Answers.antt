@@ -1,8 +1,9 @@
 use Rattle.std.proofs.Common.{rules, ◌≡◌, ◌≢◌, [], ◌∙◌, arith, set}
 use Rattle.std.specs.List.{remove}
 use Rattle.std.proofs.lemmas.Grind.{common_steps}
+use Rattle.std.proofs.lemmas.List.{nil_from_length}
 use Rattle.scale_info_identities.proofs.Chunks.{removed_joined, dropped_joined, dropped_filled}
-use Rattle.scale_info_identities.proofs.Chunks.{set_filled, no_items, some_items}
+use Rattle.scale_info_identities.proofs.Chunks.{set_filled, some_items}
 use Rattle.scale_info_identities.proofs.order.remove.Goals as goal
 
 pub returns-then-is_empty-clause-joined : goal.returns-then-is_empty-clause-joined
@@ -10,7 +11,7 @@ returns-then-is_empty-clause-joined c = λ index rest e.
     let vs = c.args.chunks.now.items in
     let i = c.args.place.chunk in
     let none : c.remove.new.self.items ≡ [] =
-    no_items c.remove.new.self.items
+    nil_from_length c.remove.new.self.items
     (grind (arith, common_steps, rules, c.if-is_empty.ensures, c.remove.new.self.ok.0)) in
     let gone : c.remove-then-is_empty.new.self.items ≡ remove (set vs i c.remove.new.self) i =
     search rules in
