@@ -210,16 +210,28 @@ roots_alone (ty ∷ tys) = ap (λ ns. type_term ty ∷ ns) (roots_alone tys)
 pub take_rest : {A : Type 0} (xs : List A) (k : ℕ) → take (length xs - k) (drop k xs) ≡ drop k xs
 take_rest xs k = let long = length-drop k xs in take_all (length xs - k) (drop k xs) (omega (arith, long))
 
--- a list of no length is empty
-pub no_elements : {A : Type 0} (xs : List A) → length xs ≡ 0 → xs ≡ []
-no_elements [] e = refl
-no_elements (x ∷ xs) e = absurd (omega (arith, e))
-
 -- the roots of all types are those of the first k, and those of the rest
 pub roots_split :
     (all : List MetaType) (k : ℕ) → roots_of all ≡ roots_of (take k all) ++ roots_of (drop k all)
 roots_split all k =
     ap roots_of (sym (take-append-drop k all)) ∙ map-append type_term (take k all) (drop k all)
+
+-- the first k of some types are known in a registry, at the places `ids`
+pub record FirstKnown (old : Registered) (all : List MetaType) (k : ℕ) (ids : List ℕ) : Type 0 where
+  pub distinct : interned.AreDistinctBy equals.eq old.identities
+  pub places : ArePlaces (nodes_of old.identities) (roots_of (take k all)) ids
+
+-- so they are in the same registry, by the same number
+pub first_known :
+    (inside old : Registered) (all : List MetaType) (n k : ℕ) (ids : List ℕ) → inside ≡ old → k ≡ n
+    → interned.AreDistinctBy equals.eq inside.identities
+    → ArePlaces (nodes_of inside.identities) (roots_of (take n all)) ids
+    → FirstKnown old all k ids
+first_known inside old all n k ids same long distinct places =
+    subst (λ v. FirstKnown v all k ids) same (record {
+      distinct = distinct;
+      places = subst (λ m. ArePlaces (nodes_of inside.identities) (roots_of (take m all)) ids) (sym long) places;
+    })
 
 module _ (S : System Shape Term) (old : Registered) (distinct : interned.AreDistinctBy equals.eq old.identities) where
   -- known types, registered, change nothing
@@ -233,33 +245,36 @@ module _ (S : System Shape Term) (old : Registered) (distinct : interned.AreDist
       (registers_known S old ty.identity distinct (contains_at (nodes_of old.identities) (type_term ty) i z.0))
       (registers_all_known tys ids z.1)
 
-  -- where the first k types are known, a registration of the rest is one of all
+module _ (S : System Shape Term) (old : Registered) (all : List MetaType) (k : ℕ) (ids : List ℕ) (known : FirstKnown old all k ids) where
+  -- the first k types, registered, change nothing
+  first_registered : IsRegistration S old (roots_of (take k all)) old
+  first_registered = registers_all_known S old known.distinct (take k all) ids known.places
+
+  -- a registration of the rest is one of all
   pub rest_registered :
-      (new : Registered) (all : List MetaType) (k : ℕ) (ids more : List ℕ)
-      → ArePlaces (nodes_of old.identities) (roots_of (take k all)) ids
+      (new : Registered) (more : List ℕ)
       → IsRegistration S old (roots_of (drop k all)) new
       → ArePlaces (nodes_of new.identities) (roots_of (drop k all)) more
       → IsRegistration S old (roots_of all) new × ArePlaces (nodes_of new.identities) (roots_of all) (ids ++ more)
-  rest_registered new all k ids more places now rest =
+  rest_registered new more now rest =
       let split = sym (roots_split all k) in
       let L = nodes_of new.identities in
-      let kept = places_in_more (nodes_of old.identities) L (begins_at (nodes_of old.identities) L now.nodes.1.begins) (roots_of (take k all)) ids places in (
+      let kept = places_in_more (nodes_of old.identities) L (begins_at (nodes_of old.identities) L now.nodes.1.begins) (roots_of (take k all)) ids known.places in (
         subst (λ rs. IsRegistration S old rs new) split
-            (registrations_compose S old old new (roots_of (take k all)) (roots_of (drop k all)) (registers_all_known (take k all) ids places) now),
+            (registrations_compose S old old new (roots_of (take k all)) (roots_of (drop k all)) first_registered now),
         subst (λ rs. ArePlaces L rs (ids ++ more)) split
             (zip_append (λ n p. slice_get L p ≡ Some n) (roots_of (take k all)) (roots_of (drop k all)) ids more kept rest),
       )
 
   -- the cause of a refusal of the rest is one of all
   pub rest_cause :
-      (all : List MetaType) (k : ℕ) (ids : List ℕ) (e : RegisterError)
-      → ArePlaces (nodes_of old.identities) (roots_of (take k all)) ids
+      (e : RegisterError)
       → IsCause S (nodes_of old.identities) (roots_of (drop k all)) e
       → IsCause S (nodes_of old.identities) (roots_of all) e
-  rest_cause all k ids e places cause =
+  rest_cause e cause =
       let split = sym (roots_split all k) in
       cause_before S old old (roots_of (take k all)) (roots_of (drop k all)) (roots_of all) e
-      (registers_all_known (take k all) ids places)
+      first_registered
       (λ n c. subst (λ rs. Contains rs n) split (Contains-append_left (roots_of (take k all)) (roots_of (drop k all)) n c))
       (λ n c. subst (λ rs. Contains rs n) split (Contains-append_right (roots_of (take k all)) (roots_of (drop k all)) n c))
       cause

@@ -1,13 +1,12 @@
 use Rattle.std.proofs.Common.{rules, ◌≡◌, ◌∙◌, ◌-◌, [], ℕ, ap, drop, length, map, subst, sym, take, append-nil}
+use Rattle.std.proofs.lemmas.List.{nil_from_length}
 use Rattle.std.proofs.lemmas.Result.{IfErr-weaker, IfOk-weaker}
-use Rattle.scale_info_identities.specs.Interned as interned
-use Rattle.scale_info_identities.specs.contracts.type_id.TypeIdPartialEq.TheImpl.{ghosts as equals}
 use Rattle.scale_info_numberings.specs.Tables.{ArePlaces}
 use Rattle.scale_info_types.specs.Portable.{Id}
 use Rattle.scale_info_discovery.specs.CatalogueSystems.{catalogue_system}
 use Rattle.scale_info_discovery.specs.Discoveries.{IsCause, nodes_of, roots_of}
 use Rattle.scale_info_registry.specs.Registrations.{IsRegistration}
-use Rattle.scale_info_registry.proofs.Composed.{no_elements, rest_cause, rest_registered, take_rest}
+use Rattle.scale_info_registry.proofs.Composed.{FirstKnown, first_known, rest_cause, rest_registered, take_rest}
 use Rattle.scale_info_registry.proofs.Registered.{registers_nothing}
 use Rattle.scale_info_registry.proofs.registry.Registry.register_all.Goals as goal
 
@@ -19,16 +18,14 @@ returns-then-is_empty-clause-ok c =
     let k = c.len.result in
     let is_id : Id → ℕ = λ s. s.id in
     let ids = map is_id c.in_ok-known.known.items in
-    let distinct = subst (λ v. interned.AreDistinctBy equals.eq v.identities) c.self.view_is c.elements-distinct.ensures.distinct in
-    let long : k ≡ length c.in_ok-known.known.items = search rules in
-    let places : ArePlaces (nodes_of old.identities) (roots_of (take k types)) ids =
-    subst (λ v. ArePlaces (nodes_of v.identities) (roots_of (take k types)) ids) c.self.view_is
-    (subst (λ n. ArePlaces (nodes_of c.self.inside.identities) (roots_of (take n types)) ids) (sym long) c.in_ok-known.ensures.places) in
+    let known : FirstKnown old types k ids =
+    first_known _ old types (length c.in_ok-known.known.items) k ids c.self.view_is (search rules)
+    c.elements-distinct.ensures.distinct c.in_ok-known.ensures.places in
     let short : length (take (length types - k) (drop k types)) ≡ 0 = search rules in
-    let none : drop k types ≡ [] = no_elements (drop k types) (ap length (sym (take_rest types k)) ∙ short) in
+    let none : drop k types ≡ [] = nil_from_length (drop k types) (ap length (sym (take_rest types k)) ∙ short) in
     let made =
-    rest_registered S old distinct old types k ids [] places
-    (subst (λ ts. IsRegistration S old (roots_of ts) old) (sym none) (registers_nothing S old distinct))
+    rest_registered S old types k ids known old []
+    (subst (λ ts. IsRegistration S old (roots_of ts) old) (sym none) (registers_nothing S old known.distinct))
     (subst (λ ts. ArePlaces (nodes_of old.identities) (roots_of ts) []) (sym none) tt) in
     (made.0, subst (λ ps. ArePlaces (nodes_of old.identities) (roots_of types) ps) (append-nil ids) made.1)
 
@@ -42,15 +39,13 @@ returns-clause-ok c =
     let k = c.len.result in
     let is_id : Id → ℕ = λ s. s.id in
     let ids = map is_id c.in_ok-known.known.items in
-    let distinct = subst (λ v. interned.AreDistinctBy equals.eq v.identities) c.self.view_is c.elements-distinct.ensures.distinct in
-    let long : k ≡ length c.in_ok-known.known.items = search rules in
-    let places : ArePlaces (nodes_of old.identities) (roots_of (take k types)) ids =
-    subst (λ v. ArePlaces (nodes_of v.identities) (roots_of (take k types)) ids) c.self.view_is
-    (subst (λ n. ArePlaces (nodes_of c.self.inside.identities) (roots_of (take n types)) ids) (sym long) c.in_ok-known.ensures.places) in
+    let known : FirstKnown old types k ids =
+    first_known _ old types (length c.in_ok-known.known.items) k ids c.self.view_is (search rules)
+    c.elements-distinct.ensures.distinct c.in_ok-known.ensures.places in
     IfOk-weaker c.register_rest.result _ _
     (λ all h.
     let made =
-    rest_registered S old distinct new types k ids h.0 places
+    rest_registered S old types k ids known new h.0
     (subst (λ ts. IsRegistration S old (roots_of ts) new) (take_rest types k) h.1)
     (subst (λ ts. ArePlaces L (roots_of ts) h.0) (take_rest types k) h.2) in
     (made.0, subst (λ ps. ArePlaces L (roots_of types) ps) (sym h.3) made.1))
@@ -64,12 +59,10 @@ returns-clause-cause c =
     let k = c.len.result in
     let is_id : Id → ℕ = λ s. s.id in
     let ids = map is_id c.in_ok-known.known.items in
-    let distinct = subst (λ v. interned.AreDistinctBy equals.eq v.identities) c.self.view_is c.elements-distinct.ensures.distinct in
-    let long : k ≡ length c.in_ok-known.known.items = search rules in
-    let places : ArePlaces (nodes_of old.identities) (roots_of (take k types)) ids =
-    subst (λ v. ArePlaces (nodes_of v.identities) (roots_of (take k types)) ids) c.self.view_is
-    (subst (λ n. ArePlaces (nodes_of c.self.inside.identities) (roots_of (take n types)) ids) (sym long) c.in_ok-known.ensures.places) in
+    let known : FirstKnown old types k ids =
+    first_known _ old types (length c.in_ok-known.known.items) k ids c.self.view_is (search rules)
+    c.elements-distinct.ensures.distinct c.in_ok-known.ensures.places in
     IfErr-weaker c.register_rest.result _ _
-    (λ e h. rest_cause S old distinct types k ids e places
+    (λ e h. rest_cause S old types k ids known e
     (subst (λ ts. IsCause S (nodes_of old.identities) (roots_of ts) e) (take_rest types k) h))
     c.register_rest.ensures.cause
