@@ -1,4 +1,5 @@
 pub mod Ascii
+pub mod Chars
 pub mod CompactAt
 pub mod Errors
 pub mod Index
