@@ -1,7 +1,7 @@
 -- One level of a reading.
 use Rattle.std.proofs.Common.{◌≡◌, ℕ, zero, suc, ◌-◌, ◌≤◌, ◌==◌, List, [], ◌∷◌, Option, Some, None, map, find, replicate}
 use Rattle.std.proofs.Common.{cond, Bool, true, false, option_map, refl, ap, sym, ◌∙◌, arith}
-use Rattle.scale_info_types.specs.Portable.{Id, Field, Variant, TypeDef, TypeDefComposite, TypeDefVariant, Description}
+use Rattle.scale_info_types.specs.Portable.{Id, Field, Variant, TypeDef, TypeDefComposite, Description}
 use Rattle.scale_info_types.specs.Shapes.{map_variant}
 use Rattle.scale_info_types.specs.declared.ty.TypeDef.TheVariants as def
 use Rattle.scale_info_tables.specs.declared.portable.PortableRegistry.{PortableRegistry}
@@ -113,22 +113,11 @@ value_of_type left table id input d h e =
 
 -- a composite is the record of its fields
 pub composite_is :
-    (left : ℕ) (table : PortableRegistry) (d : TypeDef) (composite : TypeDefComposite) (fs : List Field)
-    (input : List ℕ)
-    → d ≡ def.Composite composite → fs ≡ composite.fields
-    → definition_within left table d input ≡ outcome_map dyn.Record (fields_within left table fs input)
-composite_is left table d composite fs input e f =
-    ap (λ t. definition_within left table t input) e
-    ∙ ap (λ l. outcome_map dyn.Record (fields_within left table l input)) (sym f)
-
--- an enum goes by its variants
-pub variant_is :
-    (left : ℕ) (table : PortableRegistry) (d : TypeDef) (choice : TypeDefVariant) (vs : List Variant)
-    (input : List ℕ)
-    → d ≡ def.Variant choice → vs ≡ choice.variants
-    → definition_within left table d input ≡ variant_within left table vs input
-variant_is left table d choice vs input e f =
-    ap (λ t. definition_within left table t input) e ∙ ap (λ l. variant_within left table l input) (sym f)
+    (left : ℕ) (table : PortableRegistry) (composite : TypeDefComposite) (fs : List Field) (input : List ℕ)
+    → fs ≡ composite.fields
+    → definition_within left table (def.Composite composite) input
+    ≡ outcome_map dyn.Record (fields_within left table fs input)
+composite_is left table composite fs input f = ap (λ l. outcome_map dyn.Record (fields_within left table l input)) (sym f)
 
 -- after an index byte, an enum goes by the first variant with that index
 variant_by :

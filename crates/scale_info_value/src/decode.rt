@@ -1,6 +1,7 @@
 //! Values decoded by the definitions of their types.
 ghost use Rattle.std.specs.Prelude.{◌≡◌, ◌≤◌, ◌==◌, ◌∷◌, [], IfOk, IfErr, find, replicate};
 ghost use Rattle.std.specs.Option.{option_copied};
+ghost use Rattle.scale_info_types.specs.declared.ty.TypeDef.TheVariants as def;
 ghost use Rattle.scale_info_value.specs.declared.value.Dyn.TheVariants as dyn;
 ghost use Rattle.scale_info_value.specs.declared.value.ValueError.TheVariants as error;
 ghost use Rattle.scale_info_value.specs.Outcomes.{decoded, in_turn, IsErrorOf};
@@ -21,7 +22,10 @@ use scale_info_identities::type_id::TypeId;
 use scale_info_tables::portable::PortableRegistry;
 use scale_info_types::form::PortableForm;
 use scale_info_types::ty::variant::Variant;
-use scale_info_types::ty::{Field, TypeDef};
+use scale_info_types::ty::{
+    Field, TypeDef, TypeDefArray, TypeDefCompact, TypeDefComposite, TypeDefMap, TypeDefSequence,
+    TypeDefTuple, TypeDefVariant,
+};
 use std::alloc::Global;
 
 /// Decodes one value of the type with this id from the start of the input, and returns it with the
@@ -107,6 +111,7 @@ fn compact_by<'a>(
 
 /// A value of the type with this id, and the rest, where so many levels are left.
 #[cycle(value)]
+#[inline(always)]
 fn value_within<'a>(
     alloc: Global,
     table: &PortableRegistry,
@@ -128,7 +133,11 @@ fn value_within<'a>(
 }
 
 /// A value by the definition of its type, and the rest.
+///
+/// Each kind of definition has a function of its own, which is not inlined, and its loop is inlined
+/// into it: so a level of a value takes the stack of its own kind, and not that of all.
 #[cycle(value)]
+#[inline(never)]
 fn value_by<'a>(
     alloc: Global,
     table: &PortableRegistry,
@@ -144,38 +153,55 @@ fn value_by<'a>(
         (IsErrorOf (definition_within left table.now definition.now input.now)) }
 {
     match definition {
-        TypeDef::Composite(composite) => {
-            let (values, rest) = fields(alloc, table, composite.fields.as_slice(), left, input)?;
-            Ok((Dyn::Record(values), rest))
-        }
-        TypeDef::Variant(choice) => {
-            variant(alloc, table, choice.variants.as_slice(), left, input)
-        }
-        TypeDef::Sequence(sequence) => {
-            let (count, rest) = count(input)?;
-            let (values, rest) = items(alloc, table, &sequence.type_param, count, left, rest)?;
-            Ok((Dyn::List(values), rest))
-        }
-        TypeDef::Array(array) => {
-            let (values, rest) = items(alloc, table, &array.type_param, array.len, left, input)?;
-            Ok((Dyn::List(values), rest))
-        }
-        TypeDef::Tuple(tuple) => {
-            let (values, rest) = members(alloc, table, tuple.fields.as_slice(), left, input)?;
-            Ok((Dyn::List(values), rest))
-        }
+        TypeDef::Composite(composite) => composite_value(alloc, table, composite, left, input),
+        TypeDef::Variant(choice) => variant_value(alloc, table, choice, left, input),
+        TypeDef::Sequence(sequence) => sequence_value(alloc, table, sequence, left, input),
+        TypeDef::Array(array) => array_value(alloc, table, array, left, input),
+        TypeDef::Tuple(tuple) => tuple_value(alloc, table, tuple, left, input),
         TypeDef::Primitive(kind) => primitive(alloc, kind, input),
-        TypeDef::Compact(compact) => {
-            let (number, rest) = compact_within(table, compact.type_param.id, left, input)?;
-            Ok((Dyn::Unsigned(number), rest))
-        }
+        TypeDef::Compact(compact) => compact_value(table, compact, left, input),
         TypeDef::BitSequence(_) => Err(ValueError::Unsupported),
-        TypeDef::Map(map) => {
-            let (count, rest) = count(input)?;
-            let (values, rest) = pairs(alloc, table, &map.key, &map.value, count, left, rest)?;
-            Ok((Dyn::List(values), rest))
-        }
+        TypeDef::Map(map) => map_value(alloc, table, map, left, input),
     }
+}
+
+/// A compact number, and the rest.
+#[inline(never)]
+fn compact_value<'a>(
+    table: &PortableRegistry,
+    compact: &TypeDefCompact<PortableForm>,
+    left: u8,
+    input: &'a [u8],
+) -> Result<(Dyn, &'a [u8]), ValueError>
+    ensures ok { IfOk result
+        (λ found. definition_within left table.now (def.Compact compact.now) input.now
+        ≡ decoded found.0 found.1.now) }
+    ensures err { IfErr result
+        (IsErrorOf (definition_within left table.now (def.Compact compact.now) input.now)) }
+{
+    let (number, rest) = compact_within(table, compact.type_param.id, left, input)?;
+    Ok((Dyn::Unsigned(number), rest))
+}
+
+/// A value of a struct, and the rest.
+#[cycle(value)]
+#[inline(never)]
+fn composite_value<'a>(
+    alloc: Global,
+    table: &PortableRegistry,
+    composite: &TypeDefComposite<PortableForm>,
+    left: u8,
+    input: &'a [u8],
+) -> Result<(Dyn, &'a [u8]), ValueError>
+    requires { 1 ≤ left }
+    ensures ok { IfOk result
+        (λ found. definition_within left table.now (def.Composite composite.now) input.now
+        ≡ decoded found.0 found.1.now) }
+    ensures err { IfErr result
+        (IsErrorOf (definition_within left table.now (def.Composite composite.now) input.now)) }
+{
+    let (values, rest) = fields(alloc, table, composite.fields.as_slice(), left, input)?;
+    Ok((Dyn::Record(values), rest))
 }
 
 /// The first variant with this index.
@@ -188,23 +214,25 @@ fn variant_with_index(
     variants.iter().find(|variant| variant.index == index)
 }
 
-/// A value of an enum with these variants, and the rest.
+/// A value of an enum, and the rest.
 #[cycle(value)]
-fn variant<'a>(
+#[inline(never)]
+fn variant_value<'a>(
     alloc: Global,
     table: &PortableRegistry,
-    variants: &[Variant<PortableForm>],
+    choice: &TypeDefVariant<PortableForm>,
     left: u8,
     input: &'a [u8],
 ) -> Result<(Dyn, &'a [u8]), ValueError>
     requires { 1 ≤ left }
     ensures ok { IfOk result
-        (λ found. variant_within left table.now variants.now input.now
+        (λ found. variant_within left table.now choice.now.variants input.now
         ≡ decoded found.0 found.1.now) }
-    ensures err { IfErr result (IsErrorOf (variant_within left table.now variants.now input.now)) }
+    ensures err { IfErr result
+        (IsErrorOf (variant_within left table.now choice.now.variants input.now)) }
 {
     let (index, rest) = byte(input)?;
-    match variant_with_index(variants, index) {
+    match variant_with_index(choice.variants.as_slice(), index) {
         None => Err(ValueError::Malformed),
         Some(variant) => {
             let (fields, rest) = fields(alloc, table, variant.fields.as_slice(), left, rest)?;
@@ -219,8 +247,52 @@ fn variant<'a>(
     }
 }
 
+/// A value of a sequence, and the rest.
+#[cycle(value)]
+#[inline(never)]
+fn sequence_value<'a>(
+    alloc: Global,
+    table: &PortableRegistry,
+    sequence: &TypeDefSequence<PortableForm>,
+    left: u8,
+    input: &'a [u8],
+) -> Result<(Dyn, &'a [u8]), ValueError>
+    requires { 1 ≤ left }
+    ensures ok { IfOk result
+        (λ found. definition_within left table.now (def.Sequence sequence.now) input.now
+        ≡ decoded found.0 found.1.now) }
+    ensures err { IfErr result
+        (IsErrorOf (definition_within left table.now (def.Sequence sequence.now) input.now)) }
+{
+    let (count, rest) = count(input)?;
+    let (values, rest) = items(alloc, table, &sequence.type_param, count, left, rest)?;
+    Ok((Dyn::List(values), rest))
+}
+
+/// A value of an array, and the rest.
+#[cycle(value)]
+#[inline(never)]
+fn array_value<'a>(
+    alloc: Global,
+    table: &PortableRegistry,
+    array: &TypeDefArray<PortableForm>,
+    left: u8,
+    input: &'a [u8],
+) -> Result<(Dyn, &'a [u8]), ValueError>
+    requires { 1 ≤ left }
+    ensures ok { IfOk result
+        (λ found. definition_within left table.now (def.Array array.now) input.now
+        ≡ decoded found.0 found.1.now) }
+    ensures err { IfErr result
+        (IsErrorOf (definition_within left table.now (def.Array array.now) input.now)) }
+{
+    let (values, rest) = items(alloc, table, &array.type_param, array.len, left, input)?;
+    Ok((Dyn::List(values), rest))
+}
+
 /// So many values of one type, and the rest. The type is looked up once for all of them.
 #[cycle(value)]
+#[inline(always)]
 fn items<'a>(
     alloc: Global,
     table: &PortableRegistry,
@@ -249,6 +321,7 @@ fn items<'a>(
 
 /// So many values by the definition of their type, and the rest.
 #[cycle(value)]
+#[inline(always)]
 fn items_by<'a>(
     alloc: Global,
     table: &PortableRegistry,
@@ -277,8 +350,30 @@ fn items_by<'a>(
     Ok((values, rest))
 }
 
+/// A value of a tuple, and the rest.
+#[cycle(value)]
+#[inline(never)]
+fn tuple_value<'a>(
+    alloc: Global,
+    table: &PortableRegistry,
+    tuple: &TypeDefTuple<PortableForm>,
+    left: u8,
+    input: &'a [u8],
+) -> Result<(Dyn, &'a [u8]), ValueError>
+    requires { 1 ≤ left }
+    ensures ok { IfOk result
+        (λ found. definition_within left table.now (def.Tuple tuple.now) input.now
+        ≡ decoded found.0 found.1.now) }
+    ensures err { IfErr result
+        (IsErrorOf (definition_within left table.now (def.Tuple tuple.now) input.now)) }
+{
+    let (values, rest) = members(alloc, table, tuple.fields.as_slice(), left, input)?;
+    Ok((Dyn::List(values), rest))
+}
+
 /// A value of each type in order, and the rest.
 #[cycle(value)]
+#[inline(always)]
 fn members<'a>(
     alloc: Global,
     table: &PortableRegistry,
@@ -304,6 +399,7 @@ fn members<'a>(
 
 /// A value of each field's type in order, under the field's name, and the rest.
 #[cycle(value)]
+#[inline(always)]
 fn fields<'a>(
     alloc: Global,
     table: &PortableRegistry,
@@ -326,8 +422,31 @@ fn fields<'a>(
     Ok((values, rest))
 }
 
+/// A value of a map, and the rest.
+#[cycle(value)]
+#[inline(never)]
+fn map_value<'a>(
+    alloc: Global,
+    table: &PortableRegistry,
+    map: &TypeDefMap<PortableForm>,
+    left: u8,
+    input: &'a [u8],
+) -> Result<(Dyn, &'a [u8]), ValueError>
+    requires { 1 ≤ left }
+    ensures ok { IfOk result
+        (λ found. definition_within left table.now (def.Map map.now) input.now
+        ≡ decoded found.0 found.1.now) }
+    ensures err { IfErr result
+        (IsErrorOf (definition_within left table.now (def.Map map.now) input.now)) }
+{
+    let (count, rest) = count(input)?;
+    let (values, rest) = pairs(alloc, table, &map.key, &map.value, count, left, rest)?;
+    Ok((Dyn::List(values), rest))
+}
+
 /// So many pairs of a key and a value, each a list of two, and the rest.
 #[cycle(value)]
+#[inline(always)]
 fn pairs<'a>(
     alloc: Global,
     table: &PortableRegistry,
@@ -355,6 +474,7 @@ fn pairs<'a>(
 }
 
 /// The list of a key and a value.
+#[inline(never)]
 fn list_of_two(alloc: Global, key: Dyn, value: Dyn) -> Result<Dyn, ValueError>
     ensures ok { IfOk result (λ pair. pair ≡ dyn.List (key ∷ value ∷ [])) }
     ensures err { IfErr result (λ e. e ≡ error.Memory) }

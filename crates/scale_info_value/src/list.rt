@@ -65,7 +65,9 @@ fn each<'a>(
     Ok((values, rest))
 }
 
-/// So many values of a primitive type, and the rest.
+/// So many values of a primitive type, and the rest. Not inlined, so that its loops take no stack
+/// at each level of a value.
+#[inline(never)]
 pub(crate) fn primitives<'a>(
     alloc: Global,
     kind: &TypeDefPrimitive,

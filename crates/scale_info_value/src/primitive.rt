@@ -96,7 +96,9 @@ fn signed_128(input: &[u8]) -> Result<(Dyn, &[u8]), ValueError>
     Ok((Dyn::Signed(n.cast_signed()), rest))
 }
 
-/// A value of a primitive type, and the rest.
+/// A value of a primitive type, and the rest. Not inlined, so that it takes no stack at each level
+/// of a value.
+#[inline(never)]
 pub(crate) fn primitive<'a>(
     alloc: Global,
     kind: &TypeDefPrimitive,

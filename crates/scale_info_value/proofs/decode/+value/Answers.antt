@@ -5,7 +5,7 @@ use Rattle.scale_info_value.specs.Outcomes.{decoded, outcome_map}
 use Rattle.scale_info_value.specs.Readings.{type_at, value_within, definition_within, pair_within, fields_within}
 use Rattle.scale_info_value.proofs.Errors.{passed}
 use Rattle.scale_info_value.proofs.InOrder.{done_more, done_fails, all_fail}
-use Rattle.scale_info_value.proofs.Steps.{value_too_deep, value_no_type, value_of_type, composite_is, variant_is}
+use Rattle.scale_info_value.proofs.Steps.{value_too_deep, value_no_type, value_of_type, composite_is}
 use Rattle.scale_info_value.proofs.Steps.{variant_missing, variant_found, items_of_type, primitives_are}
 use Rattle.scale_info_value.proofs.decode.+value.Goals as goal
 
@@ -95,55 +95,47 @@ pairs-loop-preserved t c =
     (done_more c.args.count read c.args.input.now c.loop.counter c.loop.values c.loop.rest.now c.in_ok-pair.pair
     c.in_ok-pair.after.now (omega arith) c.loop.invariant c.in_ok-pair.ensures.ok)
 
-pub value_by-returns-in_err-values-in-Composite-clause-err : goal.value_by-returns-in_err-values-in-Composite-clause-err
-value_by-returns-in_err-values-in-Composite-clause-err t c =
-    passed c.from_residual.result c.in_err-values-in-Composite.field-0.0 c.from_residual.ensures.1
+pub composite_value-returns-in_err-values-clause-err : goal.composite_value-returns-in_err-values-clause-err
+composite_value-returns-in_err-values-clause-err t c =
+    passed c.from_residual.result c.in_err-values.field-0.0 c.from_residual.ensures.1
     (fields_within c.args.left c.args.table.now c.as_slice.result.now c.args.input.now) _
     (λ why e.
-    composite_is c.args.left c.args.table.now c.args.definition.now c.in-Composite.composite c.as_slice.result.now
-    c.args.input.now c.in-Composite.is c.as_slice.ensures
+    composite_is c.args.left c.args.table.now c.args.composite.now c.as_slice.result.now c.args.input.now
+    c.as_slice.ensures
     ∙ ap (λ o. outcome_map dyn.Record o) e)
-    c.in_err-values-in-Composite.ensures.err
+    c.in_err-values.ensures.err
 
-pub value_by-returns-in_ok-values-in-Composite-clause-ok : goal.value_by-returns-in_ok-values-in-Composite-clause-ok
-value_by-returns-in_ok-values-in-Composite-clause-ok t c =
-    composite_is c.args.left c.args.table.now c.args.definition.now c.in-Composite.composite c.as_slice.result.now
-    c.args.input.now c.in-Composite.is c.as_slice.ensures
-    ∙ ap (λ o. outcome_map dyn.Record o) c.in_ok-values-in-Composite.ensures.ok
+pub composite_value-returns-clause-ok : goal.composite_value-returns-clause-ok
+composite_value-returns-clause-ok t c =
+    composite_is c.args.left c.args.table.now c.args.composite.now c.as_slice.result.now c.args.input.now
+    c.as_slice.ensures
+    ∙ ap (λ o. outcome_map dyn.Record o) c.in_ok-values.ensures.ok
 
-pub value_by-returns-in-Variant-clause-err : goal.value_by-returns-in-Variant-clause-err
-value_by-returns-in-Variant-clause-err t c =
-    let by_variants =
-    variant_is c.args.left c.args.table.now c.args.definition.now c.in-Variant.choice
-    c.as_slice-in-Variant.result.now c.args.input.now c.in-Variant.is c.as_slice-in-Variant.ensures
-    in
-    rw by_variants c.variant.ensures.err
-
-pub variant-returns-in-None-clause-err : goal.variant-returns-in-None-clause-err
-variant-returns-in-None-clause-err t c =
-    let none : find (λ v. v.index == c.in_ok-index.index) c.args.variants.now ≡ None = grind (arith, common_steps) in
-    variant_missing c.args.left c.args.table.now c.args.variants.now c.args.input.now c.in_ok-index.rest.now
+pub variant_value-returns-in-None-clause-err : goal.variant_value-returns-in-None-clause-err
+variant_value-returns-in-None-clause-err t c =
+    let none : find (λ v. v.index == c.in_ok-index.index) c.args.choice.now.variants ≡ None = grind (arith, common_steps) in
+    variant_missing c.args.left c.args.table.now c.args.choice.now.variants c.args.input.now c.in_ok-index.rest.now
     c.in_ok-index.index c.in_ok-index.ensures.ok none
 
-pub variant-returns-in_err-fields-in-Some-clause-err : goal.variant-returns-in_err-fields-in-Some-clause-err
-variant-returns-in_err-fields-in-Some-clause-err t c =
-    let some : find (λ v. v.index == c.in_ok-index.index) c.args.variants.now ≡ Some c.in-Some.variant.now =
+pub variant_value-returns-in_err-fields-in-Some-clause-err : goal.variant_value-returns-in_err-fields-in-Some-clause-err
+variant_value-returns-in_err-fields-in-Some-clause-err t c =
+    let some : find (λ v. v.index == c.in_ok-index.index) c.args.choice.now.variants ≡ Some c.in-Some.variant.now =
     grind (arith, common_steps) in
     passed c.from_residual-in_err-fields-in-Some.result c.in_err-fields-in-Some.field-0.0
     c.from_residual-in_err-fields-in-Some.ensures.1
-    (fields_within c.args.left c.args.table.now c.as_slice.result.now c.in_ok-index.rest.now) _
+    (fields_within c.args.left c.args.table.now c.as_slice-in-Some.result.now c.in_ok-index.rest.now) _
     (λ why e.
-    variant_found c.args.left c.args.table.now c.args.variants.now c.args.input.now c.in_ok-index.rest.now
-    c.in_ok-index.index c.in-Some.variant.now c.as_slice.result.now c.in_ok-index.ensures.ok some c.as_slice.ensures
+    variant_found c.args.left c.args.table.now c.args.choice.now.variants c.args.input.now c.in_ok-index.rest.now
+    c.in_ok-index.index c.in-Some.variant.now c.as_slice-in-Some.result.now c.in_ok-index.ensures.ok some c.as_slice-in-Some.ensures
     ∙ ap (λ o. outcome_map (λ values. dyn.Variant c.in-Some.variant.now.name c.in_ok-index.index values) o) e)
     c.in_err-fields-in-Some.ensures.err
 
-pub variant-returns-in_ok-name-in-Some-clause-ok : goal.variant-returns-in_ok-name-in-Some-clause-ok
-variant-returns-in_ok-name-in-Some-clause-ok t c =
-    let some : find (λ v. v.index == c.in_ok-index.index) c.args.variants.now ≡ Some c.in-Some.variant.now =
+pub variant_value-returns-in_ok-name-in-Some-clause-ok : goal.variant_value-returns-in_ok-name-in-Some-clause-ok
+variant_value-returns-in_ok-name-in-Some-clause-ok t c =
+    let some : find (λ v. v.index == c.in_ok-index.index) c.args.choice.now.variants ≡ Some c.in-Some.variant.now =
     grind (arith, common_steps) in
-    variant_found c.args.left c.args.table.now c.args.variants.now c.args.input.now c.in_ok-index.rest.now
-    c.in_ok-index.index c.in-Some.variant.now c.as_slice.result.now c.in_ok-index.ensures.ok some c.as_slice.ensures
+    variant_found c.args.left c.args.table.now c.args.choice.now.variants c.args.input.now c.in_ok-index.rest.now
+    c.in_ok-index.index c.in-Some.variant.now c.as_slice-in-Some.result.now c.in_ok-index.ensures.ok some c.as_slice-in-Some.ensures
     ∙ ap (λ o. outcome_map (λ values. dyn.Variant c.in-Some.variant.now.name c.in_ok-index.index values) o)
     c.in_ok-fields-in-Some.ensures.ok
     ∙ ap (λ name.

@@ -4,31 +4,46 @@ use Rattle.scale_info_value.proofs.InOrder.{preceded, Done}
 use Rattle.scale_info_value.proofs.decode.+value.Given as goal
 
 abbrev pub decreases-value_within : goal.decreases-value_within
-decreases-value_within l = 4 * l.left
+decreases-value_within l = 5 * l.left
 
 abbrev pub decreases-value_by : goal.decreases-value_by
-decreases-value_by l = 4 * l.left - 1
+decreases-value_by l = 5 * l.left - 1
 
-abbrev pub decreases-variant : goal.decreases-variant
-decreases-variant l = 4 * l.left - 2
+abbrev pub decreases-composite_value : goal.decreases-composite_value
+decreases-composite_value l = 5 * l.left - 2
+
+abbrev pub decreases-sequence_value : goal.decreases-sequence_value
+decreases-sequence_value l = 5 * l.left - 2
+
+abbrev pub decreases-array_value : goal.decreases-array_value
+decreases-array_value l = 5 * l.left - 2
+
+abbrev pub decreases-tuple_value : goal.decreases-tuple_value
+decreases-tuple_value l = 5 * l.left - 2
+
+abbrev pub decreases-map_value : goal.decreases-map_value
+decreases-map_value l = 5 * l.left - 2
+
+abbrev pub decreases-variant_value : goal.decreases-variant_value
+decreases-variant_value l = 5 * l.left - 2
 
 abbrev pub decreases-items : goal.decreases-items
-decreases-items l = 4 * l.left - 2
+decreases-items l = 5 * l.left - 3
 
 abbrev pub decreases-items_by : goal.decreases-items_by
-decreases-items_by l = 4 * l.left
+decreases-items_by l = 5 * l.left
 
 abbrev pub decreases-members : goal.decreases-members
-decreases-members l = 4 * l.left - 2
+decreases-members l = 5 * l.left - 3
 
 abbrev pub decreases-fields : goal.decreases-fields
-decreases-fields l = 4 * l.left - 3
+decreases-fields l = 5 * l.left - 3
 
 abbrev pub decreases-pairs : goal.decreases-pairs
-decreases-pairs l = 4 * l.left - 2
+decreases-pairs l = 5 * l.left - 3
 
 abbrev pub decreases-pair : goal.decreases-pair
-decreases-pair l = 4 * l.left - 3
+decreases-pair l = 5 * l.left - 4
 
 abbrev pub invariant-items_by-loop : goal.invariant-items_by-loop
 invariant-items_by-loop l =
