@@ -225,6 +225,26 @@ module _ {T : Type 0} {cmp : T → T → Ordering} (o : IsTotalOrder cmp) where
         sym (first_is xs x found.0 index found.2) ∙ past found.0 found.1);
   }
 
+  -- where the index before the place is less than x, so are all before it
+  less_inside :
+      (xs : List T) (chunks : List (List ℕ)) (x : T) (c i : ℕ) (chunk : List ℕ)
+      → IsOrder cmp xs chunks
+      → slice_get chunks c ≡ Some chunk
+      → suc i ≤ length chunk
+      → ((index : ℕ) → slice_get chunk i ≡ Some index → against cmp xs x index ≡ Less)
+      → All (λ j. against cmp xs x j ≡ Less) (before chunks c (suc i))
+  less_inside xs chunks x c i chunk order there bound less =
+      let index = get_or chunk i 0 in
+      let here : slice_get chunk i ≡ Some index = slice_get-get_or chunk i 0 (omega (arith, bound)) in
+      let split = before_at chunks c i index chunk there here in
+      let up : AreOrdered (IsBelow cmp xs) (before chunks c i ++ index ∷ []) =
+      subst (AreOrdered (IsBelow cmp xs)) split
+      (ordered_left (IsBelow cmp xs) (before chunks c (suc i)) (after chunks c (suc i))
+      (parts_ordered xs chunks c (suc i) order)) in
+      All-same (λ j. against cmp xs x j ≡ Less) (before chunks c (suc i))
+      (before chunks c i ++ index ∷ []) split
+      (less_before xs x (before chunks c i) index up (less index here))
+
   less_part :
       (xs : List T) (chunks : List (List ℕ)) (x : T) (c at : ℕ) (chunk : List ℕ)
       → IsOrder cmp xs chunks
@@ -240,16 +260,7 @@ module _ {T : Type 0} {cmp : T → T → Ordering} (o : IsTotalOrder cmp) where
   less_part xs chunks x c zero (i ∷ chunk) order there upto bound less greater =
       absurd (upto (first_is xs x (i ∷ chunk) i refl ∙ greater i refl))
   less_part xs chunks x c (suc i) chunk order there upto bound less greater =
-      let index = get_or chunk i 0 in
-      let here : slice_get chunk i ≡ Some index = slice_get-get_or chunk i 0 (omega (arith, bound)) in
-      let split = before_at chunks c i index chunk there here in
-      let up : AreOrdered (IsBelow cmp xs) (before chunks c i ++ index ∷ []) =
-      subst (AreOrdered (IsBelow cmp xs)) split
-      (ordered_left (IsBelow cmp xs) (before chunks c (suc i)) (after chunks c (suc i))
-      (parts_ordered xs chunks c (suc i) order)) in
-      All-same (λ j. against cmp xs x j ≡ Less) (before chunks c (suc i))
-      (before chunks c i ++ index ∷ []) split
-      (less_before xs x (before chunks c i) index up (less i index (omega arith) here))
+      less_inside xs chunks x c i chunk order there bound (λ index p. less i index (omega arith) p)
 
   -- where a chunk does not start above x and the next does, x goes where a search in it says
   pub gap_within :
@@ -277,6 +288,63 @@ module _ {T : Type 0} {cmp : T → T → Ordering} (o : IsTotalOrder cmp) where
                   greater index (subst (λ v. slice_get v at ≡ Some index)
                   (same_Some found chunk (sym p ∙ there)) q)
               | next found p q ↦ sym (first_is xs x found index q) ∙ past found p
+            ]);
+      }
+
+  front_part :
+      (xs : List T) (chunks : List (List ℕ)) (x : T) (c at : ℕ) (chunk : List ℕ)
+      → IsOrder cmp xs chunks
+      → slice_get chunks c ≡ Some chunk
+      → ((i : ℕ) → c ≡ suc i → 0 < at)
+      → at ≤ length chunk
+      → ((i index : ℕ) → at ≡ i + 1 → slice_get chunk i ≡ Some index
+      → against cmp xs x index ≡ Less)
+      → All (λ i. against cmp xs x i ≡ Less) (before chunks c at)
+  front_part xs [] x c at chunk order there inside bound less = cc
+  front_part xs (first ∷ chunks) x zero zero chunk order there inside bound less =
+      All-nil (λ i. against cmp xs x i ≡ Less)
+  front_part xs (first ∷ chunks) x (suc c) zero chunk order there inside bound less =
+      let l = inside c refl in absurd (omega (arith, l))
+  front_part xs (first ∷ chunks) x c (suc i) chunk order there inside bound less =
+      less_inside xs (first ∷ chunks) x c i chunk order there bound
+      (λ index p. less i index (omega arith) p)
+
+  -- x goes where a search in a chunk says, if an index of the chunk stands before the place or no
+  -- chunk does, and if one stands behind it or the next chunk starts above x
+  pub gap_here :
+      (xs : List T) (chunks : List (List ℕ)) (x : T) (c at : ℕ) (chunk : List ℕ)
+      → IsOrder cmp xs chunks
+      → slice_get chunks c ≡ Some chunk
+      → ((i : ℕ) → c ≡ suc i → 0 < at)
+      → ((next : List ℕ) → length chunk ≤ at → slice_get chunks (suc c) ≡ Some next
+      → first_against cmp xs x next ≡ Greater)
+      → at ≤ length chunk
+      → ((i index : ℕ) → at ≡ i + 1 → slice_get chunk i ≡ Some index
+      → against cmp xs x index ≡ Less)
+      → ((index : ℕ) → slice_get chunk at ≡ Some index → against cmp xs x index ≡ Greater)
+      → IsGapFor cmp xs chunks x c at
+  gap_here xs chunks x c at chunk order there inside past bound less greater =
+      let up = parts_ordered xs chunks c at order in
+      record {
+        within = λ found p. subst (λ v. at ≤ length v) (same_Some chunk found (sym there ∙ p)) bound;
+        less = front_part xs chunks x c at chunk order there inside bound less;
+        greater =
+            greater_after xs x (after chunks c at)
+            (ordered_right (IsBelow cmp xs) (before chunks c at) (after chunks c at) up)
+            (λ index rest e. elim (cases_lt at (length chunk)) [
+              | inl l ↦
+                  let j = get_or chunk at 0 in
+                  let here : slice_get chunk at ≡ Some j = slice_get-get_or chunk at 0 l in
+                  let split : j ∷ after chunks c (suc at) ≡ index ∷ rest =
+                  sym (after_at chunks c at j chunk there here) ∙ e in
+                  let same : j ≡ index = cc in
+                  subst (λ k. against cmp xs x k ≡ Greater) same (greater j here)
+              | inr g ↦ elim (first_after chunks c at index rest order.filled e) [
+                | here found p q ↦
+                    greater index (subst (λ v. slice_get v at ≡ Some index)
+                    (same_Some found chunk (sym p ∙ there)) q)
+                | next found p q ↦ sym (first_is xs x found index q) ∙ past found g p
+              ]
             ]);
       }
 

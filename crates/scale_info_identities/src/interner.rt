@@ -116,11 +116,14 @@ impl<T: Drop> From<AllocFailed<T>> for InternError {
 ///
 /// Equal values share one index, as in the crate `scale-info`. Contracts see an interner as the
 /// list of its elements. A look-up or an insertion takes a number of comparisons logarithmic in
-/// the number of elements. Each element is kept once, and its index in the order of the elements.
+/// the number of elements. Each element is kept once, and its index in the order of the elements;
+/// of one in 32 or more there is a copy, which leads a search to its place.
 #[derive(Drop)]
 pub struct Interner<T: Ord> {
     elements: Vec<T>,
     chunks: Vec<Vec<u32>>,
+    // Copies of elements, one between two chunks.
+    bounds: Vec<T>,
     // Rooms that the list of chunks had before.
     rooms: Vec<Vec<Vec<u32>>>,
 }
@@ -147,6 +150,7 @@ impl<T: Ord + Drop> Interner<T> {
         Interner {
             elements: Vec::new(alloc),
             chunks: Vec::new(alloc),
+            bounds: Vec::new(alloc),
             rooms: Vec::new(alloc),
         }
     }
@@ -190,7 +194,12 @@ impl<T: Ord + Drop> Interner<T> {
         ensures { self.new ≡ take len self.old }
     {
         while self.elements.len() > len {
-            drop_last(&mut self.elements, &mut self.chunks, &mut self.rooms);
+            drop_last(
+                &mut self.elements,
+                &mut self.chunks,
+                &mut self.bounds,
+                &mut self.rooms,
+            );
         }
     }
 
@@ -199,7 +208,7 @@ impl<T: Ord + Drop> Interner<T> {
         ensures index { (i : _) → (result ≡ Some i) ↔ IsIndexOf T.eq self.now value.now i }
         ensures known { IsSome result ↔ IsKnown T.eq self.now value.now }
     {
-        match locate(&self.elements, &self.chunks, value) {
+        match locate(&self.elements, &self.chunks, &self.bounds, value) {
             Ok(index) => Some(index),
             Err(_) => None,
         }
@@ -228,7 +237,7 @@ impl<T: Ord + TryClone> Interner<T> {
             ↔ (length self.old ≡ 4294967295) × IsNew T.eq self.old value }
         ensures err { OnErr result (self.new ≡ self.old) }
     {
-        let place = match locate(&self.elements, &self.chunks, &value) {
+        let place = match locate(&self.elements, &self.chunks, &self.bounds, &value) {
             Ok(index) => return Ok((false, UntrackedSymbol::from(index))),
             Err(place) => place,
         };
@@ -238,6 +247,7 @@ impl<T: Ord + TryClone> Interner<T> {
         let symbol = push_new(
             &mut self.elements,
             &mut self.chunks,
+            &mut self.bounds,
             &mut self.rooms,
             place,
             value,
@@ -257,9 +267,10 @@ impl<T: Ord + TryClone> Interner<T> {
 /// Puts a value at the end of the elements and its index at a place, and returns the index.
 ///
 /// Errors: `Memory`, if an allocation failed; then all is as before.
-fn push_new<T: Drop>(
+fn push_new<T: TryClone>(
     elements: &mut Vec<T>,
     chunks: &mut Vec<Vec<u32>>,
+    bounds: &mut Vec<T>,
     rooms: &mut Vec<Vec<Vec<u32>>>,
     place: Place,
     value: T,
@@ -289,7 +300,7 @@ fn push_new<T: Drop>(
         return Err(InternError::Memory);
     }
     widen(alloc, chunks, rooms);
-    split_full(alloc, chunks, place.chunk);
+    split_full(alloc, elements, chunks, bounds, place.chunk);
     Ok(UntrackedSymbol::from(index))
 }
 
@@ -297,6 +308,7 @@ fn push_new<T: Drop>(
 fn drop_last<T: Ord + Drop>(
     elements: &mut Vec<T>,
     chunks: &mut Vec<Vec<u32>>,
+    bounds: &mut Vec<T>,
     rooms: &mut Vec<Vec<Vec<u32>>>,
 )
     requires { IsOrder T.cmp elements.old.items (map (λ v. v.items) chunks.old.items) }
@@ -307,11 +319,11 @@ fn drop_last<T: Ord + Drop>(
     let Some(last) = elements.last() else {
         return;
     };
-    let Ok(place) = find(elements, chunks, last) else {
+    let Ok(place) = find(elements, chunks, bounds, last) else {
         unreachable!()
     };
-    remove(chunks, place);
-    merge_small(chunks, place.chunk);
+    remove(chunks, bounds, place);
+    merge_small(chunks, bounds, place.chunk);
     narrow(chunks, rooms);
     elements.pop();
 }

@@ -1,6 +1,7 @@
 //! Identities of types, lists of distinct values, and questions about texts.
 #![tactic(auto)]
 
+mod bounds;
 pub mod interner;
 pub mod laws;
 mod order;

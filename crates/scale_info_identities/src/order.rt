@@ -10,11 +10,13 @@ ghost use Rattle.std.specs.declared.cmp.Ordering.TheVariants.{Less, Equal, Great
 ghost use Rattle.scale_info_identities.specs.Orders.{against, first_against, before, after};
 ghost use Rattle.scale_info_identities.specs.Orders.{IsFoundAt, IsGapFor, IsOrder};
 
+use crate::bounds::{chunk_of, drop_bound, put_bound};
+use scale_info_collections::try_clone::TryClone;
 use std::alloc::{AllocError, Global};
 use std::cmp::Ordering;
 
 /// A chunk with fewer indices than this is never split.
-const FULL: usize = 512;
+const FULL: usize = 64;
 
 /// A place in an order: the number of a chunk, and where in it.
 #[derive(Clone, Copy)]
@@ -92,7 +94,7 @@ fn search<T: Ord>(elements: &[T], chunk: &[u32], value: &T) -> Result<usize, usi
 }
 
 /// The place of the index whose element is equal to a value; else where one would go.
-pub fn find<T: Ord>(elements: &[T], chunks: &[Vec<u32>], value: &T) -> Result<Place, Place>
+fn find_by_halves<T: Ord>(elements: &[T], chunks: &[Vec<u32>], value: &T) -> Result<Place, Place>
     requires { IsOrder T.cmp elements.now (map (λ v. v.items) chunks.now) }
     ensures found { IfOk result (λ place. IsFoundAt T.cmp elements.now
         (map (λ v. v.items) chunks.now) value.now place.chunk place.at) }
@@ -108,15 +110,78 @@ pub fn find<T: Ord>(elements: &[T], chunks: &[Vec<u32>], value: &T) -> Result<Pl
     }
 }
 
+/// Whether a chunk is the last, or the next starts above a value.
+fn ends_below<T: Ord>(elements: &[T], chunks: &[Vec<u32>], chunk: usize, value: &T) -> bool
+    requires { chunk < length chunks.now }
+    ensures { (next : List ℕ) → IsTrue result
+        → slice_get (map (λ v. v.items) chunks.now) (chunk + 1) ≡ Some next
+        → first_against T.cmp elements.now value.now next ≡ Greater }
+{
+    match chunks.get(chunk + 1) {
+        Some(next) => starts_above(elements, next, value),
+        None => true,
+    }
+}
+
+/// The place in a chunk of the index whose element is equal to a value; else where one would go,
+/// and None if that may be in another chunk.
+fn find_in<T: Ord>(
+    elements: &[T],
+    chunks: &[Vec<u32>],
+    chunk: usize,
+    value: &T,
+) -> Option<Result<Place, Place>>
+    requires { IsOrder T.cmp elements.now (map (λ v. v.items) chunks.now) }
+    ensures found { IfSome result (λ found. IfOk found (λ place. IsFoundAt T.cmp elements.now
+        (map (λ v. v.items) chunks.now) value.now place.chunk place.at)) }
+    ensures absent { IfSome result (λ found. IfErr found (λ place. IsGapFor T.cmp elements.now
+        (map (λ v. v.items) chunks.now) value.now place.chunk place.at)) }
+{
+    let indices = chunks.get(chunk)?;
+    let at = match search(elements, indices, value) {
+        Ok(at) => return Some(Ok(Place { chunk, at })),
+        Err(at) => at,
+    };
+    let is_above_others = chunk == 0 || at > 0;
+    if is_above_others && (at < indices.len() || ends_below(elements, chunks, chunk, value)) {
+        return Some(Err(Place { chunk, at }));
+    }
+    None
+}
+
+/// The place of the index whose element is equal to a value; else where one would go.
+pub fn find<T: Ord>(
+    elements: &[T],
+    chunks: &[Vec<u32>],
+    bounds: &[T],
+    value: &T,
+) -> Result<Place, Place>
+    requires { IsOrder T.cmp elements.now (map (λ v. v.items) chunks.now) }
+    ensures found { IfOk result (λ place. IsFoundAt T.cmp elements.now
+        (map (λ v. v.items) chunks.now) value.now place.chunk place.at) }
+    ensures absent { IfErr result (λ place. IsGapFor T.cmp elements.now
+        (map (λ v. v.items) chunks.now) value.now place.chunk place.at) }
+{
+    match find_in(elements, chunks, chunk_of(bounds, value), value) {
+        Some(found) => found,
+        None => find_by_halves(elements, chunks, value),
+    }
+}
+
 /// The index whose element is equal to a value; else the place where one would go.
-pub fn locate<T: Ord>(elements: &[T], chunks: &[Vec<u32>], value: &T) -> Result<u32, Place>
+pub fn locate<T: Ord>(
+    elements: &[T],
+    chunks: &[Vec<u32>],
+    bounds: &[T],
+    value: &T,
+) -> Result<u32, Place>
     requires { IsOrder T.cmp elements.now (map (λ v. v.items) chunks.now) }
     ensures found { IfOk result
         (λ index. against T.cmp elements.now value.now index ≡ Equal) }
     ensures absent { IfErr result (λ place. IsGapFor T.cmp elements.now
         (map (λ v. v.items) chunks.now) value.now place.chunk place.at) }
 {
-    match find(elements, chunks, value) {
+    match find(elements, chunks, bounds, value) {
         Ok(place) => Ok(chunks[place.chunk][place.at]),
         Err(place) => Err(place),
     }
@@ -158,21 +223,34 @@ fn alone(alloc: Global, index: u32) -> Result<Vec<u32>, AllocError>
 
 /// How many of its indices a chunk keeps when it is split; None while it may grow.
 ///
-/// A split moves the headers of the chunks behind it, and pays for that by the insertions before
-/// it. So where there are many chunks, a chunk grows until its length times 24 is the number of
-/// chunks over its length: an insertion then moves some 20 KB in the largest interner, which is
-/// less than its search costs.
-fn half_of_full(len: usize, chunks: usize) -> Option<usize>
-    ensures { IfSome result (λ half. (0 < half) × (half < len)) }
+/// A chunk is split where one more index would need more room. A split moves the headers and the
+/// bounds of the chunks behind it, and pays for that by the insertions before it. So where there are
+/// many chunks, a chunk grows until its length times 8 is the number of chunks over its length: an
+/// insertion of numbers then moves some 20 KB in the largest interner, which is about what its
+/// search costs.
+fn half_of_full(chunk: &Vec<u32>, chunks: usize) -> Option<usize>
+    ensures { IfSome result (λ half. (0 < half) × (half < length chunk.now.items)) }
 {
-    if len < FULL || len / 24 < chunks / len {
+    let len = chunk.len();
+    if len < FULL || len < chunk.capacity() || len / 8 < chunks / len {
         return None;
     }
     Some(len / 2)
 }
 
+/// The element of the first index of a chunk.
+fn first_of<'a, T>(elements: &'a [T], chunk: &[u32]) -> Option<&'a T> {
+    elements.get(*chunk.first()? as usize)
+}
+
 /// Splits a chunk in two, if it is full. Where an allocation fails, it stays as it is.
-pub fn split_full(alloc: Global, chunks: &mut Vec<Vec<u32>>, chunk: usize)
+pub fn split_full<T: TryClone>(
+    alloc: Global,
+    elements: &[T],
+    chunks: &mut Vec<Vec<u32>>,
+    bounds: &mut Vec<T>,
+    chunk: usize,
+)
     ensures joined { concat (map (λ v. v.items) chunks.new.items)
         ≡ concat (map (λ v. v.items) chunks.old.items) }
     ensures filled { All (λ c. c ≢ []) (map (λ v. v.items) chunks.old.items)
@@ -181,20 +259,28 @@ pub fn split_full(alloc: Global, chunks: &mut Vec<Vec<u32>>, chunk: usize)
     let Some(first) = chunks.get(chunk) else {
         return;
     };
-    let Some(half) = half_of_full(first.len(), chunks.len()) else {
+    let Some(half) = half_of_full(first, chunks.len()) else {
         return;
     };
     let (_, rest) = first.split_at(half);
+    let Some(least) = first_of(elements, rest) else {
+        return;
+    };
     let Ok(second) = Vec::from_slice(alloc, rest) else {
         return;
     };
+    if put_bound(alloc, bounds, chunk, least).is_err() {
+        return;
+    }
     if chunks.insert(chunk + 1, second).is_ok() {
         chunks[chunk].truncate(half);
+    } else {
+        drop_bound(bounds, chunk);
     }
 }
 
 /// Takes the index at a place out, and drops a chunk that is then empty.
-pub fn remove(chunks: &mut Vec<Vec<u32>>, place: Place)
+pub fn remove<T: Drop>(chunks: &mut Vec<Vec<u32>>, bounds: &mut Vec<T>, place: Place)
     requires { (chunk : List ℕ) × (slice_get (map (λ v. v.items) chunks.old.items) place.chunk
         ≡ Some chunk) × (place.at < length chunk) }
     ensures joined { (index : ℕ) (rest : List ℕ)
@@ -208,6 +294,7 @@ pub fn remove(chunks: &mut Vec<Vec<u32>>, place: Place)
     chunk.remove(place.at);
     if chunk.is_empty() {
         chunks.remove(place.chunk);
+        drop_bound(bounds, place.chunk.saturating_sub(1));
     }
 }
 
@@ -215,20 +302,20 @@ pub fn remove(chunks: &mut Vec<Vec<u32>>, place: Place)
 ///
 /// So the room of the chunks follows the number of indices that stay. A chunk that was joined takes
 /// as many more indices as it has, at least, before it is split.
-pub fn merge_small(chunks: &mut Vec<Vec<u32>>, chunk: usize)
+pub fn merge_small<T: Drop>(chunks: &mut Vec<Vec<u32>>, bounds: &mut Vec<T>, chunk: usize)
     ensures joined { concat (map (λ v. v.items) chunks.new.items)
         ≡ concat (map (λ v. v.items) chunks.old.items) }
     ensures filled { All (λ c. c ≢ []) (map (λ v. v.items) chunks.old.items)
         → All (λ c. c ≢ []) (map (λ v. v.items) chunks.new.items) }
 {
-    merge_next(chunks, chunk);
+    merge_next(chunks, bounds, chunk);
     if let Some(before) = chunk.checked_sub(1) {
-        merge_next(chunks, before);
+        merge_next(chunks, bounds, before);
     }
 }
 
 /// Moves the indices of the next chunk behind those of a chunk, and drops it, if both are small.
-fn merge_next(chunks: &mut Vec<Vec<u32>>, chunk: usize)
+fn merge_next<T: Drop>(chunks: &mut Vec<Vec<u32>>, bounds: &mut Vec<T>, chunk: usize)
     ensures joined { concat (map (λ v. v.items) chunks.new.items)
         ≡ concat (map (λ v. v.items) chunks.old.items) }
     ensures filled { All (λ c. c ≢ []) (map (λ v. v.items) chunks.old.items)
@@ -238,13 +325,13 @@ fn merge_next(chunks: &mut Vec<Vec<u32>>, chunk: usize)
         return;
     }
     let next = chunks.remove(chunk + 1);
+    drop_bound(bounds, chunk);
     if chunks[chunk].extend_from_slice(&next).is_err() {
         unreachable!()
     }
 }
 
-/// Whether a chunk and the next are small: both fill a half of the room of the first one, or of a
-/// full chunk, at most.
+/// Whether a chunk and the next are small: both fill a half of the room of the first one at most.
 fn is_small_with_next(chunks: &[Vec<u32>], chunk: usize) -> bool
     ensures { IsTrue result → (first : _) × (next : _)
         × (slice_get chunks.now chunk ≡ Some first) × (slice_get chunks.now (chunk + 1) ≡ Some next)
@@ -256,7 +343,7 @@ fn is_small_with_next(chunks: &[Vec<u32>], chunk: usize) -> bool
     let Some(next) = chunks.get(chunk + 1) else {
         return false;
     };
-    match (first.capacity().min(FULL) / 2).checked_sub(first.len()) {
+    match (first.capacity() / 2).checked_sub(first.len()) {
         Some(room) => next.len() <= room,
         None => false,
     }

@@ -4,10 +4,11 @@ use Rattle.std.specs.List.{remove}
 use Rattle.std.proofs.lemmas.List.Edits.{get_or-remove_below}
 use Rattle.std.proofs.lemmas.Option.{slice_get_within, get_or_from_slice_get}
 use Rattle.scale_info_identities.proofs.Chunks.{merge_joined, merge_filled, filled_at, filled_before}
+use Rattle.scale_info_identities.proofs.order.merge_next.Given as given
 use Rattle.scale_info_identities.proofs.order.merge_next.Goals as goal
 
 -- the chunk and the next
-record Both (c : goal.After-drop-next) : Type 0 where
+record Both (g : given.Over) (c : goal.After-drop-next g) : Type 0 where
   first : Vec ℕ Global
   next : Vec ℕ Global
   here : slice_get c.args.chunks.now.items c.args.chunk ≡ Some first
@@ -15,8 +16,8 @@ record Both (c : goal.After-drop-next) : Type 0 where
   made : c.remove-next.new.self.items ≡ remove c.args.chunks.now.items (suc c.args.chunk)
   joined : c.extend_from_slice.new.self.items ≡ first.items ++ next.items
 
-both : (c : goal.After-drop-next) → Both c
-both c =
+both : (g : given.Over) (c : goal.After-drop-next g) → Both g c
+both g c =
     let vs = c.args.chunks.now.items in
     let i = c.args.chunk in
     let small : IsTrue c.is_small_with_next.result = search rules in
@@ -48,14 +49,14 @@ both c =
     }
 
 pub returns-clause-joined : goal.returns-clause-joined
-returns-clause-joined c =
-    let b = both c in
+returns-clause-joined g c =
+    let b = both g c in
     rw b.made (merge_joined (λ v. v.items) c.args.chunks.now.items c.args.chunk b.first
     c.extend_from_slice.new.self b.next b.here b.there b.joined)
 
 pub returns-clause-filled : goal.returns-clause-filled
-returns-clause-filled c = λ all.
-    let b = both c in
+returns-clause-filled g c = λ all.
+    let b = both g c in
     let some : c.extend_from_slice.new.self.items ≢ [] =
     subst (λ t. t ≢ []) (sym b.joined) (filled_before b.first.items b.next.items
     (filled_at (λ v. v.items) (λ v. v ≢ []) c.args.chunks.now.items c.args.chunk b.first all b.here)) in

@@ -7,7 +7,7 @@ use Rattle.scale_info_identities.proofs.Chunks.{set_filled, some_items}
 use Rattle.scale_info_identities.proofs.order.remove.Goals as goal
 
 pub returns-then-is_empty-clause-joined : goal.returns-then-is_empty-clause-joined
-returns-then-is_empty-clause-joined c = λ index rest e.
+returns-then-is_empty-clause-joined g c = λ index rest e.
     let vs = c.args.chunks.now.items in
     let i = c.args.place.chunk in
     let none : c.remove.new.self.items ≡ [] =
@@ -21,7 +21,7 @@ returns-then-is_empty-clause-joined c = λ index rest e.
     c.index_mut-chunk.ensures.value c.remove.ensures.value c.remove.ensures.items e)
 
 pub returns-then-is_empty-clause-filled : goal.returns-then-is_empty-clause-filled
-returns-then-is_empty-clause-filled c = λ all.
+returns-then-is_empty-clause-filled g c = λ all.
     let vs = c.args.chunks.now.items in
     let i = c.args.place.chunk in
     let gone : c.remove-then-is_empty.new.self.items ≡ remove (set vs i c.remove.new.self) i =
@@ -29,13 +29,13 @@ returns-then-is_empty-clause-filled c = λ all.
     rw gone (dropped_filled (λ v. v.items) (λ v. v ≢ []) vs i c.remove.new.self all)
 
 pub returns-else-is_empty-clause-joined : goal.returns-else-is_empty-clause-joined
-returns-else-is_empty-clause-joined c = λ index rest e.
+returns-else-is_empty-clause-joined g c = λ index rest e.
     removed_joined (λ v. v.items) c.args.chunks.now.items c.args.place.chunk c.args.place.at index
     c.remove.result rest c.requires.0 c.index_mut-chunk.result.now c.remove.new.self c.requires.1
     c.requires.2 c.index_mut-chunk.ensures.value c.remove.ensures.value c.remove.ensures.items e
 
 pub returns-else-is_empty-clause-filled : goal.returns-else-is_empty-clause-filled
-returns-else-is_empty-clause-filled c = λ all.
+returns-else-is_empty-clause-filled g c = λ all.
     let some : c.remove.new.self.items ≢ [] = λ e.
     some_items c.remove.new.self.items
     (grind (arith, common_steps, rules, c.if-is_empty.ensures, c.remove.new.self.ok.0)) e in

@@ -3,7 +3,7 @@ use Rattle.std.proofs.lemmas.Bool.{cases_lt}
 use Rattle.std.proofs.lemmas.Option.{slice_get_read}
 use Rattle.scale_info_identities.proofs.Orders.{gap_first, gap_within}
 use Rattle.scale_info_identities.proofs.Chunks.{row_there}
-use Rattle.scale_info_identities.proofs.order.find.Goals as goal
+use Rattle.scale_info_identities.proofs.order.find_by_halves.Goals as goal
 
 pub returns-in_default-clause-absent : goal.returns-in_default-clause-absent
 returns-in_default-clause-absent g c =
