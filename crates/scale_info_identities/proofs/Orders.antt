@@ -18,7 +18,7 @@ use Rattle.std.proofs.lemmas.List.Elements.{All-contains, All-nil, All-head, All
 use Rattle.std.proofs.lemmas.List.Elements.{All-same, Contains-append_left, Contains-append_right}
 use Rattle.std.proofs.lemmas.List.Elements.{Contains-append_cases, Contains-push_cases}
 use Rattle.scale_info_identities.specs.Interned.{IsIndexOf, IsKnown, AreDistinctBy}
-use Rattle.scale_info_identities.specs.Orders.{against, IsBelow, AreOrdered, IsOrder, before, after}
+use Rattle.scale_info_identities.specs.Orders.{against, IsBelow, AreOrdered, IsElementOrder, before, after}
 use Rattle.scale_info_identities.specs.Orders.{first_against, IsGapFor}
 use Rattle.scale_info_identities.proofs.LastElement.{at_end, kept_at, last_at}
 use Rattle.scale_info_identities.proofs.Ordered.{none_in, head_or_tail, head_in, tail_in, all_from_contained}
@@ -202,14 +202,14 @@ module _ {T : Type 0} {cmp : T → T → Ordering} (o : IsTotalOrder cmp) where
       ap (λ v. unwrap_or (option_map (λ i. against cmp xs x i) v) Greater) p
 
   parts_ordered :
-      (xs : List T) (chunks : List (List ℕ)) (c at : ℕ) → IsOrder cmp xs chunks
+      (xs : List T) (chunks : List (List ℕ)) (c at : ℕ) → IsElementOrder cmp xs chunks
       → AreOrdered (IsBelow cmp xs) (before chunks c at ++ after chunks c at)
   parts_ordered xs chunks c at order =
       subst (AreOrdered (IsBelow cmp xs)) (sym (before_after chunks c at)) order.ascending
 
   -- where the first chunk starts above x, x goes before all
   pub gap_first :
-      (xs : List T) (chunks : List (List ℕ)) (x : T) → IsOrder cmp xs chunks
+      (xs : List T) (chunks : List (List ℕ)) (x : T) → IsElementOrder cmp xs chunks
       → ((chunk : List ℕ) → slice_get chunks 0 ≡ Some chunk → first_against cmp xs x chunk ≡ Greater)
       → IsGapFor cmp xs chunks x 0 0
   gap_first xs [] x order past = record {
@@ -228,7 +228,7 @@ module _ {T : Type 0} {cmp : T → T → Ordering} (o : IsTotalOrder cmp) where
   -- where the index before the place is less than x, so are all before it
   less_inside :
       (xs : List T) (chunks : List (List ℕ)) (x : T) (c i : ℕ) (chunk : List ℕ)
-      → IsOrder cmp xs chunks
+      → IsElementOrder cmp xs chunks
       → slice_get chunks c ≡ Some chunk
       → suc i ≤ length chunk
       → ((index : ℕ) → slice_get chunk i ≡ Some index → against cmp xs x index ≡ Less)
@@ -247,7 +247,7 @@ module _ {T : Type 0} {cmp : T → T → Ordering} (o : IsTotalOrder cmp) where
 
   less_part :
       (xs : List T) (chunks : List (List ℕ)) (x : T) (c at : ℕ) (chunk : List ℕ)
-      → IsOrder cmp xs chunks
+      → IsElementOrder cmp xs chunks
       → slice_get chunks c ≡ Some chunk
       → first_against cmp xs x chunk ≢ Greater
       → at ≤ length chunk
@@ -265,7 +265,7 @@ module _ {T : Type 0} {cmp : T → T → Ordering} (o : IsTotalOrder cmp) where
   -- where a chunk does not start above x and the next does, x goes where a search in it says
   pub gap_within :
       (xs : List T) (chunks : List (List ℕ)) (x : T) (c at : ℕ) (chunk : List ℕ)
-      → IsOrder cmp xs chunks
+      → IsElementOrder cmp xs chunks
       → slice_get chunks c ≡ Some chunk
       → first_against cmp xs x chunk ≢ Greater
       → ((next : List ℕ) → slice_get chunks (suc c) ≡ Some next
@@ -293,7 +293,7 @@ module _ {T : Type 0} {cmp : T → T → Ordering} (o : IsTotalOrder cmp) where
 
   front_part :
       (xs : List T) (chunks : List (List ℕ)) (x : T) (c at : ℕ) (chunk : List ℕ)
-      → IsOrder cmp xs chunks
+      → IsElementOrder cmp xs chunks
       → slice_get chunks c ≡ Some chunk
       → ((i : ℕ) → c ≡ suc i → 0 < at)
       → at ≤ length chunk
@@ -313,7 +313,7 @@ module _ {T : Type 0} {cmp : T → T → Ordering} (o : IsTotalOrder cmp) where
   -- chunk does, and if one stands behind it or the next chunk starts above x
   pub gap_here :
       (xs : List T) (chunks : List (List ℕ)) (x : T) (c at : ℕ) (chunk : List ℕ)
-      → IsOrder cmp xs chunks
+      → IsElementOrder cmp xs chunks
       → slice_get chunks c ≡ Some chunk
       → ((i : ℕ) → c ≡ suc i → 0 < at)
       → ((next : List ℕ) → length chunk ≤ at → slice_get chunks (suc c) ≡ Some next
@@ -393,7 +393,7 @@ module _ {T : Type 0} {cmp : T → T → Ordering} (o : IsTotalOrder cmp) where
 
     -- the elements of an order are distinct
     pub order_distinct :
-        (xs : List T) (chunks : List (List ℕ)) → IsOrder cmp xs chunks → AreDistinctBy eq xs
+        (xs : List T) (chunks : List (List ℕ)) → IsElementOrder cmp xs chunks → AreDistinctBy eq xs
     order_distinct xs chunks order i j x y p q e =
         same_index xs (concat chunks) order.ascending i j x y
         (order.complete i (slice_get_within xs i x p)) (order.complete j (slice_get_within xs j y q))
@@ -415,7 +415,7 @@ module _ {T : Type 0} {cmp : T → T → Ordering} (o : IsTotalOrder cmp) where
 
     -- a value has one index at most
     pub one_index :
-        (xs : List T) (chunks : List (List ℕ)) (x : T) (i j : ℕ) → IsOrder cmp xs chunks
+        (xs : List T) (chunks : List (List ℕ)) (x : T) (i j : ℕ) → IsElementOrder cmp xs chunks
         → IsIndexOf eq xs x i → IsIndexOf eq xs x j → i ≡ j
     one_index xs chunks x i j order (y, p, a) (z, q, b) =
         order_distinct xs chunks order i j y z p q
@@ -423,7 +423,7 @@ module _ {T : Type 0} {cmp : T → T → Ordering} (o : IsTotalOrder cmp) where
 
     -- a value with a gap in the order equals no element
     pub gap_new :
-        (xs : List T) (chunks : List (List ℕ)) (x : T) (c at : ℕ) → IsOrder cmp xs chunks
+        (xs : List T) (chunks : List (List ℕ)) (x : T) (c at : ℕ) → IsElementOrder cmp xs chunks
         → IsGapFor cmp xs chunks x c at
         → IsKnown eq xs x → ⊥
     gap_new xs chunks x c at order gap (i, (y, p, e)) =
@@ -445,7 +445,7 @@ module _ {T : Type 0} {cmp : T → T → Ordering} (o : IsTotalOrder cmp) where
         (xs elements now : List T) (rows chunks : List (List ℕ)) (x : T) (c at : ℕ) → xs ≡ elements
         → elements ≡ now
         → rows ≡ chunks
-        → IsOrder cmp elements chunks
+        → IsElementOrder cmp elements chunks
         → IsGapFor cmp xs rows x c at
         → IsKnown eq now x
         → ⊥
@@ -521,11 +521,11 @@ module _ {T : Type 0} {cmp : T → T → Ordering} (o : IsTotalOrder cmp) where
 
   -- a new element at the end and its index in the gap for it
   pub order_push :
-      (xs : List T) (x : T) (chunks made : List (List ℕ)) (c at : ℕ) → IsOrder cmp xs chunks
+      (xs : List T) (x : T) (chunks made : List (List ℕ)) (c at : ℕ) → IsElementOrder cmp xs chunks
       → IsGapFor cmp xs chunks x c at
       → All (λ v. v ≢ []) made
       → concat made ≡ before chunks c at ++ length xs ∷ after chunks c at
-      → IsOrder cmp (xs ++ x ∷ []) made
+      → IsElementOrder cmp (xs ++ x ∷ []) made
   order_push xs x chunks made c at order gap filled joined =
       let front = before chunks c at in
       let back = after chunks c at in
@@ -582,11 +582,11 @@ module _ {T : Type 0} {cmp : T → T → Ordering} (o : IsTotalOrder cmp) where
   -- the last element and its index taken out
   pub order_pop :
       (xs : List T) (x : T) (chunks made : List (List ℕ)) (c at : ℕ) (rest : List ℕ)
-      → IsOrder cmp (xs ++ x ∷ []) chunks
+      → IsElementOrder cmp (xs ++ x ∷ []) chunks
       → after chunks c at ≡ length xs ∷ rest
       → All (λ v. v ≢ []) made
       → concat made ≡ before chunks c at ++ rest
-      → IsOrder cmp xs made
+      → IsElementOrder cmp xs made
   order_pop xs x chunks made c at rest order first filled joined =
       let front = before chunks c at in
       let n = length xs in

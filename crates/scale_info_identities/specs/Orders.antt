@@ -22,7 +22,7 @@ AreOrdered R [] = ⊤
 AreOrdered R (x ∷ xs) = All (R x) xs × AreOrdered R xs
 
 -- no chunk is empty, and together they have the index of each element, the lower element first
-pub record IsOrder {T : Type 0} (cmp : T → T → Ordering) (xs : List T) (chunks : List (List ℕ))
+pub record IsElementOrder {T : Type 0} (cmp : T → T → Ordering) (xs : List T) (chunks : List (List ℕ))
     : Type 0 where
   pub filled : All (λ c. c ≢ []) chunks
   pub ascending : AreOrdered (IsBelow cmp xs) (concat chunks)

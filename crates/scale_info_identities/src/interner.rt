@@ -6,7 +6,7 @@ ghost use Rattle.std.specs.List.{All, concat};
 ghost use Rattle.std.specs.Option.{option_copied};
 ghost use Rattle.std.specs.Cmp.Lexicographic.{pointwise, lists_equiv, lists_per};
 ghost use Rattle.scale_info_identities.specs.Interned.{IsIndexOf, IsKnown, IsNew, AreDistinctBy};
-ghost use Rattle.scale_info_identities.specs.Orders.{IsOrder, before, after};
+ghost use Rattle.scale_info_identities.specs.Orders.{IsElementOrder, before, after};
 ghost use Rattle.scale_info_identities.specs.declared.interner.InternError.TheVariants.{Memory};
 
 use crate::order::{Place, find, insert, locate, merge_small, remove, split_full};
@@ -133,12 +133,12 @@ impl<T: Ord> Model for Interner<T> {
 
     ghost Value = { List T };
 
-    ghost use Rattle.scale_info_identities.specs.Orders.{IsOrder};
+    ghost use Rattle.scale_info_identities.specs.Orders.{IsElementOrder};
 
     ghost view = { λ s. s.elements.items };
 
     ghost invariant = { λ s.
-        IsOrder T.cmp s.elements.items (map (λ v. v.items) s.chunks.items)
+        IsElementOrder T.cmp s.elements.items (map (λ v. v.items) s.chunks.items)
         × (length s.elements.items ≤ 4294967295) };
 }
 
@@ -311,10 +311,10 @@ fn drop_last<T: Ord + Drop>(
     bounds: &mut Vec<T>,
     rooms: &mut Vec<Vec<Vec<u32>>>,
 )
-    requires { IsOrder T.cmp elements.old.items (map (λ v. v.items) chunks.old.items) }
+    requires { IsElementOrder T.cmp elements.old.items (map (λ v. v.items) chunks.old.items) }
     ensures elements { elements.new.items
         ≡ take (length elements.old.items - 1) elements.old.items }
-    ensures order { IsOrder T.cmp elements.new.items (map (λ v. v.items) chunks.new.items) }
+    ensures order { IsElementOrder T.cmp elements.new.items (map (λ v. v.items) chunks.new.items) }
 {
     let Some(last) = elements.last() else {
         return;

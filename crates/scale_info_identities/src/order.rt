@@ -8,7 +8,7 @@ ghost use Rattle.std.specs.Prelude.{IfOk, IfErr, IfSome, OnOk, OnErr, IsTrue, le
 ghost use Rattle.std.specs.Prelude.{vec_capacity, vec_len};
 ghost use Rattle.std.specs.declared.cmp.Ordering.TheVariants.{Less, Equal, Greater};
 ghost use Rattle.scale_info_identities.specs.Orders.{against, first_against, before, after};
-ghost use Rattle.scale_info_identities.specs.Orders.{IsFoundAt, IsGapFor, IsOrder};
+ghost use Rattle.scale_info_identities.specs.Orders.{IsFoundAt, IsGapFor, IsElementOrder};
 
 use crate::bounds::{chunk_of, drop_bound, put_bound};
 use scale_info_collections::try_clone::TryClone;
@@ -95,7 +95,7 @@ fn search<T: Ord>(elements: &[T], chunk: &[u32], value: &T) -> Result<usize, usi
 
 /// The place of the index whose element is equal to a value; else where one would go.
 fn find_by_halves<T: Ord>(elements: &[T], chunks: &[Vec<u32>], value: &T) -> Result<Place, Place>
-    requires { IsOrder T.cmp elements.now (map (λ v. v.items) chunks.now) }
+    requires { IsElementOrder T.cmp elements.now (map (λ v. v.items) chunks.now) }
     ensures found { IfOk result (λ place. IsFoundAt T.cmp elements.now
         (map (λ v. v.items) chunks.now) value.now place.chunk place.at) }
     ensures absent { IfErr result (λ place. IsGapFor T.cmp elements.now
@@ -131,7 +131,7 @@ fn find_in<T: Ord>(
     chunk: usize,
     value: &T,
 ) -> Option<Result<Place, Place>>
-    requires { IsOrder T.cmp elements.now (map (λ v. v.items) chunks.now) }
+    requires { IsElementOrder T.cmp elements.now (map (λ v. v.items) chunks.now) }
     ensures found { IfSome result (λ found. IfOk found (λ place. IsFoundAt T.cmp elements.now
         (map (λ v. v.items) chunks.now) value.now place.chunk place.at)) }
     ensures absent { IfSome result (λ found. IfErr found (λ place. IsGapFor T.cmp elements.now
@@ -156,7 +156,7 @@ pub fn find<T: Ord>(
     bounds: &[T],
     value: &T,
 ) -> Result<Place, Place>
-    requires { IsOrder T.cmp elements.now (map (λ v. v.items) chunks.now) }
+    requires { IsElementOrder T.cmp elements.now (map (λ v. v.items) chunks.now) }
     ensures found { IfOk result (λ place. IsFoundAt T.cmp elements.now
         (map (λ v. v.items) chunks.now) value.now place.chunk place.at) }
     ensures absent { IfErr result (λ place. IsGapFor T.cmp elements.now
@@ -175,7 +175,7 @@ pub fn locate<T: Ord>(
     bounds: &[T],
     value: &T,
 ) -> Result<u32, Place>
-    requires { IsOrder T.cmp elements.now (map (λ v. v.items) chunks.now) }
+    requires { IsElementOrder T.cmp elements.now (map (λ v. v.items) chunks.now) }
     ensures found { IfOk result
         (λ index. against T.cmp elements.now value.now index ≡ Equal) }
     ensures absent { IfErr result (λ place. IsGapFor T.cmp elements.now

@@ -1,6 +1,6 @@
 use Rattle.std.proofs.Common.{rules, ◌≡◌, ◌++◌, ◌∷◌, [], ◌-◌, Some, map, length, slice_get, suc, refl, ap, subst, ◌∙◌}
 use Rattle.std.proofs.lemmas.Option.{slice_get_within}
-use Rattle.scale_info_identities.specs.Orders.{IsOrder, IsFoundAt, after}
+use Rattle.scale_info_identities.specs.Orders.{IsElementOrder, IsFoundAt, after}
 use Rattle.scale_info_identities.proofs.LastElement.{last_taken}
 use Rattle.scale_info_identities.proofs.Orders.{equal_index, one_index, last_index, after_at}
 use Rattle.scale_info_identities.proofs.Orders.{gap_absent}
@@ -43,8 +43,8 @@ returns-clause-order g c =
     (c.deref-2.ensures.value ∙ split)
     (subst (λ v. IsFoundAt g.T.Ord.cmp c.deref-2.result.now v x place.chunk place.at)
     (ap (λ cs. map (λ v. v.items) cs) c.deref-3.ensures.value) c.in-Ok.ensures.found) in
-    let order : IsOrder g.T.Ord.cmp (xs ++ x ∷ []) chunks =
-    subst (λ v. IsOrder g.T.Ord.cmp v chunks) split c.requires in
+    let order : IsElementOrder g.T.Ord.cmp (xs ++ x ∷ []) chunks =
+    subst (λ v. IsElementOrder g.T.Ord.cmp v chunks) split c.requires in
     let eq = g.T.PartialEq.eq in
     let ties = g.met.T.Ord.matches_eq in
     let index =

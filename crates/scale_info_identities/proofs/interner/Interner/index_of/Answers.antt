@@ -1,7 +1,7 @@
 use Rattle.std.proofs.Common.{Some, map, refl, ap, subst, ◌∙◌}
 use Rattle.std.proofs.lemmas.Option.{same_Some}
 use Rattle.scale_info_identities.specs.Interned.{IsIndexOf, IsKnown}
-use Rattle.scale_info_identities.specs.Orders.{IsOrder}
+use Rattle.scale_info_identities.specs.Orders.{IsElementOrder}
 use Rattle.scale_info_identities.proofs.Orders.{equal_index, one_index, gap_absent}
 use Rattle.scale_info_identities.proofs.interner.Interner.index_of.Given as given
 use Rattle.scale_info_identities.proofs.interner.Interner.index_of.Goals as goal
@@ -23,8 +23,8 @@ returns-in-Ok-clause-index g c = λ i.
     let x = c.args.value.now in
     let chunks = map (λ v. v.items) c.self.inside.chunks.items in
     let same = c.deref.ensures.value ∙ c.self.view_is in
-    let order : IsOrder g.T.Ord.cmp c.args.self.now chunks =
-    subst (λ xs. IsOrder g.T.Ord.cmp xs chunks) c.self.view_is c.self.invariant.0 in
+    let order : IsElementOrder g.T.Ord.cmp c.args.self.now chunks =
+    subst (λ xs. IsElementOrder g.T.Ord.cmp xs chunks) c.self.view_is c.self.invariant.0 in
     let found : IsIndexOf eq c.args.self.now x c.in-Ok.index =
     subst (λ xs. IsIndexOf eq xs x c.in-Ok.index) same
     (equal_index g.met.T.Ord.total eq g.met.T.Ord.matches_eq c.deref.result.now x c.in-Ok.index

@@ -1,7 +1,7 @@
 use Rattle.std.proofs.Common.{◌≡◌, ◌++◌, ◌∷◌, [], map, length, refl, sym, ap, subst, arith, ◌∙◌, ◌<◌}
 use Rattle.std.proofs.lemmas.List.{length-append}
 use Rattle.scale_info_identities.specs.Interned.{IsIndexOf, IsKnown}
-use Rattle.scale_info_identities.specs.Orders.{IsOrder, IsGapFor}
+use Rattle.scale_info_identities.specs.Orders.{IsElementOrder, IsGapFor}
 use Rattle.scale_info_identities.proofs.Orders.{equal_index, one_index, gap_absent, last_index}
 use Rattle.scale_info_identities.proofs.Orders.{order_push}
 use Rattle.scale_info_identities.proofs.interner.Interner.intern_or_get.Given as given
@@ -19,8 +19,8 @@ found g c =
 pub returns-in-Ok-clause-known : goal.returns-in-Ok-clause-known
 returns-in-Ok-clause-known g c = λ i k.
     let chunks = map (λ v. v.items) c.self.inside.chunks.items in
-    let order : IsOrder g.T.Ord.cmp c.args.self.now chunks =
-    subst (λ xs. IsOrder g.T.Ord.cmp xs chunks) c.self.view_is c.self.invariant.0 in
+    let order : IsElementOrder g.T.Ord.cmp c.args.self.now chunks =
+    subst (λ xs. IsElementOrder g.T.Ord.cmp xs chunks) c.self.view_is c.self.invariant.0 in
     let same =
     one_index g.met.T.Ord.total g.T.PartialEq.eq g.met.T.Ord.matches_eq c.args.self.now chunks
     c.args.value c.in-Ok.index i order (found g c) k in
