@@ -3,7 +3,7 @@
 //! A `Vec` that gets shorter keeps its room, and a smaller one would be a new allocation. Here the
 //! rooms that a list had before it grew are kept beside it, each half of the next, and the list goes
 //! back to them. So its room follows its length, and what shortens it does not allocate.
-ghost use Rattle.std.specs.Prelude.{◌≡◌};
+ghost use Rattle.std.specs.Prelude.{◌≡◌, ◌≤◌, ◌/◌, ◌++◌, ◌∷◌, [], length, vec_capacity};
 
 use std::alloc::Global;
 use std::mem;
@@ -31,7 +31,11 @@ pub fn widen<T: Drop>(alloc: Global, list: &mut Vec<T>, rooms: &mut Vec<Vec<T>>)
 /// Moves a list back to the room that it had before, if it fills no more than half of that. Does
 /// not allocate.
 pub fn narrow<T: Drop>(list: &mut Vec<T>, rooms: &mut Vec<Vec<T>>)
-    ensures { list.new.items ≡ list.old.items }
+    ensures items { list.new.items ≡ list.old.items }
+    // The last room is taken for the list.
+    ensures taken { (kept : _) (room : _) → rooms.old.items ≡ kept ++ room ∷ []
+        → length list.old.items ≤ vec_capacity room / 2
+        → rooms.new.items ≡ kept }
 {
     let fits = match rooms.last() {
         Some(room) => list.len() <= room.capacity() / 2,

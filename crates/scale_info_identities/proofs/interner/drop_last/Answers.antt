@@ -53,7 +53,7 @@ returns-clause-order g c =
     (last_index g.met.T.Ord.total eq ties xs x) in
     let first = after_at chunks place.chunk place.at found.index found.chunk found.there found.here in
     let rest = after chunks place.chunk (suc place.at) in
-    rw c.narrow.ensures
+    rw c.narrow.ensures.items
     (order_pop g.met.T.Ord.total xs x chunks (map (λ v. v.items) c.merge_small.new.chunks.items)
     place.chunk place.at rest order (first ∙ ap (λ i. i ∷ rest) index)
     (c.merge_small.ensures.filled (c.remove.ensures.filled order.filled))
