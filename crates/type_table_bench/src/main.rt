@@ -8,6 +8,7 @@
 mod commands;
 mod digest;
 mod events;
+mod interners;
 mod own;
 mod payloads;
 mod pool;
@@ -26,13 +27,14 @@ use std::alloc::Global;
 use std::env;
 
 /// The workloads.
-const NAMES: [&str; 6] = [
+const NAMES: [&str; 7] = [
     "records",
     "payloads",
     "tables",
     "texts",
     "registrations",
     "commands",
+    "interners",
 ];
 
 /// Runs a workload.
@@ -44,6 +46,7 @@ fn run(alloc: Global, name: &str, seed: u32, rounds: u32) -> Result<Digest> {
         "texts" => texts::run(alloc, seed, rounds),
         "registrations" => registrations::run(alloc, seed, rounds),
         "commands" => commands::run(alloc, seed, rounds),
+        "interners" => interners::run(alloc, seed, rounds),
         _ => bail!("no workload has this name"),
     }
 }
