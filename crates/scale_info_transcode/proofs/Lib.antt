@@ -1,5 +1,6 @@
 mod Objects
 mod Parts
 mod Results
+mod Skips
 mod Tables
 mod Tokens

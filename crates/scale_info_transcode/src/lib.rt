@@ -1,7 +1,7 @@
-//! A table's bytes as JSON text, an entry at a time.
+//! A table's bytes as JSON text, part by part.
 //!
-//! [`append_json_of`] writes the JSON text of each part of the table as it reads that part's bytes,
-//! so neither the table nor a description of it is ever in memory.
+//! [`append_json_of`] writes the JSON text of each part of the table as it reads that part's bytes.
+//! No string, list or entry is made: only what has neither, as an id, is decoded before it is written.
 #![tactic(auto)]
 
 mod definition;
@@ -10,6 +10,7 @@ mod entry;
 mod list;
 mod members;
 mod reading;
+mod skip;
 mod table;
 mod text;
 mod transcode;

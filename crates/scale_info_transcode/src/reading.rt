@@ -1,20 +1,20 @@
 //! Parts of the input that are written later than they are read.
 ghost use Rattle.std.specs.Prelude.{IfOk, IfErr};
 ghost use Rattle.scale_info_bytes.specs.Encodings.{HasNoPrefix, IfMalformed};
-ghost use Rattle.scale_info_passes.specs.Pieces.{HasSomePrefix};
+ghost use Rattle.scale_info_transcode.specs.Skips.{IsOnlyRest};
 
+use crate::skip::Skip;
 use scale_info_codec::DecodeError;
-use scale_info_passes::pass::Pass;
-use scale_info_passes::visitors::skip;
 
-/// The rest of the input after the value at its start. It does not allocate.
+/// What comes after the value, where the input begins with one. It does not allocate.
 ///
-/// Error: `Malformed`, if no prefix of the input encodes a value.
-pub fn skip_part<T: Pass>(input: &[u8]) -> Result<&[u8], DecodeError>
-    ensures ok { IfOk result (λ rest. HasSomePrefix T.encodes input.now rest.now) }
+/// Error: `Malformed`, if no prefix of the input encodes a value; but where a string of it is no
+/// UTF-8, that is found when it is read.
+pub fn skip_part<T: Skip>(input: &[u8]) -> Result<&[u8], DecodeError>
+    ensures ok { IfOk result (λ rest. IsOnlyRest T.encodes input.now rest.now) }
     ensures malformed { IfErr result (IfMalformed (HasNoPrefix T.encodes input.now)) }
 {
-    match skip::<T>(input) {
+    match T::skip(input) {
         Some(rest) => Ok(rest),
         None => Err(DecodeError::Malformed),
     }

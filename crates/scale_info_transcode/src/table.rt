@@ -14,7 +14,7 @@ use std::alloc::Global;
 /// rest of the input.
 ///
 /// It is the text that [`append_json`](scale_info_json::append_json) writes for the decoded table.
-/// Neither the table nor an entry of it is made: only the buffer is allocated.
+/// No string, list or entry of the table is made: only the buffer is allocated.
 ///
 /// Errors: `Malformed`, if no prefix of the input encodes a table; `Memory`, if an allocation
 /// failed. The buffer is then dropped.

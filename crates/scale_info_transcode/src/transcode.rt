@@ -1,4 +1,5 @@
-//! What it is for a value to be read from bytes and written as JSON, with no value made.
+//! What it is for a value to be read from bytes and written as JSON, with no string, list or entry
+//! made.
 ghost use Rattle.std.specs.Prelude.{◌≡◌, IfOk, IfErr, OnOk};
 ghost use Rattle.serde_json.specs.Data.{Data};
 ghost use Rattle.scale_info_bytes.specs.Encodings.{HasNoPrefix, IfMalformed};

@@ -9,6 +9,7 @@ use Rattle.scale_info_codec.specs.TyLaws.{id_law}
 use Rattle.scale_info_json.specs.Described.{field_rows}
 use Rattle.scale_info_transcode.proofs.Objects.{four_rows, whole_object}
 use Rattle.scale_info_transcode.proofs.Parts.{four_parts, no_first, no_second, no_third, no_fourth}
+use Rattle.scale_info_transcode.proofs.Skips.{only_rest}
 use Rattle.scale_info_types.specs.Portable as portable
 use Rattle.scale_info_types.specs.Portable.{Text}
 use Rattle.std.specs.Prelude.{Option, option_map}
@@ -30,7 +31,7 @@ returns-in_err-ty-clause-malformed c =
     (λ n.
     no_prefix_through field_parts
     (no_second (EncodesOption EncodesText) EncodesId (EncodesOption EncodesText)
-    (EncodesList EncodesText) (option_law text_law) _ _ _ c.in_ok-name.ensures.ok n))
+    (EncodesList EncodesText) _ _ (only_rest (option_law text_law) c.in_ok-name.ensures.ok) n))
     c.in_err-ty.ensures.malformed
 
 pub returns-in_err-type_name-clause-malformed : goal.returns-in_err-type_name-clause-malformed
@@ -40,8 +41,8 @@ returns-in_err-type_name-clause-malformed c =
     (λ n.
     no_prefix_through field_parts
     (no_third (EncodesOption EncodesText) EncodesId (EncodesOption EncodesText)
-    (EncodesList EncodesText) (option_law text_law) id_law _ _ _ _ _ c.in_ok-name.ensures.ok
-    c.in_ok-ty.ensures.ok n))
+    (EncodesList EncodesText) _ _ _ (only_rest (option_law text_law) c.in_ok-name.ensures.ok)
+    (only_rest id_law c.in_ok-ty.ensures.ok) n))
     c.in_err-type_name.ensures.malformed
 
 pub returns-in_err-rest-clause-malformed : goal.returns-in_err-rest-clause-malformed
@@ -51,8 +52,9 @@ returns-in_err-rest-clause-malformed c =
     (λ n.
     no_prefix_through field_parts
     (no_fourth (EncodesOption EncodesText) EncodesId (EncodesOption EncodesText)
-    (EncodesList EncodesText) (option_law text_law) id_law (option_law text_law) _ _ _ _ _ _ _
-    c.in_ok-name.ensures.ok c.in_ok-ty.ensures.ok c.in_ok-type_name.ensures.ok n))
+    (EncodesList EncodesText) _ _ _ _ (only_rest (option_law text_law) c.in_ok-name.ensures.ok)
+    (only_rest id_law c.in_ok-ty.ensures.ok)
+    (only_rest (option_law text_law) c.in_ok-type_name.ensures.ok) n))
     c.in_err-rest.ensures.malformed
 
 pub returns : goal.returns

@@ -2,16 +2,15 @@ use Rattle.scale_info_bytes.proofs.Errors.{passed_malformed}
 use Rattle.scale_info_bytes.proofs.Steps.{no_prefix_through}
 use Rattle.scale_info_bytes.specs.NumberLaws.{u8_law}
 use Rattle.scale_info_bytes.specs.Numbers.{EncodesU8}
-use Rattle.scale_info_bytes.specs.PartLaws.{list_law}
 use Rattle.scale_info_bytes.specs.Parts.{EncodesList}
 use Rattle.scale_info_bytes.specs.StringLaws.{text_law}
 use Rattle.scale_info_bytes.specs.Strings.{EncodesText}
 use Rattle.scale_info_codec.specs.Ty.{EncodesField, EncodesVariant, variant_parts}
-use Rattle.scale_info_codec.specs.TyLaws.{field_law}
 use Rattle.scale_info_json.specs.Described.{variant_rows}
 use Rattle.scale_info_transcode.proofs.Objects.{four_rows, whole_object}
-use Rattle.scale_info_transcode.proofs.Parts.{read_again, four_parts, no_first, no_second}
+use Rattle.scale_info_transcode.proofs.Parts.{four_parts, no_first, no_second}
 use Rattle.scale_info_transcode.proofs.Parts.{no_third, no_fourth}
+use Rattle.scale_info_transcode.proofs.Skips.{only_rest, read_again}
 use Rattle.scale_info_types.specs.Portable as portable
 use Rattle.scale_info_transcode.proofs.described.VariantPortableFormTranscode.transcode.Goals as goal
 
@@ -29,8 +28,8 @@ returns-in_err-after_fields-clause-malformed c =
     c.from_residual-in_err-after_fields.ensures.1
     (λ n.
     no_prefix_through variant_parts
-    (no_second EncodesText (EncodesList EncodesField) EncodesU8 (EncodesList EncodesText) text_law
-    _ _ _ c.in_ok-name.ensures.ok n))
+    (no_second EncodesText (EncodesList EncodesField) EncodesU8 (EncodesList EncodesText) _ _
+    (only_rest text_law c.in_ok-name.ensures.ok) n))
     c.in_err-after_fields.ensures.malformed
 
 pub returns-in_err-index-clause-malformed : goal.returns-in_err-index-clause-malformed
@@ -39,9 +38,8 @@ returns-in_err-index-clause-malformed c =
     c.from_residual-in_err-index.ensures.1
     (λ n.
     no_prefix_through variant_parts
-    (no_third EncodesText (EncodesList EncodesField) EncodesU8 (EncodesList EncodesText) text_law
-    (list_law field_law) _ _ _ _ _ c.in_ok-name.ensures.ok c.in_ok-after_fields.ensures.ok.prefix
-    n))
+    (no_third EncodesText (EncodesList EncodesField) EncodesU8 (EncodesList EncodesText) _ _ _
+    (only_rest text_law c.in_ok-name.ensures.ok) c.in_ok-after_fields.ensures.ok n))
     c.in_err-index.ensures.malformed
 
 pub returns-in_err-rest-clause-malformed : goal.returns-in_err-rest-clause-malformed
@@ -50,9 +48,9 @@ returns-in_err-rest-clause-malformed c =
     c.from_residual-in_err-rest.ensures.1
     (λ n.
     no_prefix_through variant_parts
-    (no_fourth EncodesText (EncodesList EncodesField) EncodesU8 (EncodesList EncodesText) text_law
-    (list_law field_law) u8_law _ _ _ _ _ _ _ c.in_ok-name.ensures.ok
-    c.in_ok-after_fields.ensures.ok.prefix c.in_ok-index.ensures.ok n))
+    (no_fourth EncodesText (EncodesList EncodesField) EncodesU8 (EncodesList EncodesText) _ _ _ _
+    (only_rest text_law c.in_ok-name.ensures.ok) c.in_ok-after_fields.ensures.ok
+    (only_rest u8_law c.in_ok-index.ensures.ok) n))
     c.in_err-rest.ensures.malformed
 
 pub returns-in_err-transcode_unless_empty-clause-malformed :
@@ -63,8 +61,8 @@ returns-in_err-transcode_unless_empty-clause-malformed c =
     c.from_residual-in_err-transcode_unless_empty.ensures.1
     (λ n.
     no_prefix_through variant_parts
-    (no_second EncodesText (EncodesList EncodesField) EncodesU8 (EncodesList EncodesText) text_law
-    _ _ _ c.in_ok-name.ensures.ok n))
+    (no_second EncodesText (EncodesList EncodesField) EncodesU8 (EncodesList EncodesText) _ _
+    (only_rest text_law c.in_ok-name.ensures.ok) n))
     c.in_err-transcode_unless_empty.ensures.malformed
 
 pub returns : goal.returns
@@ -79,8 +77,7 @@ returns c =
       docs = docs.value;
     } in
     let read_fields =
-    read_again (list_law field_law) fields.value _ _ _ c.in_ok-after_fields.ensures.ok fields.read
-    in
+    read_again fields.value _ c.in_ok-after_fields.ensures.ok fields.read in
     let read =
     four_parts EncodesText (EncodesList EncodesField) EncodesU8 (EncodesList EncodesText)
     (variant_parts variant) _ _ _ _ _ c.in_ok-name.ensures.ok read_fields c.in_ok-index.ensures.ok

@@ -1,17 +1,17 @@
-use Rattle.std.proofs.Common.{List}
+use Rattle.std.proofs.Common.{ℕ, List}
 use Rattle.scale_info_bytes.proofs.Errors.{passed_malformed}
 use Rattle.scale_info_bytes.proofs.Steps.{no_prefix_through}
-use Rattle.scale_info_bytes.specs.PartLaws.{list_law}
 use Rattle.scale_info_bytes.specs.Parts.{EncodesList}
-use Rattle.scale_info_bytes.specs.StringLaws.{text_law}
 use Rattle.scale_info_bytes.specs.Strings.{EncodesText}
 use Rattle.scale_info_codec.specs.Ty.{EncodesDescription, EncodesParameter, EncodesPath}
 use Rattle.scale_info_codec.specs.Ty.{EncodesTypeDef, description_parts}
-use Rattle.scale_info_codec.specs.TyLaws.{parameter_law, path_law, type_def_law}
+use Rattle.scale_info_codec.specs.TyLaws.{type_def_law}
 use Rattle.scale_info_json.specs.Tables.{description_rows}
 use Rattle.scale_info_transcode.proofs.Objects.{four_rows, whole_object}
-use Rattle.scale_info_transcode.proofs.Parts.{read_again, four_parts, no_first, no_second}
+use Rattle.scale_info_transcode.proofs.Parts.{four_parts, no_first, no_second}
 use Rattle.scale_info_transcode.proofs.Parts.{no_third, no_fourth}
+use Rattle.scale_info_transcode.proofs.Skips.{only_rest, read_again, rest_through}
+use Rattle.scale_info_transcode.specs.Skips.{IsOnlyRest}
 use Rattle.scale_info_types.specs.Portable as portable
 use Rattle.scale_info_types.specs.Portable.{Text}
 use Rattle.scale_info_transcode.proofs.entry.DescriptionPortableFormTranscode.transcode.Goals as goal
@@ -19,6 +19,10 @@ use Rattle.scale_info_transcode.proofs.entry.DescriptionPortableFormTranscode.tr
 -- a path by its segments
 abbrev path_of : List Text → portable.Path
 path_of segments = record { segments = segments; form = tt }
+
+-- the rest after the segments is that after the path
+path_rest : {a b : List ℕ} → IsOnlyRest (EncodesList EncodesText) a b → IsOnlyRest EncodesPath a b
+path_rest p = rest_through (λ v. v.segments) p
 
 pub returns-in_err-params-clause-malformed : goal.returns-in_err-params-clause-malformed
 returns-in_err-params-clause-malformed c =
@@ -36,8 +40,7 @@ returns-in_err-def-clause-malformed c =
     (λ n.
     no_prefix_through description_parts
     (no_second EncodesPath (EncodesList EncodesParameter) EncodesTypeDef
-    (EncodesList EncodesText) path_law (path_of c.in_ok-params.ensures.ok.value) _ _
-    c.in_ok-params.ensures.ok.prefix n))
+    (EncodesList EncodesText) _ _ (path_rest c.in_ok-params.ensures.ok) n))
     c.in_err-def.ensures.malformed
 
 pub returns-in_err-docs-clause-malformed : goal.returns-in_err-docs-clause-malformed
@@ -47,8 +50,7 @@ returns-in_err-docs-clause-malformed c =
     (λ n.
     no_prefix_through description_parts
     (no_third EncodesPath (EncodesList EncodesParameter) EncodesTypeDef (EncodesList EncodesText)
-    path_law (list_law parameter_law) (path_of c.in_ok-params.ensures.ok.value) _ _ _ _
-    c.in_ok-params.ensures.ok.prefix c.in_ok-def.ensures.ok.prefix n))
+    _ _ _ (path_rest c.in_ok-params.ensures.ok) c.in_ok-def.ensures.ok n))
     c.in_err-docs.ensures.malformed
 
 pub returns-in_err-rest-clause-malformed : goal.returns-in_err-rest-clause-malformed
@@ -58,9 +60,8 @@ returns-in_err-rest-clause-malformed c =
     (λ n.
     no_prefix_through description_parts
     (no_fourth EncodesPath (EncodesList EncodesParameter) EncodesTypeDef
-    (EncodesList EncodesText) path_law (list_law parameter_law) type_def_law
-    (path_of c.in_ok-params.ensures.ok.value) _ _ _ _ _ _ c.in_ok-params.ensures.ok.prefix
-    c.in_ok-def.ensures.ok.prefix c.in_ok-docs.ensures.ok.read n))
+    (EncodesList EncodesText) _ _ _ _ (path_rest c.in_ok-params.ensures.ok)
+    c.in_ok-def.ensures.ok (only_rest type_def_law c.in_ok-docs.ensures.ok.read) n))
     c.in_err-rest.ensures.malformed
 
 pub returns-in_err-transcode_unless_empty-clause-malformed :
@@ -72,8 +73,7 @@ returns-in_err-transcode_unless_empty-clause-malformed c =
     (λ n.
     no_prefix_through description_parts
     (no_second EncodesPath (EncodesList EncodesParameter) EncodesTypeDef
-    (EncodesList EncodesText) path_law (path_of c.in_ok-params.ensures.ok.value) _ _
-    c.in_ok-params.ensures.ok.prefix n))
+    (EncodesList EncodesText) _ _ (path_rest c.in_ok-params.ensures.ok) n))
     c.in_err-transcode_unless_empty.ensures.malformed
 
 pub returns-in_err-transcode_unless_empty-2-clause-malformed :
@@ -104,8 +104,8 @@ returns c =
     let read =
     four_parts EncodesPath (EncodesList EncodesParameter) EncodesTypeDef (EncodesList EncodesText)
     (description_parts description) _ _ _ _ _
-    (read_again (list_law text_law) path.value _ _ _ c.in_ok-params.ensures.ok path.read)
-    (read_again (list_law parameter_law) params.value _ _ _ c.in_ok-def.ensures.ok params.read)
+    (read_again path.value _ c.in_ok-params.ensures.ok path.read)
+    (read_again params.value _ c.in_ok-def.ensures.ok params.read)
     def.read docs.read in
     let rows = four_rows def.appends docs.appends params.appends path.appends in
     let object =

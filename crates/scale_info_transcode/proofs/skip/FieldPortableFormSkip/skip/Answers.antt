@@ -1,0 +1,13 @@
+use Rattle.scale_info_bytes.proofs.Steps.{no_prefix_through}
+use Rattle.scale_info_codec.specs.Ty.{field_parts}
+use Rattle.scale_info_transcode.proofs.Results.{some_on, none_on}
+use Rattle.scale_info_transcode.proofs.Skips.{rest_through}
+use Rattle.scale_info_transcode.proofs.skip.FieldPortableFormSkip.skip.Goals as goal
+
+pub returns-clause-some : goal.returns-clause-some
+returns-clause-some c =
+    some_on c.skip.result (λ rest p. rest_through field_parts p) c.skip.ensures.some
+
+pub returns-clause-none : goal.returns-clause-none
+returns-clause-none c =
+    none_on c.skip.result (λ n. no_prefix_through field_parts n) c.skip.ensures.none
