@@ -1,3 +1,4 @@
 mod CatalogueWeights
 pub mod Discovered
+mod NumberCaches
 pub mod Terms

@@ -1,2 +1,3 @@
 pub mod CatalogueSystems
 pub mod Discoveries
+pub mod NumberCaches

@@ -1,8 +1,9 @@
 //! The new identities of a registration, numbered in depth-first order by a list of work.
 ghost use Rattle.std.specs.Option.{option_copied};
 ghost use Rattle.std.specs.Prelude.{◌≡◌, ◌++◌, ◌∷◌, [], List, OnErr, OnOk, IfErr, IfOk, IfSome};
+ghost use Rattle.std.specs.Prelude.{◌↔◌, IsSome};
 ghost use Rattle.std.specs.Prelude.{reverse};
-ghost use Rattle.scale_info_identities.specs.Interned.{IsIndexOf};
+ghost use Rattle.scale_info_identities.specs.Interned.{IsIndexOf, IsKnown};
 ghost use Rattle.scale_info_identities.specs.declared.type_id.TypeId.{TypeId};
 ghost use Rattle.scale_info_numberings.specs.Extensions.{IsExtension};
 ghost use Rattle.scale_info_discovery.specs.CatalogueSystems.{catalogue_system};
@@ -10,7 +11,6 @@ ghost use Rattle.scale_info_discovery.specs.Discoveries.{nodes_of, stacked, AreF
 ghost use Rattle.scale_info_discovery.specs.Discoveries.{IsCause, IsNumbered, IsNumberError};
 ghost use Rattle.scale_info_discovery.specs.declared.discovery.RegisterError.TheVariants.{Memory};
 
-use crate::hints::{Hints, confirmed};
 use crate::number_cache::NumberCache;
 use scale_info_catalogue::catalogue::Catalogue;
 use scale_info_collections::try_clone::TryClone;
@@ -70,7 +70,10 @@ pub fn stack_up<'a>(
 }
 
 /// Numbers the pending types, the last first, and all that is reached from them, as far as it is
-/// new. Each number is an index in the list of identities.
+/// new, and returns the descriptions of what is new, in the order of the numbers. Each number is an
+/// index in the list of identities.
+///
+/// The cache saves searches, and gets the numbers that it does not have.
 ///
 /// Errors: `Undescribed`, if a type that is new is reached and has no description in the
 /// catalogue; `Full`, if there would be more than 4294967295 identities; `Memory`, if an allocation
@@ -78,30 +81,9 @@ pub fn stack_up<'a>(
 pub fn discover<'a>(
     alloc: Global,
     identities: &mut Interner<TypeId>,
-    pending: Vec<&'a MetaType>,
-    catalogue: &'a Catalogue,
-) -> Result<(), RegisterError>
-    ensures kept { (more : List TypeId) × (identities.new ≡ identities.old ++ more) }
-    ensures ok { OnOk result (IsExtension (catalogue_system catalogue.now) (nodes_of identities.old)
-        (stacked pending.entry.items) (nodes_of identities.new)) }
-    ensures err { IfErr result (IsCause (catalogue_system catalogue.now) (nodes_of identities.old)
-        (stacked pending.entry.items)) }
-{
-    let mut hints = Hints::new(alloc);
-    discover_hinted(alloc, identities, pending, catalogue, &mut hints)?;
-    Ok(())
-}
-
-/// The same as [`discover`], which also returns the descriptions of what is new, in the order of
-/// the numbers, and notes a hint for each pending type and for each of their references.
-///
-/// Errors: as those of [`discover`].
-pub fn discover_hinted<'a>(
-    alloc: Global,
-    identities: &mut Interner<TypeId>,
+    cache: &mut NumberCache,
     mut pending: Vec<&'a MetaType>,
     catalogue: &'a Catalogue,
-    hints: &mut Hints,
 ) -> Result<Vec<&'a Type>, RegisterError>
     ensures kept { (more : List TypeId) × (identities.new ≡ identities.old ++ more) }
     ensures ok { OnOk result (IsExtension (catalogue_system catalogue.now) (nodes_of identities.old)
@@ -112,26 +94,29 @@ pub fn discover_hinted<'a>(
         (stacked pending.entry.items)) }
 {
     let _distinct = identities.elements();
-    hints.expect(pending.len())?;
-    let mut cache = NumberCache::new(alloc);
     let mut found = none_of(alloc, catalogue);
     while let Some(next) = pending.pop() {
-        let (number, new) = number_cached(
-            alloc,
-            identities,
-            next.type_id(),
-            catalogue,
-            &mut cache,
-        )?;
-        hints.meet(number);
+        let new = number_cached(alloc, identities, cache, next.type_id(), catalogue)?;
         if let Some(described) = new {
             found = with_one(found, described)?;
-            let references = references_of(alloc, described)?;
-            hints.expect(references.len())?;
-            pending = stack_up(references, pending)?;
+            pending = stack_up(references_of(alloc, described)?, pending)?;
         }
     }
     Ok(found)
+}
+
+/// The number of an identity; None if it has none. It is not searched where the cache has it. Does
+/// not allocate.
+pub fn number_of(identities: &Interner<TypeId>, cache: &NumberCache, id: &TypeId) -> Option<u32>
+    ensures found { IfSome result
+        (IsIndexOf ⟦<TypeId as PartialEq>⟧.eq identities.now id.now) }
+    ensures known { IsSome result
+        ↔ IsKnown ⟦<TypeId as PartialEq>⟧.eq identities.now id.now }
+{
+    match cache.known_by(identities, id, cache.hash(id)) {
+        Some(number) => Some(number),
+        None => Some(identities.get(id)?.into_untracked().id),
+    }
 }
 
 /// No description of a catalogue.
@@ -152,39 +137,32 @@ fn with_one<'a>(mut list: Vec<&'a Type>, one: &'a Type) -> Result<Vec<&'a Type>,
     Ok(list)
 }
 
-/// The number of an identity, and its description, if it is new and gets the next number. It is not
-/// searched where the cache has its number.
+/// The description of an identity that is new, which gets the next number; None if it has one. It
+/// is not searched where the cache has its number.
 ///
 /// Errors: as those of [`discover`], for this identity. On an Err no number was given.
 fn number_cached<'a>(
     alloc: Global,
     identities: &mut Interner<TypeId>,
+    cache: &mut NumberCache,
     id: &TypeId,
     catalogue: &'a Catalogue,
-    cache: &mut NumberCache,
-) -> Result<(u32, Option<&'a Type>), RegisterError>
+) -> Result<Option<&'a Type>, RegisterError>
     ensures ok { IfOk result (λ found.
-        IsNumbered catalogue.now identities.old id.now (option_copied found.1) identities.new) }
+        IsNumbered catalogue.now identities.old id.now (option_copied found) identities.new) }
     ensures err { OnErr result (identities.new ≡ identities.old) }
     ensures cause { IfErr result (IsNumberError catalogue.now identities.old id.now) }
 {
-    if let Some(number) = known_by(cache, identities, id) {
-        return Ok((number, None));
+    let hash = cache.hash(id);
+    if cache.known_by(identities, id, hash).is_some() {
+        return Ok(None);
     }
     let (number, new) = number_new(alloc, identities, id, catalogue)?;
-    cache.put(alloc, identities.elements(), id, number);
-    Ok((number, new))
+    cache.put(alloc, identities, id, hash, number);
+    Ok(new)
 }
 
-/// The number of an identity, if the cache has it.
-fn known_by(cache: &NumberCache, identities: &Interner<TypeId>, id: &TypeId) -> Option<u32>
-    ensures { IfSome result
-        (IsIndexOf ⟦<TypeId as PartialEq>⟧.eq identities.now id.now) }
-{
-    confirmed(identities, cache.get(id)?, id)
-}
-
-/// The same by a search.
+/// The same by a search, and also its number.
 fn number_new<'a>(
     alloc: Global,
     identities: &mut Interner<TypeId>,
@@ -193,6 +171,8 @@ fn number_new<'a>(
 ) -> Result<(u32, Option<&'a Type>), RegisterError>
     ensures ok { IfOk result (λ found.
         IsNumbered catalogue.now identities.old id.now (option_copied found.1) identities.new) }
+    ensures index { IfOk result (λ found.
+        IsIndexOf ⟦<TypeId as PartialEq>⟧.eq identities.new id.now found.0) }
     ensures err { OnErr result (identities.new ≡ identities.old) }
     ensures cause { IfErr result (IsNumberError catalogue.now identities.old id.now) }
 {

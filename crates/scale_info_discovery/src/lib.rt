@@ -2,6 +2,5 @@
 #![tactic(auto)]
 
 pub mod discovery;
-pub mod hints;
 pub mod laws;
-mod number_cache;
+pub mod number_cache;

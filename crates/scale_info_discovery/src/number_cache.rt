@@ -3,85 +3,185 @@
 //! A description refers to the same types again and again, and a search takes a comparison of
 //! identities for each halving of their list. A hash takes about as much as one of these, and leads
 //! to a number, which is then confirmed by the one identity that has it.
+ghost use Rattle.std.specs.Prelude.{◌≡◌, ◌≢◌, ◌⊎◌, [], ℕ, Some, Contains, IfNone, IfSome};
+ghost use Rattle.std.specs.Prelude.{bit_xor, slice_get, slice_set};
+ghost use Rattle.scale_info_identities.specs.Interned.{IsIndexOf};
+ghost use Rattle.scale_info_discovery.specs.NumberCaches.{slot_of};
 
+use scale_info_identities::interner::Interner;
 use scale_info_identities::type_id::TypeId;
 use std::alloc::Global;
-use std::mem;
+use std::marker::Model;
 
-/// No number of an identity.
+/// What is in a slot before a number comes. No identity has this number.
 const NONE: u32 = u32::MAX;
 
-/// So many numbers are put before there is a cache at all.
-const FIRST: usize = 16;
+/// With no more identities than these there is no cache at all.
+const FEW: usize = 16;
 
 /// An identity is hashed with so many of its arguments, their arguments and so on, at most.
 const PARTS: usize = 64;
 
-/// Numbers of identities, each in the slot of its hash, where it stays until another one comes.
+/// Numbers of identities, each in the slot of its hash or the one beside it, where it stays until
+/// another one comes.
 ///
-/// A number that it returns is a hint, and proves nothing. It is empty at first, and grows fourfold
-/// where half of the slots are taken; where an allocation for that fails, it goes on as it is.
+/// A number that it returns saves a search and proves nothing: whoever takes one compares the
+/// identity that has this number ([`confirmed`]). So a cache that is out of date, as after
+/// identities were cut off, is slower and never wrong. It is empty at first, and grows fourfold
+/// where there are more identities than a quarter of the slots; where an allocation for that fails,
+/// it goes on as it is. Contracts see the list of the slots.
 #[derive(Drop)]
-pub(crate) struct NumberCache {
+pub struct NumberCache {
     slots: Vec<u32>,
-    taken: usize,
+}
+
+impl Model for NumberCache {
+    ghost use Rattle.std.specs.Prelude.{List, ℕ};
+
+    ghost Value = { List ℕ };
+
+    ghost view = { λ cache. cache.slots.items };
 }
 
 impl NumberCache {
-    /// The cache with no number. Does not allocate.
-    pub(crate) fn new(alloc: Global) -> NumberCache {
+    /// The cache with no slot. Does not allocate.
+    pub fn new(alloc: Global) -> NumberCache
+        ensures { result ≡ [] }
+    {
         NumberCache {
             slots: Vec::new(alloc),
-            taken: 0,
         }
     }
 
-    /// What may be the number of an identity.
-    pub(crate) fn get(&self, id: &TypeId) -> Option<u32> {
-        let mask = self.slots.len().checked_sub(1)?;
-        self.slots.get(hash_of(id) & mask).copied()
+    /// The hash of an identity; 0, as long as there are no slots.
+    pub(crate) fn hash(&self, id: &TypeId) -> usize {
+        if self.slots.is_empty() {
+            0
+        } else {
+            hash_of(id)
+        }
     }
 
-    /// Notes the number of an identity, which is among these.
-    pub(crate) fn put(&mut self, alloc: Global, identities: &[TypeId], id: &TypeId, number: u32) {
-        if self.taken >= (self.slots.len() / 2).max(FIRST) {
+    /// The number of the identity with this hash, if its slot or the one beside it has it.
+    #[inline]
+    pub(crate) fn known_by(
+        &self,
+        identities: &Interner<TypeId>,
+        id: &TypeId,
+        hash: usize,
+    ) -> Option<u32>
+        ensures index { IfSome result
+            (IsIndexOf ⟦<TypeId as PartialEq>⟧.eq identities.now id.now) }
+        ensures none { IfNone result ((number : ℕ)
+            → (slice_get self.now (slot_of self.now hash) ≡ Some number)
+            ⊎ (slice_get self.now (slot_of self.now (bit_xor hash 1)) ≡ Some number)
+            → ¬ (IsIndexOf ⟦<TypeId as PartialEq>⟧.eq identities.now id.now number)) }
+    {
+        match self.slot_has(identities, id, hash) {
+            Some(number) => Some(number),
+            None => self.slot_has(identities, id, hash ^ 1),
+        }
+    }
+
+    /// The number of the identity, if the slot of this hash has it.
+    #[inline]
+    fn slot_has(&self, identities: &Interner<TypeId>, id: &TypeId, hash: usize) -> Option<u32>
+        ensures index { IfSome result
+            (IsIndexOf ⟦<TypeId as PartialEq>⟧.eq identities.now id.now) }
+        ensures none { IfNone result ((number : ℕ)
+            → slice_get self.now (slot_of self.now hash) ≡ Some number
+            → ¬ (IsIndexOf ⟦<TypeId as PartialEq>⟧.eq identities.now id.now number)) }
+    {
+        confirmed(identities, self.get(hash)?, id)
+    }
+
+    /// What is in the slot of a hash.
+    fn get(&self, hash: usize) -> Option<u32>
+        ensures { result ≡ slice_get self.now (slot_of self.now hash) }
+    {
+        let last = self.slots.len().checked_sub(1)?;
+        self.slots.get(hash & last).copied()
+    }
+
+    /// Notes the number of an identity with this hash, which is one of these identities.
+    pub(crate) fn put(
+        &mut self,
+        alloc: Global,
+        identities: &Interner<TypeId>,
+        id: &TypeId,
+        hash: usize,
+        number: u32,
+    )
+        ensures { self.new ≢ [] → Contains self.new number }
+    {
+        if identities.elements().len() <= (self.slots.len() / 4).max(FEW) {
+            self.put_in_slot(self.free(hash), number);
+        } else {
             self.grow(alloc, identities);
+            self.put_in_slot(self.free(hash_of(id)), number);
         }
-        self.put_in_slot(id, number);
     }
 
-    /// Puts a number in the slot of its identity. Before there are slots it counts alone.
-    fn put_in_slot(&mut self, id: &TypeId, number: u32) {
-        let Some(mask) = self.slots.len().checked_sub(1) else {
-            self.taken = self.taken.saturating_add(1);
+    /// A hash of the slot that a number gets: that of this hash, or the one beside it, if that is
+    /// free and this one is not.
+    fn free(&self, hash: usize) -> usize {
+        if self.get(hash) != Some(NONE) && self.get(hash ^ 1) == Some(NONE) {
+            hash ^ 1
+        } else {
+            hash
+        }
+    }
+
+    /// Puts a number in the slot of a hash, if there are slots.
+    fn put_in_slot(&mut self, hash: usize, number: u32)
+        ensures { self.new ≡ slice_set self.old (slot_of self.old hash) number }
+    {
+        let Some(last) = self.slots.len().checked_sub(1) else {
             return;
         };
-        if let Some(slot) = self.slots.get_mut(hash_of(id) & mask) {
-            if *slot == NONE {
-                self.taken = self.taken.saturating_add(1);
-            }
+        if let Some(slot) = self.slots.get_mut(hash & last) {
             *slot = number;
         }
     }
 
-    /// Makes four times as many slots, and puts the numbers that are there into these.
-    fn grow(&mut self, alloc: Global, identities: &[TypeId]) {
-        self.taken = 0;
-        let count = self.slots.len().saturating_mul(4).max(4 * FIRST);
+    /// Makes four times as many slots, and puts the number of each identity into its slot.
+    fn grow(&mut self, alloc: Global, identities: &Interner<TypeId>) {
+        let count = self.slots.len().saturating_mul(4).max(8 * FEW);
         let Ok(slots) = Vec::from_elem(alloc, NONE, count) else {
             return;
         };
-        for number in mem::replace(&mut self.slots, slots) {
-            if let Some(id) = identities.get(number as usize) {
-                self.put_in_slot(id, number);
-            }
+        self.slots = slots;
+        let ids = identities.elements();
+        for number in 0..ids.len() as u32 {
+            self.put_in_slot(self.free(hash_of(&ids[number as usize])), number);
         }
     }
 }
 
+/// A number that may be that of the identity, if it is; None if it is not.
+pub(crate) fn confirmed(identities: &Interner<TypeId>, number: u32, id: &TypeId) -> Option<u32>
+    ensures index { IfSome result
+        (IsIndexOf ⟦<TypeId as PartialEq>⟧.eq identities.now id.now) }
+    ensures same { IfSome result (λ confirmed. confirmed ≡ number) }
+    ensures none { IfNone result
+        (¬ (IsIndexOf ⟦<TypeId as PartialEq>⟧.eq identities.now id.now number)) }
+{
+    let known = identities.elements().get(number as usize)?;
+    if id == known { Some(number) } else { None }
+}
+
 /// A hash of an identity: multiplicative, word by word.
 fn hash_of(id: &TypeId) -> usize {
-    let mixed = mix_identity(0, id, PARTS);
+    let mut mixed = 0;
+    let mut inner = id;
+    for left in (0..PARTS).rev() {
+        let [only] = inner.args() else {
+            mixed = mix_identity(mixed, inner, left + 1);
+            break;
+        };
+        mixed = mix_own(mixed, inner);
+        inner = only;
+    }
     (mixed ^ (mixed >> 32)) as usize
 }
 
@@ -98,10 +198,7 @@ fn mix_identity(so_far: u64, id: &TypeId, parts: usize) -> u64 {
     let Some(left) = parts.checked_sub(1) else {
         return so_far;
     };
-    let mut mixed = mix_text(so_far, id.head());
-    for num in id.nums() {
-        mixed = mix(mixed, *num as u64);
-    }
+    let mut mixed = mix_own(so_far, id);
     let args = id.args();
     for arg in args {
         mixed = mix_identity(mixed, arg, left / args.len().max(1));
@@ -109,16 +206,42 @@ fn mix_identity(so_far: u64, id: &TypeId, parts: usize) -> u64 {
     mix(mixed, args.len() as u64)
 }
 
-/// The hash so far with a string: eight bytes at a time, then the rest with the length.
+/// The hash so far with the head and the numbers of an identity.
+#[inline(always)]
+fn mix_own(so_far: u64, id: &TypeId) -> u64 {
+    let mut mixed = mix_text(so_far, id.head());
+    for num in id.nums() {
+        mixed = mix(mixed, *num as u64);
+    }
+    mixed
+}
+
+/// The hash so far with a string: with eight bytes at its start, its middle and its end, or with all
+/// that it has, and with its length.
+#[inline(always)]
 fn mix_text(so_far: u64, text: &str) -> u64 {
-    let (words, rest) = text.as_bytes().as_chunks::<8>();
-    let mut mixed = so_far;
-    for word in words {
-        mixed = mix(mixed, u64::from_le_bytes(*word));
+    let bytes = text.as_bytes();
+    let length = bytes.len() as u64;
+    let middle = &bytes[(bytes.len() / 2).saturating_sub(4)..];
+    match (
+        bytes.first_chunk::<8>(),
+        middle.first_chunk::<8>(),
+        bytes.last_chunk::<8>(),
+    ) {
+        (Some(first), Some(middle), Some(last)) => {
+            let started = mix(so_far, u64::from_le_bytes(*first) ^ length);
+            let halved = mix(started, u64::from_le_bytes(*middle));
+            mix(halved, u64::from_le_bytes(*last))
+        }
+        _ => mix(so_far, short_word(bytes)),
     }
-    let mut last = text.len() as u64;
-    for byte in rest {
-        last = last << 8 | *byte as u64;
+}
+
+/// Less than eight bytes, and their number, in one word.
+fn short_word(bytes: &[u8]) -> u64 {
+    let mut word = bytes.len() as u64;
+    for byte in bytes {
+        word = word << 8 | *byte as u64;
     }
-    mix(mixed, last)
+    word
 }

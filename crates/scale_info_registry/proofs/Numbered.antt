@@ -1,6 +1,7 @@
 -- The place of an identity.
 use Rattle.std.proofs.Common.{◌≡◌, ℕ, zero, suc, Bool, true, false, cond, List, [], ◌∷◌, length}
-use Rattle.std.proofs.Common.{refl, ap, sym, ◌∙◌, subst}
+use Rattle.std.proofs.Common.{refl, ap, sym, ◌∙◌, subst, Option, Some, None, IfSome, IsSome, ◌↔◌}
+use Rattle.std.specs.Option.{unwrap_or}
 use Rattle.std.proofs.lemmas.Bool.{false≢true}
 use Rattle.std.proofs.lemmas.Option.{same_Some, none-some}
 use Rattle.scale_info_identities.specs.Interned.{IsIndexOf, IsKnown}
@@ -50,3 +51,11 @@ one_number ids id i distinct p =
     let same : term_of p.0 ≡ term_of q.0 =
     same_Some (term_of p.0) (term_of q.0) (sym (at_node ids i p.0 p.1) ∙ ((known_by_term ids id i).0 p ∙ (sym ((known_by_term ids id (index_in equals.eq ids id)).0 q) ∙ at_node ids _ q.0 q.1))) in
     distinct i (index_in equals.eq ids id) p.0 q.0 p.1 q.1 ((same_type_ids p.0 q.0).1 same)
+
+-- the number that an identity has, or else the next one, is its place
+pub number_or_next :
+    (ids : List TypeId) (id : TypeId) (found : Option ℕ) (next : ℕ) → interned.AreDistinctBy equals.eq ids
+    → IfSome found (IsIndexOf equals.eq ids id) → IsSome found ↔ IsKnown equals.eq ids id
+    → next ≡ length ids → unwrap_or found next ≡ index_in equals.eq ids id
+number_or_next ids id (Some i) next distinct is some e = one_number ids id i distinct is
+number_or_next ids id None next distinct is some e = e ∙ sym (index_past ids id (λ k. false≢true (some.1 k)))

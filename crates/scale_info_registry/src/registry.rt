@@ -53,10 +53,10 @@ ghost use Rattle.scale_info_discovery.specs.declared.discovery.RegisterError.The
   Memory,
 };
 
-use conversion::{HasTypes, HintedIdentities, Identities, alone};
+use conversion::{HasTypes, Identities, alone};
 use scale_info_catalogue::catalogue::Catalogue;
-use scale_info_discovery::discovery::{discover_hinted, stack_up};
-use scale_info_discovery::hints::Hints;
+use scale_info_discovery::discovery::{discover, number_of, stack_up};
+use scale_info_discovery::number_cache::NumberCache;
 use scale_info_identities::interner::{Interner, UntrackedSymbol};
 use scale_info_identities::type_id::TypeId;
 use scale_info_references::conversion::{Numbers, convert};
@@ -65,7 +65,6 @@ use scale_info_types::form::PortableForm;
 use scale_info_types::meta_type::MetaType;
 use scale_info_types::ty::Type;
 use std::alloc::{AllocError, Global};
-use std::cell::Cell;
 use std::marker::Model;
 
 mod conversion;
@@ -91,6 +90,8 @@ pub use scale_info_discovery::discovery::RegisterError;
 pub struct Registry {
     identities: Interner<TypeId>,
     types: Vec<Type<PortableForm>>,
+    // Saves searches of identities.
+    cache: NumberCache,
 }
 
 impl Model for Registry {
@@ -116,6 +117,7 @@ impl Registry {
         Registry {
             identities: Interner::new(alloc),
             types: Vec::new(alloc),
+            cache: NumberCache::new(alloc),
         }
     }
 
@@ -143,16 +145,14 @@ impl Registry {
             (nodes_of self.old.identities) (type_term ty.now ∷ [])) }
     {
         let _distinct = self.identities.elements();
-        if let Some(symbol) = self.identities.get(ty.type_id()) {
-            return Ok(symbol.into_untracked());
+        if let Some(number) = number_of(&self.identities, &self.cache, ty.type_id()) {
+            return Ok(UntrackedSymbol::from(number));
         }
         let alloc = *self.types.allocator();
-        let mut hints = Hints::new(alloc);
-        self.register(alloc, alone(alloc, ty)?, catalogue, &mut hints)?;
-        let ids = HintedIdentities {
+        self.register(alloc, alone(alloc, ty)?, catalogue)?;
+        let ids = Identities {
             interner: &self.identities,
-            hints: hints.numbers(),
-            next: &Cell::new(0),
+            cache: &self.cache,
         };
         Ok(ids.id(ty))
     }
@@ -209,7 +209,7 @@ impl Registry {
     {
         let _distinct = self.identities.elements();
         let alloc = *self.types.allocator();
-        let known = known_symbols(alloc, &self.identities, types)?;
+        let known = known_symbols(alloc, &self.identities, &self.cache, types)?;
         let rest = &types[known.len()..];
         if rest.is_empty() {
             return Ok(known);
@@ -238,12 +238,10 @@ impl Registry {
     {
         let known = self.types.len();
         let pending = stack_up(references_of_types(alloc, rest)?, Vec::new(alloc))?;
-        let mut hints = Hints::new(alloc);
-        self.register(alloc, pending, catalogue, &mut hints)?;
-        let ids = HintedIdentities {
+        self.register(alloc, pending, catalogue)?;
+        let ids = Identities {
             interner: &self.identities,
-            hints: hints.numbers(),
-            next: &Cell::new(0),
+            cache: &self.cache,
         };
         match with_symbols_of(symbols, &ids, rest) {
             Ok(all) => Ok(all),
@@ -336,9 +334,10 @@ impl Registry {
         let own = *self.types.allocator();
         let known = self.types.len();
         let pending = stack_up(value.types(alloc)?, Vec::new(alloc))?;
-        self.register(own, pending, catalogue, &mut Hints::new(own))?;
+        self.register(own, pending, catalogue)?;
         let ids = Identities {
             interner: &self.identities,
+            cache: &self.cache,
         };
         match value.with_ids(alloc, &ids) {
             Ok(output) => Ok(output),
@@ -375,14 +374,12 @@ impl Registry {
         Ok(outputs)
     }
 
-    /// Registers the types on the stack, the last first, and notes hints for them. On an Err the
-    /// registry is as before.
+    /// Registers the types on the stack, the last first. On an Err the registry is as before.
     fn register<'a>(
         &mut self,
         alloc: Global,
         pending: Vec<&'a MetaType>,
         catalogue: &'a Catalogue,
-        hints: &mut Hints,
     ) -> Result<(), RegisterError>
         ensures ok { OnOk result (IsRegistration (catalogue_system catalogue.now) self.old
             (stacked pending.entry.items) self.new) }
@@ -396,9 +393,9 @@ impl Registry {
             alloc,
             &mut self.identities,
             &mut self.types,
+            &mut self.cache,
             pending,
             catalogue,
-            hints,
         );
         if done.is_err() {
             cut_back(&mut self.identities, &mut self.types, known);
@@ -412,9 +409,9 @@ fn register_in<'a>(
     alloc: Global,
     identities: &mut Interner<TypeId>,
     types: &mut Vec<Type<PortableForm>>,
+    cache: &mut NumberCache,
     pending: Vec<&'a MetaType>,
     catalogue: &'a Catalogue,
-    hints: &mut Hints,
 ) -> Result<(), RegisterError>
     requires { length types.old.items ≡ length identities.old }
     ensures kept { (more : List TypeId) × (identities.new ≡ identities.old ++ more) }
@@ -427,9 +424,8 @@ fn register_in<'a>(
     ensures cause { IfErr result (IsCause (catalogue_system catalogue.now)
         (nodes_of identities.old) (stacked pending.entry.items)) }
 {
-    let first = pending.len();
-    let found = discover_hinted(alloc, identities, pending, catalogue, hints)?;
-    describe(alloc, identities, found, hints.numbers(), first, types)?;
+    let found = discover(alloc, identities, cache, pending, catalogue)?;
+    describe(alloc, identities, cache, found, types)?;
     Ok(())
 }
 
@@ -437,6 +433,7 @@ fn register_in<'a>(
 fn known_symbols(
     alloc: Global,
     identities: &Interner<TypeId>,
+    cache: &NumberCache,
     types: &[MetaType],
 ) -> Result<Vec<UntrackedSymbol<TypeId>>, AllocError>
     ensures few { IfOk result (λ symbols. length symbols.items ≤ length types.now) }
@@ -446,10 +443,10 @@ fn known_symbols(
 {
     let mut symbols = Vec::with_capacity(alloc, types.len())?;
     for ty in types {
-        let Some(symbol) = identities.get(ty.type_id()) else {
+        let Some(number) = number_of(identities, cache, ty.type_id()) else {
             break;
         };
-        symbols.push(symbol.into_untracked())?;
+        symbols.push(UntrackedSymbol::from(number))?;
     }
     Ok(symbols)
 }
@@ -457,7 +454,7 @@ fn known_symbols(
 /// The symbols with the ids of types after them, in order.
 fn with_symbols_of(
     mut symbols: Vec<UntrackedSymbol<TypeId>>,
-    ids: &HintedIdentities<'_>,
+    ids: &Identities<'_>,
     types: &[MetaType],
 ) -> Result<Vec<UntrackedSymbol<TypeId>>, AllocError>
     ensures { IfOk result (λ all. map (λ (s : UntrackedSymbol TypeId). s.id) all.items
@@ -480,14 +477,12 @@ fn cut_back(identities: &mut Interner<TypeId>, types: &mut Vec<Type<PortableForm
     types.truncate(known);
 }
 
-/// Describes the identities that have no description yet, in order, by those that were found. The
-/// hints for their references begin with the one at `first`.
-fn describe<'x, 'a>(
+/// Describes the identities that have no description yet, in order, by those that were found.
+fn describe<'a>(
     alloc: Global,
-    identities: &'x Interner<TypeId>,
+    identities: &Interner<TypeId>,
+    cache: &NumberCache,
     found: Vec<&'a Type>,
-    hints: &'x [u32],
-    first: usize,
     types: &mut Vec<Type<PortableForm>>,
 ) -> Result<(), AllocError>
     requires fits { length types.old.items + length found.items ≡ length identities.now }
@@ -498,11 +493,9 @@ fn describe<'x, 'a>(
         → AreFound catalogue (drop (length types.old.items) identities.now) found.entry.items
         → AreDescribed catalogue identities.now (length types.old.items) types.new.items) }
 {
-    let next = Cell::new(first);
-    let numbers = HintedIdentities {
+    let numbers = Identities {
         interner: identities,
-        hints,
-        next: &next,
+        cache,
     };
     for described in found {
         let ty = convert(alloc, &numbers, described);

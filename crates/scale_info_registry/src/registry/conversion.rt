@@ -1,6 +1,5 @@
 //! Descriptions and their parts with ids in place of types.
-ghost use Rattle.std.specs.Prelude.{◌≡◌, ◌∷◌, [], ℕ, List, IfOk, IfSome};
-ghost use Rattle.scale_info_identities.specs.Interned.{IsIndexOf};
+ghost use Rattle.std.specs.Prelude.{◌≡◌, ◌∷◌, [], ℕ, List, IfOk};
 ghost use Rattle.scale_info_references.specs.Conversions.{symbol};
 ghost use Rattle.scale_info_references.specs.Gathered.{targets};
 ghost use Rattle.scale_info_types.specs.MetaDescriptions.{type_term};
@@ -28,7 +27,8 @@ ghost use Rattle.scale_info_registry.specs.Registrations.{index_in};
 
 use scale_info_collections::items::Items;
 use scale_info_collections::text::Text;
-use scale_info_discovery::hints::confirmed;
+use scale_info_discovery::discovery::number_of;
+use scale_info_discovery::number_cache::NumberCache;
 use scale_info_identities::interner::{Interner, UntrackedSymbol};
 use scale_info_identities::type_id::TypeId;
 use scale_info_references::conversion::{
@@ -45,12 +45,12 @@ use scale_info_types::ty::path::Path;
 use scale_info_types::ty::variant::Variant;
 use scale_info_types::ty::{Field, Type, TypeDef, TypeDefComposite, TypeDefVariant, TypeParameter};
 use std::alloc::{AllocError, Global};
-use std::cell::Cell;
 
-/// The identities of a registry, which number the types of descriptions.
+/// The identities of a registry, which number the types of descriptions, with what saves searches.
 #[derive(Clone, Copy)]
 pub(crate) struct Identities<'a> {
     pub(crate) interner: &'a Interner<TypeId>,
+    pub(crate) cache: &'a NumberCache,
 }
 
 impl<'a> Numbers<MetaForm> for Identities<'a> {
@@ -58,54 +58,8 @@ impl<'a> Numbers<MetaForm> for Identities<'a> {
 
     fn id(&self, ty: &MetaType) -> UntrackedSymbol<TypeId> {
         let ids = self.interner.elements();
-        match self.interner.get(ty.type_id()) {
-            Some(symbol) => symbol.into_untracked(),
-            None => UntrackedSymbol::from(ids.len() as u32),
-        }
-    }
-
-    fn text(alloc: Global, source: &&'static str) -> Result<Text, AllocError>
-        ensures { IfOk result (λ copy. copy ≡ source.now.now) }
-    {
-        Ok(Text::from(String::from_str(alloc, source)?))
-    }
-}
-
-/// The identities of a registry, with a hint for each type that is asked for, in order.
-#[derive(Clone, Copy)]
-pub(crate) struct HintedIdentities<'a> {
-    /// The identities.
-    pub(crate) interner: &'a Interner<TypeId>,
-    /// What may be the number of each type that is asked for.
-    pub(crate) hints: &'a [u32],
-    /// The hint that comes next.
-    pub(crate) next: &'a Cell<usize>,
-}
-
-impl<'a> HintedIdentities<'a> {
-    /// The next hint, if the identity with this number is the one asked for.
-    fn hinted(&self, id: &TypeId) -> Option<u32>
-        ensures { IfSome result
-            (IsIndexOf ⟦<TypeId as PartialEq>⟧.eq self.now.interner.now id.now) }
-    {
-        let place = self.next.get();
-        self.next.set(place.saturating_add(1));
-        confirmed(self.interner, *self.hints.get(place)?, id)
-    }
-}
-
-impl<'a> Numbers<MetaForm> for HintedIdentities<'a> {
-    ghost id_of = { λ ids ty. index_in ⟦<TypeId as PartialEq>⟧.eq ids.interner.now ty.identity };
-
-    fn id(&self, ty: &MetaType) -> UntrackedSymbol<TypeId> {
-        let _distinct = self.interner.elements();
-        let ids = Identities {
-            interner: self.interner,
-        };
-        match self.hinted(ty.type_id()) {
-            Some(number) => UntrackedSymbol::from(number),
-            None => ids.id(ty),
-        }
+        let number = number_of(self.interner, self.cache, ty.type_id());
+        UntrackedSymbol::from(number.unwrap_or(ids.len() as u32))
     }
 
     fn text(alloc: Global, source: &&'static str) -> Result<Text, AllocError>

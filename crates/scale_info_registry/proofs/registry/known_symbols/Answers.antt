@@ -15,14 +15,14 @@ loop-ty-preserved c =
     let L = nodes_of c.args.identities.now in
     let i = c.loop-ty.ty-index in
     let ty = c.ty-item.result in
-    let symbol = c.into_untracked.result in
+    let symbol = c.from.result in
     let is_id : Id → ℕ = λ s. s.id in
     let front : take (i + 1) c.args.types.now ≡ take i c.args.types.now ++ ty ∷ [] = grind (arith, common_steps, rules) in
     let pushed : c.push.new.self.items ≡ c.loop-ty.symbols.items ++ symbol ∷ [] = search rules in
-    let found = (known_by_term c.args.identities.now c.type_id.result.now c.in-Some.symbol.id).0 c.in-Some.ensures.found in
+    let found = (known_by_term c.args.identities.now c.type_id.result.now c.in-Some.number).0 c.in-Some.ensures.found in
     let at : slice_get L symbol.id ≡ Some (type_term ty) =
-    subst (λ n. slice_get L n ≡ Some (type_term ty)) (sym c.into_untracked.ensures)
-    (subst (λ id. slice_get L c.in-Some.symbol.id ≡ Some (term_of id)) c.type_id.ensures found) in
+    subst (λ n. slice_get L n ≡ Some (type_term ty)) (sym c.from.ensures)
+    (subst (λ id. slice_get L c.in-Some.number ≡ Some (term_of id)) c.type_id.ensures found) in
     let roots : roots_of (take (i + 1) c.args.types.now) ≡ roots_of (take i c.args.types.now) ++ type_term ty ∷ [] =
     ap roots_of front ∙ map-append type_term (take i c.args.types.now) (ty ∷ []) in
     let ids : map is_id c.push.new.self.items ≡ map is_id c.loop-ty.symbols.items ++ symbol.id ∷ [] =

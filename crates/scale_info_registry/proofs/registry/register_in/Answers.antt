@@ -18,7 +18,7 @@ describe-requires c =
 pub returns-clause-ok : goal.returns-clause-ok
 returns-clause-ok c =
     let (more, is, all) = c.in_ok-found.ensures.found in
-    let ids = c.discover_hinted.new.identities in
+    let ids = c.discover.new.identities in
     let rest : drop (length c.args.types.now.items) ids ≡ more =
     ap (λ n. drop n ids) c.requires
     ∙ (ap (λ xs. drop (length c.args.identities.now) xs) is ∙ drop-append_seam c.args.identities.now more) in

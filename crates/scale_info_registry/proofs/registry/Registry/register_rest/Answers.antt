@@ -35,8 +35,8 @@ invariant_of-self c =
     c.len-known.result (search rules) c.self.invariant c.cut_back.ensures.identities c.cut_back.ensures.types c.args.self.now c.register.new.self c.self.view_is c.self-2.view_is
     (keeps (catalogue_system c.args.catalogue.now) c.args.self.now c.register.new.self (stacked c.in_ok-pending.pending.items) c.in_ok-register.ensures.ok)
 
-pub returns-clause-kept : goal.returns-clause-kept
-returns-clause-kept c =
+pub returns-in-Err-clause-kept : goal.returns-in-Err-clause-kept
+returns-in-Err-clause-kept c =
     keeps_itself c.args.self.now (registered c.cut_back.new.identities c.cut_back.new.types.items)
     (cut_same c.self.inside.identities c.self-2.inside.identities c.cut_back.new.identities c.self.inside.types.items c.self-2.inside.types.items c.cut_back.new.types.items
     c.len-known.result (search rules) c.self.invariant c.cut_back.ensures.identities c.cut_back.ensures.types c.args.self.now c.register.new.self c.self.view_is c.self-2.view_is

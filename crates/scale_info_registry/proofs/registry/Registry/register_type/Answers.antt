@@ -13,7 +13,7 @@ use Rattle.scale_info_registry.proofs.registry.Registry.register_type.Goals as g
 pub returns-in-Some-clause-ok : goal.returns-in-Some-clause-ok
 returns-in-Some-clause-ok c =
     let id = c.type_id.result.now in
-    let k = (known c.self.inside.identities id).0 (c.in-Some.symbol.id, c.in-Some.ensures.found) in
+    let k = (known c.self.inside.identities id).0 (c.in-Some.number, c.in-Some.ensures.found) in
     subst (λ i. IsRegistration (catalogue_system c.args.catalogue.now) c.args.self.now (term_of i ∷ []) c.args.self.now) c.type_id.ensures
     (subst (λ v. IsRegistration (catalogue_system c.args.catalogue.now) v (term_of id ∷ []) v) c.self.view_is
     (registers_known (catalogue_system c.args.catalogue.now) (registered c.self.inside.identities c.self.inside.types.items) id c.elements-distinct.ensures.distinct k))
@@ -21,10 +21,10 @@ returns-in-Some-clause-ok c =
 pub returns-in-Some-clause-id : goal.returns-in-Some-clause-id
 returns-in-Some-clause-id c =
     let id = c.type_id.result.now in
-    let p = (known_by_term c.self.inside.identities id c.in-Some.symbol.id).0 c.in-Some.ensures.found in
-    rw c.into_untracked.ensures
-    (subst (λ i. slice_get (nodes_of c.args.self.now.identities) c.in-Some.symbol.id ≡ Some (term_of i)) c.type_id.ensures
-    (subst (λ v. slice_get (nodes_of v.identities) c.in-Some.symbol.id ≡ Some (term_of id)) c.self.view_is p))
+    let p = (known_by_term c.self.inside.identities id c.in-Some.number).0 c.in-Some.ensures.found in
+    rw c.from.ensures
+    (subst (λ i. slice_get (nodes_of c.args.self.now.identities) c.in-Some.number ≡ Some (term_of i)) c.type_id.ensures
+    (subst (λ v. slice_get (nodes_of v.identities) c.in-Some.number ≡ Some (term_of id)) c.self.view_is p))
 
 pub returns-in_err-alone-clause-known : goal.returns-in_err-alone-clause-known
 returns-in_err-alone-clause-known c = λ k.

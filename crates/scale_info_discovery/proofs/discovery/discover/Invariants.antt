@@ -4,7 +4,7 @@ use Rattle.scale_info_discovery.specs.CatalogueSystems.{catalogue_system}
 use Rattle.scale_info_discovery.specs.Discoveries.{nodes_of, stacked, AreFound}
 use Rattle.scale_info_numberings.proofs.WorkLists.{IsWalking}
 use Rattle.scale_info_discovery.proofs.CatalogueWeights.{work_left}
-use Rattle.scale_info_discovery.proofs.discovery.discover_hinted.Given as goal
+use Rattle.scale_info_discovery.proofs.discovery.discover.Given as goal
 
 abbrev pub invariant-loop-next : goal.invariant-loop-next
 invariant-loop-next l =

@@ -6,7 +6,7 @@ use Rattle.scale_info_discovery.specs.Discoveries.{nodes_of, stacked, IsNumbered
 use Rattle.scale_info_numberings.proofs.WorkLists.{walk_starts}
 use Rattle.scale_info_discovery.proofs.Discovered.{kept_more, found_more, passes, adds, shrinks, ends, fails}
 use Rattle.scale_info_discovery.proofs.Terms.{distinct_nodes}
-use Rattle.scale_info_discovery.proofs.discovery.discover_hinted.Goals as goal
+use Rattle.scale_info_discovery.proofs.discovery.discover.Goals as goal
 
 pub loop-next-init : goal.loop-next-init
 loop-next-init c = (
@@ -18,28 +18,28 @@ loop-next-init c = (
 pub loop-next-preserved : goal.loop-next-preserved
 loop-next-preserved c =
     let id = c.type_id.result.now in
-    let n = subst (λ o. IsNumbered c.args.catalogue.now c.loop-next.identities id (option_copied o) c.number_cached.new.identities) c.in_default-new.is c.in_ok-number.ensures.ok in
+    let n = subst (λ o. IsNumbered c.args.catalogue.now c.loop-next.identities id (option_copied o) c.number_cached.new.identities) c.in_default-new.is c.in_ok-new.ensures.ok in
     rw n.1 (
       passes c.args.catalogue.now c.args.identities.now c.args.pending.items c.loop-next.identities c.loop-next.pending.items c.pop.new.self.items c.in-Some.next id c.in-Some.ensures.items c.type_id.ensures n.0 c.loop-next.invariant.0,
       c.loop-next.invariant.1,
       c.loop-next.invariant.2,
     )
 
-pub returns-in_err-number-clause-err : goal.returns-in_err-number-clause-err
-returns-in_err-number-clause-err c =
-    let p = err_from_is_err_and c.from_residual-in_err-number.result c.from_residual-in_err-number.ensures.1 in
+pub returns-in_err-new-clause-err : goal.returns-in_err-new-clause-err
+returns-in_err-new-clause-err c =
+    let p = err_from_is_err_and c.from_residual.result c.from_residual.ensures.1 in
     rw (p.1, p.2)
     (fails c.args.catalogue.now c.args.identities.now c.args.pending.items c.loop-next.identities c.loop-next.pending.items c.pop.new.self.items c.in-Some.next c.type_id.result.now
-    c.in_err-number.field-0.0 c.in-Some.ensures.items c.type_id.ensures c.in_err-number.ensures.cause c.loop-next.invariant.0)
+    c.in_err-new.field-0.0 c.in-Some.ensures.items c.type_id.ensures c.in_err-new.ensures.cause c.loop-next.invariant.0)
 
 pub loop-next-preserved-in-Some-new : goal.loop-next-preserved-in-Some-new
 loop-next-preserved-in-Some-new c =
     let cat = c.args.catalogue.now in
     let id = c.type_id.result.now in
     let d = c.in-Some-new.described.now in
-    let n = subst (λ o. IsNumbered cat c.loop-next.identities id (option_copied o) c.number_cached.new.identities) c.in-Some-new.is c.in_ok-number.ensures.ok in (
-      adds cat c.args.identities.now c.args.pending.items c.loop-next.identities c.number_cached.new.identities c.loop-next.pending.items c.pop.new.self.items c.in_ok-pending.pending.items c.in_ok-references.references.items c.in-Some.next id d
-          c.in-Some.ensures.items c.type_id.ensures n.0 n.1 n.2 c.in_ok-pending.ensures.ok c.in_ok-references.ensures c.loop-next.invariant.0,
+    let n = subst (λ o. IsNumbered cat c.loop-next.identities id (option_copied o) c.number_cached.new.identities) c.in-Some-new.is c.in_ok-new.ensures.ok in (
+      adds cat c.args.identities.now c.args.pending.items c.loop-next.identities c.number_cached.new.identities c.loop-next.pending.items c.pop.new.self.items c.in_ok-pending.pending.items c.in_ok-references_of.field-0.items c.in-Some.next id d
+          c.in-Some.ensures.items c.type_id.ensures n.0 n.1 n.2 c.in_ok-pending.ensures.ok c.in_ok-references_of.ensures c.loop-next.invariant.0,
       kept_more c.args.identities.now c.loop-next.identities c.number_cached.new.identities id c.loop-next.invariant.1 n.2,
       found_more cat c.args.identities.now c.loop-next.identities c.number_cached.new.identities id c.loop-next.found.items c.in_ok-found.found.items c.in-Some-new.described n.1 n.2 (search rules) c.loop-next.invariant.2,
     )
@@ -49,10 +49,10 @@ loop-next-smaller-in-Some-new c =
     let cat = c.args.catalogue.now in
     let id = c.type_id.result.now in
     let d = c.in-Some-new.described.now in
-    let n = subst (λ o. IsNumbered cat c.loop-next.identities id (option_copied o) c.number_cached.new.identities) c.in-Some-new.is c.in_ok-number.ensures.ok in
+    let n = subst (λ o. IsNumbered cat c.loop-next.identities id (option_copied o) c.number_cached.new.identities) c.in-Some-new.is c.in_ok-new.ensures.ok in
     let walking = loop-next-preserved-in-Some-new c in
-    shrinks cat c.args.identities.now c.args.pending.items c.loop-next.identities c.number_cached.new.identities c.loop-next.pending.items c.pop.new.self.items c.in_ok-pending.pending.items c.in_ok-references.references.items c.in-Some.next id d
-    c.in-Some.ensures.items n.1 n.2 c.in_ok-pending.ensures.ok c.in_ok-references.ensures walking.0
+    shrinks cat c.args.identities.now c.args.pending.items c.loop-next.identities c.number_cached.new.identities c.loop-next.pending.items c.pop.new.self.items c.in_ok-pending.pending.items c.in_ok-references_of.field-0.items c.in-Some.next id d
+    c.in-Some.ensures.items n.1 n.2 c.in_ok-pending.ensures.ok c.in_ok-references_of.ensures walking.0
 
 pub returns-clause-ok : goal.returns-clause-ok
 returns-clause-ok c =
