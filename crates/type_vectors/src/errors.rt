@@ -3,6 +3,7 @@ use crate::asserts::is;
 use scale_info::export::ExportError;
 use scale_info::interner::InternError;
 use scale_info::registry::RegisterError;
+use scale_info::value::ValueError;
 use scale_info::{DecodeError, EncodeError, JsonError, PathError, PruneError, RetainError, TypeId};
 use std::alloc::Global;
 use std::fmt::Display;
@@ -66,6 +67,15 @@ fn retain_and_json_errors_are_displayed_as_their_variants(rt: HostRuntime) -> Re
     is_displayed(&rt, rt.alloc(), RetainError::Memory, "Memory")?;
     is_displayed(&rt, rt.alloc(), JsonError::Shape, "Shape")?;
     is_displayed(&rt, rt.alloc(), JsonError::Memory, "Memory")
+}
+
+#[test]
+fn value_errors_are_displayed_as_their_variants(rt: HostRuntime) -> Result<(), Fail> {
+    is_displayed(&rt, rt.alloc(), ValueError::NoSuchType, "NoSuchType")?;
+    is_displayed(&rt, rt.alloc(), ValueError::Unsupported, "Unsupported")?;
+    is_displayed(&rt, rt.alloc(), ValueError::TooDeep, "TooDeep")?;
+    is_displayed(&rt, rt.alloc(), ValueError::Malformed, "Malformed")?;
+    is_displayed(&rt, rt.alloc(), ValueError::Memory, "Memory")
 }
 
 /// Errors of `prune`, each with the name of its variant.

@@ -100,6 +100,26 @@ map cut after a key: 0c 00000008040800 040000050500 080000050000; 00; 0407000000
 empty map: 0c 00000008040800 040000050500 080000050000; 00; 0001; [] 1
 ";
 
+/// Great counts of values of which few bytes are there; rows as above.
+const GREAT_COUNTS: &str = "\
+1073741823 structs: 0c 000000020400 04000000040008000000 080000050500; 00; \
+    feffffff 01000000 02; Malformed
+4294967295 structs: 0c 000000020400 04000000040008000000 080000050500; 00; \
+    03ffffffff 01000000 02; Malformed
+1073741823 bytes: 08 000000020400 040000050300; 00; feffffff 0102; Malformed
+4294967295 bytes: 08 000000020400 040000050300; 00; 03ffffffff 0102; Malformed
+1073741823 of u32: 08 000000020400 040000050500; 00; feffffff 01000000 02; Malformed
+4294967295 of u128: 08 000000020400 040000050700; 00; 03ffffffff 01; Malformed
+1073741823 of bool: 08 000000020400 040000050000; 00; feffffff 0100; Malformed
+1073741823 pairs: 0c 00000008040800 040000050500 080000050000; 00; feffffff 0700000001; Malformed
+4294967295 pairs: 0c 00000008040800 040000050500 080000050000; 00; 03ffffffff; Malformed
+array of 4294967295 bytes: 08 00000003ffffffff0400 040000050300; 00; 0102; Malformed
+array of 4294967295 of u32: 08 00000003ffffffff0400 040000050500; 00; 01000000 02; Malformed
+array of 4294967295 structs: 0c 00000003ffffffff0400 04000000040008000000 080000050500; 00; \
+    01000000 02; Malformed
+str of 1073741823 bytes: 04000000050200; 00; feffffff 68; Malformed
+";
+
 /// Values before and after pruning; rows as above, in pairs.
 const PRUNED: &str = "\
 tuple: 18 000000050000 040000040c080c0000 080000050500 0c000003200000001000 100000050300 \
@@ -234,6 +254,11 @@ fn compact_numbers_of_composites(rt: HostRuntime) -> Result<(), Fail> {
 #[test]
 fn values_made_of_values(rt: HostRuntime) -> Result<(), Fail> {
     are_decoded(&rt, rt.alloc(), COMPOUND)
+}
+
+#[test]
+fn great_counts_without_their_bytes(rt: HostRuntime) -> Result<(), Fail> {
+    are_decoded(&rt, rt.alloc(), GREAT_COUNTS)
 }
 
 #[test]
