@@ -19,6 +19,11 @@ fn has_row(text: &str, name: &str) -> bool {
     text.lines().any(|line| line.split_once(':').is_some_and(|(found, _)| found == name))
 }
 
+/// Whether a row of this name has bytes that begin with no table.
+pub fn is_malformed(name: &str) -> bool {
+    has_row(MALFORMED, name)
+}
+
 /// The bytes of the row of this name; "each kind" is a table of each kind of definition.
 pub fn bytes_of(alloc: Global, name: &str) -> Result<Vec<u8>, Fail> {
     if name == "each kind" {

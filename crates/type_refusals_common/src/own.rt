@@ -31,3 +31,15 @@ pub type Mapping = Own<2>;
 pub type Missing = Own<3>;
 /// A composite of `u32` and of [`Missing`].
 pub type Referring = Own<4>;
+/// A composite of a [`B`] and a [`C`].
+pub type A = Own<5>;
+/// A composite of a [`D`].
+pub type B = Own<6>;
+/// A composite without fields.
+pub type C = Own<7>;
+/// A composite of an [`A`].
+pub type D = Own<8>;
+/// A composite with a skipped parameter and one that is given `bool`.
+pub type P = Own<9>;
+/// A composite of forty fields of `u32`.
+pub type Wide = Own<10>;

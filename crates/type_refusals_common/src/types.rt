@@ -1,5 +1,5 @@
 //! Types by their names, what they are described as, and a catalogue of them.
-use crate::own::{Bits, Mapping, Missing, Recursive, Referring};
+use crate::own::{A, B, Bits, C, D, Mapping, Missing, P, Recursive, Referring, Wide};
 use scale_info::impls::{Compact, meta_type};
 use scale_info::meta_type::{Catalogue, CatalogueError, HasIdentity, Identified};
 use scale_info::{
@@ -7,6 +7,7 @@ use scale_info::{
     TypeDefVariant, TypeInfo, TypeParameter, Variant,
 };
 use std::alloc::{AllocError, Global};
+use std::marker::PhantomData;
 use std::ops::Range;
 use std::test::Fail;
 use type_vectors_common::catalogues::add_own;
@@ -15,6 +16,12 @@ use type_vectors_common::results::both;
 
 /// A pair of `u32` and `bool`.
 pub type Pair = (u32, bool);
+
+/// Three types, of which one is an array.
+pub type Triple = (u32, [u8; 32], bool);
+
+/// A number, and a marker that the description leaves out.
+pub type Marked = (u64, PhantomData<u8>);
 
 /// An array that is longer than descriptions can say.
 pub type TooLong = [u8; 4294967296];
@@ -29,6 +36,8 @@ pub fn type_named(alloc: Global, name: &str) -> Result<MetaType, Fail> {
         "Vec<u32>" => meta_type::<Vec<u32>>(alloc),
         "[u8; 32]" => meta_type::<[u8; 32]>(alloc),
         "(u32, bool)" => meta_type::<Pair>(alloc),
+        "(u32, [u8; 32], bool)" => meta_type::<Triple>(alloc),
+        "(u64, PhantomData<u8>)" => meta_type::<Marked>(alloc),
         "Option<(u32, bool)>" => meta_type::<Option<Pair>>(alloc),
         "Compact<u32>" => meta_type::<Compact<u32>>(alloc),
         "Range<u8>" => meta_type::<Range<u8>>(alloc),
@@ -46,6 +55,9 @@ fn own_type_named(alloc: Global, name: &str) -> Result<MetaType, Fail> {
         "Mapping" => meta_type::<Mapping>(alloc),
         "Missing" => meta_type::<Missing>(alloc),
         "Referring" => meta_type::<Referring>(alloc),
+        "A" => meta_type::<A>(alloc),
+        "P" => meta_type::<P>(alloc),
+        "Wide" => meta_type::<Wide>(alloc),
         _ => return Err(Fail::new("no type has this name")),
     };
     Ok(ty?)
@@ -89,11 +101,43 @@ pub fn unnamed_field<T: HasIdentity>(alloc: Global) -> Result<Field, AllocError>
     Ok(Field::new(None, ty, None, Vec::new(alloc)))
 }
 
-/// A composite of `u32` and of a type that is not described.
-fn referring(alloc: Global) -> Result<Type, AllocError> {
-    let first = list_of(alloc, unnamed_field::<u32>(alloc)?);
-    let fields = with(first, unnamed_field::<Missing>(alloc))?;
-    Ok(Type::from_def(alloc, TypeDefComposite::from(fields).into()))
+/// A composite of these fields.
+fn composite(alloc: Global, fields: Vec<Field>) -> Type {
+    Type::from_def(alloc, TypeDefComposite::from(fields).into())
+}
+
+/// A composite of one field of this type.
+fn composite_of<T: HasIdentity>(alloc: Global) -> Result<Type, AllocError> {
+    Ok(composite(alloc, list_of(alloc, unnamed_field::<T>(alloc)?)?))
+}
+
+/// A composite of two fields, of these types.
+fn composite_of_two<T: HasIdentity, U: HasIdentity>(alloc: Global) -> Result<Type, AllocError> {
+    let first = list_of(alloc, unnamed_field::<T>(alloc)?);
+    Ok(composite(alloc, with(first, unnamed_field::<U>(alloc))?))
+}
+
+/// A composite of forty fields of `u32`.
+fn wide(alloc: Global) -> Result<Type, AllocError> {
+    let mut fields = Vec::new(alloc);
+    for _ in 0..40 {
+        fields.push(unnamed_field::<u32>(alloc)?)?;
+    }
+    Ok(composite(alloc, fields))
+}
+
+/// A composite of `u8` and `bool`, with parameters.
+fn with_parameters(alloc: Global) -> Result<Type, AllocError> {
+    let first = list_of(alloc, unnamed_field::<u8>(alloc)?);
+    let fields = with(first, unnamed_field::<bool>(alloc))?;
+    let path = Path::from_segments_unchecked(alloc, list_of(alloc, "P")?)?;
+    Type::new(
+        alloc,
+        path,
+        parameters(alloc)?,
+        TypeDef::from(TypeDefComposite::from(fields)),
+        Vec::new(alloc),
+    )
 }
 
 /// A field with a name, a name of its type, and docs.
@@ -145,7 +189,7 @@ fn own_description_named(alloc: Global, name: &str) -> Result<Type, Fail> {
         "Recursive" => recursive(alloc),
         "Bits" => bits(alloc),
         "Mapping" => mapping(alloc),
-        "Referring" => referring(alloc),
+        "Referring" => composite_of_two::<u32, Missing>(alloc),
         _ => return Err(Fail::new("no type has this name")),
     };
     Ok(description?)
@@ -156,6 +200,7 @@ fn add_plain(catalogue: &mut Catalogue) -> Result<(), CatalogueError> {
     catalogue.add::<bool>()?;
     catalogue.add::<u8>()?;
     catalogue.add::<u32>()?;
+    catalogue.add::<u64>()?;
     catalogue.add::<String>()?;
     Ok(())
 }
@@ -165,6 +210,8 @@ fn add_generic(catalogue: &mut Catalogue) -> Result<(), CatalogueError> {
     catalogue.add::<Vec<u32>>()?;
     catalogue.add::<[u8; 32]>()?;
     catalogue.add::<Pair>()?;
+    catalogue.add::<Triple>()?;
+    catalogue.add::<Marked>()?;
     catalogue.add::<Option<Pair>>()?;
     catalogue.add::<Compact<u32>>()?;
     catalogue.add::<Range<u8>>()?;
@@ -177,7 +224,27 @@ fn add_own_types(alloc: Global, catalogue: &mut Catalogue) -> Result<(), Catalog
     add_own(catalogue, Recursive::type_id(alloc)?, recursive(alloc))?;
     add_own(catalogue, Bits::type_id(alloc)?, bits(alloc))?;
     add_own(catalogue, Mapping::type_id(alloc)?, mapping(alloc))?;
-    add_own(catalogue, Referring::type_id(alloc)?, referring(alloc))?;
+    let referring = composite_of_two::<u32, Missing>(alloc);
+    add_own(catalogue, Referring::type_id(alloc)?, referring)?;
+    Ok(())
+}
+
+/// Adds composites of one another, one with parameters and one of many fields.
+fn add_composites(alloc: Global, catalogue: &mut Catalogue) -> Result<(), CatalogueError> {
+    add_own(
+        catalogue,
+        A::type_id(alloc)?,
+        composite_of_two::<B, C>(alloc),
+    )?;
+    add_own(catalogue, B::type_id(alloc)?, composite_of::<D>(alloc))?;
+    add_own(
+        catalogue,
+        C::type_id(alloc)?,
+        Ok(composite(alloc, Vec::new(alloc))),
+    )?;
+    add_own(catalogue, D::type_id(alloc)?, composite_of::<A>(alloc))?;
+    add_own(catalogue, P::type_id(alloc)?, with_parameters(alloc))?;
+    add_own(catalogue, Wide::type_id(alloc)?, wide(alloc))?;
     Ok(())
 }
 
@@ -185,7 +252,8 @@ fn add_own_types(alloc: Global, catalogue: &mut Catalogue) -> Result<(), Catalog
 fn add_all(alloc: Global, catalogue: &mut Catalogue) -> Result<(), CatalogueError> {
     add_plain(catalogue)?;
     add_generic(catalogue)?;
-    add_own_types(alloc, catalogue)
+    add_own_types(alloc, catalogue)?;
+    add_composites(alloc, catalogue)
 }
 
 /// The catalogue of all types here.

@@ -78,6 +78,23 @@ pub fn add(rt: &HostRuntime, name: &str) -> Result<Outcome, Fail> {
     }
 }
 
+/// Adds the pair of `u32` and `bool`, whose identity has the description of `u32`.
+pub fn add_described_otherwise(rt: &HostRuntime) -> Result<Outcome, Fail> {
+    let mut known = fifteen(rt.alloc())?;
+    let identity = Pair::type_id(rt.alloc())?;
+    add_own(
+        &mut known,
+        Pair::type_id(rt.alloc())?,
+        Ok(plain(rt.alloc())),
+    )?;
+    let before = state(rt.alloc(), &known, &identity);
+    begin(rt);
+    let returned = known.add::<Pair>();
+    end(rt);
+    let after = state(rt.alloc(), &known, &identity);
+    Outcome::lending(before, after, shown(rt.alloc(), returned))
+}
+
 /// Adds the description of this name under an identity, and says what is returned.
 fn added(rt: &HostRuntime, known: &mut Catalogue, name: &str) -> Result<Answer, Fail> {
     let identity = Missing::type_id(rt.alloc())?;

@@ -1,5 +1,7 @@
 //! The calls of this library, by their names.
-use crate::{builders, bytes, conversions, json, looks, prunings, registrations, values};
+use crate::{
+    builders, bytes, conversions, interners, json, looks, prunings, registrations, values,
+};
 use scale_info::meta_type::Catalogue;
 use std::test::Fail;
 use type_refusals_common::outcomes::Outcome;
@@ -48,9 +50,12 @@ fn call_of_registries(rt: &HostRuntime, name: &str, input: &str) -> Option<Resul
     let outcome = match name {
         "register_type" => registrations::register_type(rt, input),
         "register_types" => registrations::register_types(rt, input),
+        "register_all" => registrations::register_all(rt, input),
         "map_into_portable" => registrations::map_into_portable(rt, input),
         "from_registry" => registrations::from_registry(rt, input),
+        "from_finished" => registrations::from_finished(rt, input),
         "export" => registrations::export_types(rt, input),
+        "intern_or_get_after" => interners::intern_or_get_after(rt, input),
         "into_portable" => conversions::part(rt, catalogue(rt.alloc()), input),
         "into_portable_undescribed" => {
             conversions::part(rt, Ok(Catalogue::new(rt.alloc())), input)
@@ -74,6 +79,7 @@ fn call_of_looks(rt: &HostRuntime, name: &str, input: &str) -> Option<Result<Out
         "order_descriptions" => looks::order(rt, input),
         "Refs::next" => looks::next_refs(rt, input),
         "look_at_registry" => looks::registry(rt, input),
+        "into_types" => registrations::into_types(rt, input),
         _ => return None,
     };
     Some(outcome)

@@ -8,7 +8,6 @@ use type_refusals_common::answers::{done, encoded, failed};
 use type_refusals_common::inputs::{bytes_of, output, table_of};
 use type_refusals_common::marks::{begin, end};
 use type_refusals_common::outcomes::Outcome;
-use type_vectors_common::rows::parted;
 
 /// The tree of a table.
 pub fn tree_of(rt: &HostRuntime, row: &str) -> Result<Outcome, Fail> {
@@ -23,26 +22,12 @@ pub fn tree_of(rt: &HostRuntime, row: &str) -> Result<Outcome, Fail> {
     Outcome::of(answer)
 }
 
-/// Trees of another shape: a row is a name, a colon and the text.
-const OTHER: &str = "\
-types that are null:{\"types\":null}
-no types:{}
-a list:[]
-an id that is a float:{\"types\":[{\"id\":0.0,\"type\":{\"def\":{\"primitive\":\"u32\"}}}]}
-a definition of no kind:{\"types\":[{\"id\":0,\"type\":{\"def\":{}}}]}
-a map without its value:{\"types\":[{\"id\":0,\"type\":{\"def\":{\"map\":{\"key\":1}}}}]}
-docs of a number:{\"types\":[{\"id\":0,\"type\":{\"path\":[\"a\"],\"def\":{\"tuple\":[]},\"docs\":[1]}}]}
-";
-
-/// The tree of the row of this name, or else of the table of this name.
+/// The tree of a text that comes after the word "text", or else of the table of this name.
 fn tree(alloc: Global, row: &str) -> Result<Value, Fail> {
-    for line in OTHER.lines() {
-        let (name, text) = parted(line, ':')?;
-        if name == row {
-            return Ok(Value::from_str(alloc, text)?);
-        }
+    match row.strip_prefix("text ") {
+        Some(text) => Ok(Value::from_str(alloc, text)?),
+        None => Ok(to_json(alloc, &table_of(alloc, row)?)?),
     }
-    Ok(to_json(alloc, &table_of(alloc, row)?)?)
 }
 
 /// The table of a tree.

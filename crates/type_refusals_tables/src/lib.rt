@@ -1,10 +1,11 @@
-//! Calls over bytes, tables and registries, each made once between marks.
+//! Calls over bytes, tables, registries and interners, each made once between marks.
 #![tactic(auto)]
 
 pub mod builders;
 pub mod bytes;
 pub mod calls;
 pub mod conversions;
+pub mod interners;
 pub mod json;
 pub mod looks;
 pub mod prunings;

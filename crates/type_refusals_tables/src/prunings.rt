@@ -4,7 +4,7 @@ use scale_info::{PortableRegistry, RetainError, append_pruned, prune};
 use std::alloc::{AllocError, Global};
 use std::test::Fail;
 use type_refusals_common::answers::{digits, done, failed, shown};
-use type_refusals_common::inputs::{bytes_of, output, table_of};
+use type_refusals_common::inputs::{bytes_of, is_malformed, output, table_of};
 use type_refusals_common::marks::{begin, end};
 use type_refusals_common::outcomes::Outcome;
 use type_vectors_common::rows::{numbers, parted};
@@ -12,15 +12,17 @@ use type_vectors_common::rows::{numbers, parted};
 /// Calls of `prune` that are refused: a row is a name, a colon, the ids, a semicolon and the name
 /// of the bytes.
 const REFUSED: &str = "\
-no table: 0; a table without its last byte
 a byte after the table: 0; a table and a byte
 no such type: 0 7 9; Vec<u32>
 a dangling id: 1; reference outside the table
 ";
 
-/// The name of bytes, and the ids that they are pruned to: those of the row of this name, or else
-/// every second index of the table of this name.
+/// The name of bytes, and the ids that they are pruned to: those of the row of this name, or 0 for
+/// bytes that begin with no table, or else every second index of the table of this name.
 fn given<'a>(alloc: Global, row: &'a str) -> Result<(&'a str, Vec<u32>), Fail> {
+    if is_malformed(row) {
+        return Ok((row, numbers(alloc, "0")?));
+    }
     for line in REFUSED.lines() {
         let (name, rest) = parted(line, ':')?;
         if name == row {

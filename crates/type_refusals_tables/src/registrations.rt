@@ -2,10 +2,10 @@
 use crate::registries::{described_registry_of, descriptions, listed, registry_of_u8, state};
 use scale_info::export::{Exported, export};
 use scale_info::meta_type::Catalogue;
-use scale_info::{Field, IntoPortable, MetaType, PortableRegistry, Scale, tuple_meta_type};
+use scale_info::{Field, IntoPortable, Items, MetaType, PortableRegistry, Scale, tuple_meta_type};
 use std::alloc::{AllocError, Global};
 use std::test::Fail;
-use type_refusals_common::answers::{Answer, done, encoded, failed};
+use type_refusals_common::answers::{Answer, digits, done, encoded, failed};
 use type_refusals_common::inputs::output;
 use type_refusals_common::marks::{begin, end};
 use type_refusals_common::outcomes::Outcome;
@@ -59,6 +59,19 @@ pub fn register_types(rt: &HostRuntime, name: &str) -> Result<Outcome, Fail> {
     Outcome::lending(before, after, encoded(rt.alloc(), listed(returned)))
 }
 
+/// Registers three types that stay where they are.
+pub fn register_all(rt: &HostRuntime, name: &str) -> Result<Outcome, Fail> {
+    let known = catalogue(rt.alloc())?;
+    let mut registry = registry_of_u8(rt.alloc(), &known)?;
+    let types = three(rt.alloc(), name)?;
+    let before = state(rt.alloc(), &registry, &known);
+    begin(rt);
+    let returned = registry.register_all(&types, &known);
+    end(rt);
+    let after = state(rt.alloc(), &registry, &known);
+    Outcome::lending(before, after, encoded(rt.alloc(), listed(returned)))
+}
+
 /// Two fields, of which the second is one of a type that is not described where the name says so.
 fn two_fields(alloc: Global, name: &str) -> Result<Vec<Field>, AllocError> {
     let first = list_of(alloc, documented_field(alloc)?);
@@ -107,6 +120,24 @@ pub fn from_registry(rt: &HostRuntime, name: &str) -> Result<Outcome, Fail> {
     let returned = PortableRegistry::from_registry(rt.alloc(), &registry);
     end(rt);
     Outcome::of(encoded(rt.alloc(), returned))
+}
+
+/// Makes the table of a registry that is finished.
+pub fn from_finished(rt: &HostRuntime, name: &str) -> Result<Outcome, Fail> {
+    let registry = described_registry_of(rt.alloc(), name)?;
+    begin(rt);
+    let returned = PortableRegistry::from_finished(rt.alloc(), registry);
+    end(rt);
+    Outcome::of(encoded(rt.alloc(), returned))
+}
+
+/// Takes the descriptions out of a registry.
+pub fn into_types(rt: &HostRuntime, name: &str) -> Result<Outcome, Fail> {
+    let registry = described_registry_of(rt.alloc(), name)?;
+    begin(rt);
+    let types = Items::from(registry.into_types());
+    end(rt);
+    Outcome::of(done(digits(rt.alloc(), &types)))
 }
 
 /// The ids and the map of what was written.

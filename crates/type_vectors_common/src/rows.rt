@@ -82,6 +82,16 @@ a sequence of a missing type: 04 000000021400
 u8, Box<Box<u8>>: 08 000000050300 040000050300
 ";
 
+/// Tables that pruning makes of others, where they are none of the above; rows as above.
+pub const PRUNED: &str = "\
+a sequence of the second, u8, bool: 0c 000000020400 040000050300 080000050000
+a sequence of the second, bool: 08 000000020400 040000050000
+[u32; 16]: 08 00000003100000000400 040000050500
+a struct: 14 000000000c010461040000010462080000010463100000 00 040000050500 \
+    08000003200000000c00 0c0000050300 100000050000
+an enum: 0c 00000001080441040004000000000442040008000001 0000 040000050500 080000050000
+";
+
 /// Bytes with no prefix that is the encoding of a table; rows as above.
 pub const MALFORMED: &str = "\
 no bytes:

@@ -5,7 +5,7 @@ use scale_info::{PortableRegistry, RetainError};
 use std::alloc::Global;
 use std::test::Fail;
 use type_vectors_common::rows::{
-    AMONG, BUILT, COMPOSITES, TABLES, numbers, parted, row_bytes, rows,
+    AMONG, BUILT, COMPOSITES, PRUNED, TABLES, numbers, parted, row_bytes, rows,
 };
 
 /// A row is the roots, a colon, a table, an arrow, the order, another arrow and the steps.
@@ -50,7 +50,7 @@ fn tables_are_numbered_so(rt: HostRuntime) -> Result<(), Fail> {
 #[test]
 fn both_walks_agree_from_each_root(rt: HostRuntime) -> Result<(), Fail> {
     let alloc = rt.alloc();
-    for text in [TABLES, AMONG, COMPOSITES, BUILT] {
+    for text in [TABLES, AMONG, COMPOSITES, BUILT, PRUNED] {
         for row in rows(alloc, text)? {
             let (table, _) = PortableRegistry::decode(alloc, &row.bytes)?;
             for root in 0..16 {

@@ -1,0 +1,46 @@
+//! Interners that are full enough for one more element to split a chunk of their order.
+use scale_info::Text;
+use scale_info::interner::{InternError, Interner};
+use std::alloc::{AllocError, Global};
+use std::test::Fail;
+use type_refusals_common::answers::shown;
+use type_refusals_common::marks::{begin, end};
+use type_refusals_common::outcomes::Outcome;
+
+/// The digits of a number.
+fn digits_of(alloc: Global, number: usize) -> Result<Text, AllocError> {
+    Ok(Text::from(format!(in alloc; "{number}")?))
+}
+
+/// The interner of the digits of the first so many numbers.
+fn first_numbers(alloc: Global, count: usize) -> Result<Interner<Text>, InternError> {
+    let mut texts = Interner::new(alloc);
+    for number in 0..count {
+        texts.intern_or_get(digits_of(alloc, number)?)?;
+    }
+    Ok(texts)
+}
+
+/// How many elements an interner has, and how many of them are the digits of their index.
+fn state_of_numbers(alloc: Global, texts: &Interner<Text>) -> Result<String, AllocError> {
+    let elements = texts.elements();
+    let mut same = 0usize;
+    for (index, element) in elements.iter().enumerate() {
+        same = same.saturating_add((digits_of(alloc, index)? == *element) as usize);
+    }
+    format!(in alloc; "{} {same}", elements.len())
+}
+
+/// Interns one more number's digits after those of so many.
+pub fn intern_or_get_after(rt: &HostRuntime, count: &str) -> Result<Outcome, Fail> {
+    let count: usize = count.parse()?;
+    let mut texts = first_numbers(rt.alloc(), count)?;
+    let value = digits_of(rt.alloc(), count)?;
+    let before = state_of_numbers(rt.alloc(), &texts);
+    begin(rt);
+    let returned = texts.intern_or_get(value);
+    end(rt);
+    let after = state_of_numbers(rt.alloc(), &texts);
+    let numbered = returned.map(|(is_new, symbol)| (is_new, symbol.id()));
+    Outcome::lending(before, after, shown(rt.alloc(), numbered))
+}
