@@ -165,6 +165,10 @@ impl<T: Ord + Drop> Interner<T> {
     }
 
     /// The symbol of the element that equals this value; None if there is none. Does not allocate.
+    ///
+    /// The value is compared with about log2 n elements: first with copies that lie together, and
+    /// then with six elements or more, each of which may have to come from memory where there are
+    /// millions.
     pub fn get(&self, value: &T) -> Option<Symbol<'_, T>>
         ensures found { IfSome result (λ symbol. IsIndexOf T.eq self.now value.now symbol.id) }
         ensures known { IsSome result ↔ IsKnown T.eq self.now value.now }
