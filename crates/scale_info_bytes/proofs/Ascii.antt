@@ -40,12 +40,14 @@ first_two [] l = absurd (omega (arith, l))
 first_two (a ∷ []) l = absurd (omega (arith, l))
 first_two (a ∷ b ∷ xs) l = refl
 
+-- the first three items by their places
 pub first_three :
     (xs : List ℕ) → 3 ≤ length xs
     → slice_index xs 0 ∷ slice_index xs 1 ∷ slice_index xs 2 ∷ [] ≡ take 3 xs
 first_three [] l = absurd (omega (arith, l))
 first_three (a ∷ xs) l = ap (λ t. a ∷ t) (first_two xs (omega (arith, l)))
 
+-- the first four items by their places
 pub first_four :
     (xs : List ℕ) → 4 ≤ length xs
     → slice_index xs 0 ∷ slice_index xs 1 ∷ slice_index xs 2 ∷ slice_index xs 3 ∷ [] ≡ take 4 xs

@@ -4,5 +4,6 @@ pub mod CompactAt
 pub mod Errors
 pub mod Index
 pub mod Lists
+pub mod Options
 pub mod Steps
 pub mod StringAt

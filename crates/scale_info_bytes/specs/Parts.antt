@@ -1,5 +1,6 @@
 -- Encodings of values that are made of other values.
 use Rattle.std.specs.Prelude.{◌≡◌, ℕ, List, [], ◌∷◌, ◌++◌, length, Option, Some, None}
+use Rattle.scale_info_bytes.specs.Encodings.{HasPrefix}
 use Rattle.scale_info_bytes.specs.Numbers.{EncodesCompact}
 
 -- b is bytes with P followed by bytes with Q
@@ -30,6 +31,13 @@ EncodesOption S (Some v) b = HasIndex 1 (S v) b
 abbrev pub EncodesItems : {A : Type 0} → (A → List ℕ → Type 0) → List A → List ℕ → Type 0
 EncodesItems S [] b = b ≡ []
 EncodesItems S (v ∷ vs) b = IsConcatenation (S v) (EncodesItems S vs) b
+
+-- the input does not begin with so many items
+pub record HasNoItems {A : Type 0} (S : A → List ℕ → Type 0) (count : ℕ) (input : List ℕ)
+    : Type 0 where
+  pub none :
+      (values : List A) (rest : List ℕ) → length values ≡ count
+      → HasPrefix (EncodesItems S values) input rest → ⊥
 
 -- a list is its count, then its items
 abbrev pub EncodesList : {A : Type 0} → (A → List ℕ → Type 0) → List A → List ℕ → Type 0

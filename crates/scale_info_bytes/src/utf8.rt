@@ -1,7 +1,8 @@
 //! Bytes that are tested for UTF-8. Most strings of a table are ASCII and no longer than a line of
 //! docs, and for these a test of a few blocks is shorter than that of the standard library. What is
 //! not ASCII and as short is gone over character by character, which costs half of that test.
-ghost use Rattle.std.specs.Prelude.{◌≡◌, ◌<◌, ◌≤◌, ◌+◌, ◌*◌, ◌∷◌, [], ℕ, IsTrue, IsUtf8, IfSome, MatchResult};
+ghost use Rattle.std.specs.Prelude.{◌≡◌, ◌<◌, ◌≤◌, ◌+◌, ◌*◌, ◌∷◌, [], ℕ, IsTrue, IsUtf8, IfSome};
+ghost use Rattle.std.specs.Prelude.{MatchResult};
 ghost use Rattle.std.specs.Prelude.{length, slice_index, take};
 ghost use Rattle.std.specs.Str.{IsAscii, IsValidUpTo, valid_up_to};
 

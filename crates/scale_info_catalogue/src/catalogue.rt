@@ -99,8 +99,8 @@ impl Catalogue {
     ///
     /// Errors: `Conflict`, if the identity is there with another description; `TooLong`, if the
     /// type is an array of more than 4294967295 items, or is described as one; `Memory`, if an
-    /// allocation failed. A type without a description is not a `Conflict` with one that its identity
-    /// has. On an Err the catalogue is as before.
+    /// allocation failed. A type without a description is not a `Conflict` with one that its
+    /// identity has. On an Err the catalogue is as before.
     pub fn add<T: TypeInfo>(&mut self) -> Result<bool, CatalogueError>
         ensures new { IfOk result (λ new. new ≡ true
             → (d : MetaDescription) × (T.description ≡ Some (meta_content d))

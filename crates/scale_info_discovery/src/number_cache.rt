@@ -216,8 +216,8 @@ fn mix_own(so_far: u64, id: &TypeId) -> u64 {
     mixed
 }
 
-/// The hash so far with a string: with eight bytes at its start, its middle and its end, or with all
-/// that it has, and with its length.
+/// The hash so far with a string: with eight bytes at its start, its middle and its end, or with
+/// all that it has, and with its length.
 #[inline(always)]
 fn mix_text(so_far: u64, text: &str) -> u64 {
     let bytes = text.as_bytes();

@@ -22,8 +22,8 @@ AreOrdered R [] = ⊤
 AreOrdered R (x ∷ xs) = All (R x) xs × AreOrdered R xs
 
 -- no chunk is empty, and together they have the index of each element, the lower element first
-pub record IsElementOrder {T : Type 0} (cmp : T → T → Ordering) (xs : List T) (chunks : List (List ℕ))
-    : Type 0 where
+pub record IsElementOrder {T : Type 0} (cmp : T → T → Ordering) (xs : List T)
+    (chunks : List (List ℕ)) : Type 0 where
   pub filled : All (λ c. c ≢ []) chunks
   pub ascending : AreOrdered (IsBelow cmp xs) (concat chunks)
   pub sound : All (λ i. i < length xs) (concat chunks)

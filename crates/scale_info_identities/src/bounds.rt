@@ -1,9 +1,9 @@
 //! Copies of elements, by which a search finds its chunk.
 //!
 //! Each chunk of indices but the first has a bound: a copy of the least element that it had when it
-//! was split off. The bounds lie one after another, so that a search among them reads little memory,
-//! where indices lead it all over the elements. Bounds only say where a search begins, and what it
-//! finds doesn't rest on them.
+//! was split off. The bounds lie one after another, so that a search among them reads little
+//! memory, where indices lead it all over the elements. Bounds only say where a search begins, and
+//! what it finds doesn't rest on them.
 ghost use Rattle.std.specs.List.{insert, remove};
 ghost use Rattle.std.specs.Prelude.{◌≡◌, ◌≢◌, ◌≤◌, ◌+◌, ◌↔◌, ℕ, IsTrue, OnErr, OnOk, length};
 ghost use Rattle.std.specs.declared.cmp.Ordering.TheVariants.{Greater};
@@ -24,8 +24,8 @@ fn is_above<T: Ord>(bounds: &[T], at: usize, value: &T) -> bool
 
 /// The number of bounds that are not above a value, where these ascend.
 ///
-/// Each step settles a bit of the number. The test becomes that bit and no branch, since a processor
-/// guesses such a branch wrong every second time.
+/// Each step settles a bit of the number. The test becomes that bit and no branch, since a
+/// processor guesses such a branch wrong every second time.
 pub fn chunk_of<T: Ord>(bounds: &[T], value: &T) -> usize
     ensures upto { (i : ℕ) → result ≡ i + 1 → against T.cmp bounds.now value.now i ≢ Greater }
     ensures past { against T.cmp bounds.now value.now result ≡ Greater }

@@ -4,7 +4,8 @@
 //! indices are kept in chunks, so that one more moves those of one chunk only.
 ghost use Rattle.std.specs.List.{All, concat};
 ghost use Rattle.std.specs.Prelude.{◌≡◌, ◌≢◌, ◌∷◌, ◌++◌, ◌+◌, ◌<◌, ◌≤◌, ◌↔◌, ℕ, List, [], Some};
-ghost use Rattle.std.specs.Prelude.{IfOk, IfErr, IfSome, OnOk, OnErr, IsTrue, length, map, slice_get};
+ghost use Rattle.std.specs.Prelude.{IfOk, IfErr, IfSome, OnOk, OnErr, IsTrue, length, map};
+ghost use Rattle.std.specs.Prelude.{slice_get};
 ghost use Rattle.std.specs.Prelude.{vec_capacity, vec_len};
 ghost use Rattle.std.specs.declared.cmp.Ordering.TheVariants.{Less, Equal, Greater};
 ghost use Rattle.scale_info_identities.specs.Orders.{against, first_against, before, after};
@@ -224,9 +225,9 @@ fn alone(alloc: Global, index: u32) -> Result<Vec<u32>, AllocError>
 /// How many of its indices a chunk keeps when it is split; None while it may grow.
 ///
 /// A chunk is split where one more index would need more room. A split moves the headers and the
-/// bounds of the chunks behind it, and pays for that by the insertions before it. So where there are
-/// many chunks, a chunk grows until its length times 8 is the number of chunks over its length: an
-/// insertion of numbers then moves some 20 KB in the largest interner, which is about what its
+/// bounds of the chunks behind it, and pays for that by the insertions before it. So where there
+/// are many chunks, a chunk grows until its length times 8 is the number of chunks over its length:
+/// an insertion of numbers then moves some 20 KB in the largest interner, which is about what its
 /// search costs.
 fn half_of_full(chunk: &Vec<u32>, chunks: usize) -> Option<usize>
     ensures { IfSome result (λ half. (0 < half) × (half < length chunk.now.items)) }

@@ -1,8 +1,8 @@
 //! Room for a list that gets longer and shorter.
 //!
 //! A `Vec` that gets shorter keeps its room, and a smaller one would be a new allocation. Here the
-//! rooms that a list had before it grew are kept beside it, each half of the next, and the list goes
-//! back to them. So its room follows its length, and what shortens it does not allocate.
+//! rooms that a list had before it grew are kept beside it, each half of the next, and the list
+//! goes back to them. So its room follows its length, and what shortens it does not allocate.
 ghost use Rattle.std.specs.Prelude.{◌≡◌, ◌≤◌, ◌/◌, ◌++◌, ◌∷◌, [], length, vec_capacity};
 
 use std::alloc::Global;

@@ -2,7 +2,8 @@
 ghost use Rattle.std.specs.Prelude.{◌≡◌, IfOk, IfErr, option_map};
 ghost use Rattle.serde_json.specs.Find.{get};
 ghost use Rattle.serde_json.specs.View.{view};
-ghost use Rattle.scale_info_json.specs.Meaning.{IsObject, HasValue, HasList, HasOption, unless_null};
+ghost use Rattle.scale_info_json.specs.Meaning.{IsObject, HasValue, HasList, HasOption};
+ghost use Rattle.scale_info_json.specs.Meaning.{unless_null};
 ghost use Rattle.scale_info_json.specs.Meaning.{IsMeaningless, IfShape};
 
 use crate::error::JsonError;

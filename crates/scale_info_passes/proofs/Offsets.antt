@@ -20,7 +20,8 @@ use Rattle.scale_info_codec.specs.Ty.{EncodesDescription, EncodesPortableType, p
 use Rattle.scale_info_codec.specs.TyLaws.{portable_type_law, description_law}
 use Rattle.scale_info_bytes.specs.CompactLaws.{compact_law}
 use Rattle.scale_info_bytes.specs.PartLaws.{through_law}
-use Rattle.scale_info_passes.specs.Pieces.{HasSomePrefix, HasNoItems}
+use Rattle.scale_info_passes.specs.Pieces.{HasSomePrefix}
+use Rattle.scale_info_bytes.specs.Parts.{HasNoItems}
 use Rattle.scale_info_passes.specs.Entries.{IsAtOffset, HasEntries, IsKeptEntry}
 use Rattle.scale_info_passes.specs.Entries.{AreKeptEntries, AppendsKeptEntry, AppendsKeptEntries}
 use Rattle.scale_info_passes.specs.Entries.{reference_ids, AreStarts, IsEntryIndex}

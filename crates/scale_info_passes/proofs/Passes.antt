@@ -233,23 +233,6 @@ visited_no_items {a = a} k = record {
 
 -- ---- what is said of an option
 
--- a weaker fact of the value that is there
-pub some_on :
-    {X : Type 0} {P Q : X → Type 0} (r : Option X)
-    → ((x : X) → P x → Q x) → IfSome r P → IfSome r Q
-some_on None f p = tt
-some_on (Some x) f p = f x p
-
--- a weaker fact where no value is there
-pub none_on : {X : Type 0} {P Q : Type 0} (r : Option X) → (P → Q) → IfNone r P → IfNone r Q
-none_on None f p = f p
-none_on (Some x) f p = tt
-
--- a fact that holds in any case
-pub none_is : {X : Type 0} {Q : Type 0} (r : Option X) → Q → IfNone r Q
-none_is None q = q
-none_is (Some x) q = tt
-
 -- a value is there, where its absence is impossible
 pub some_unless : {X : Type 0} {P : Type 0} (r : Option X) → (P → ⊥) → IfNone r P → IsSome r
 some_unless None impossible p = absurd (impossible p)

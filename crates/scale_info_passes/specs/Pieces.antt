@@ -29,11 +29,6 @@ pub record HasSomePrefix {A : Type 0} (S : A → List ℕ → Type 0) (input res
   pub value : A
   pub prefix : HasPrefix (S value) input rest
 
--- no prefix of the input encodes n values one after another
-pub record HasNoItems {A : Type 0} (S : A → List ℕ → Type 0) (n : ℕ) (input : List ℕ) : Type 0 where
-  pub none : (values : List A) (rest : List ℕ) → length values ≡ n →
-      HasPrefix (EncodesItems S values) input rest → ⊥
-
 -- S encodes values; `references_of` are a value's references, and `map_references` replaces them
 module _ {A : Type 0} (S : A → List ℕ → Type 0) (references_of : A → List Id)
     (map_references : (Id → Id) → A → A) where

@@ -1,7 +1,8 @@
 //! Passes over lists.
 ghost use Rattle.std.specs.Prelude.{map, IfSome, IfNone};
 ghost use Rattle.std.specs.List.{flat_map};
-ghost use Rattle.scale_info_passes.specs.Pieces.{HasNoItems, HasVisitedItems};
+ghost use Rattle.scale_info_passes.specs.Pieces.{HasVisitedItems};
+ghost use Rattle.scale_info_bytes.specs.Parts.{HasNoItems};
 
 use crate::pass::{Pass, Visitor, visit_verbatim};
 use scale_info_bytes::number::decode_compact;

@@ -69,8 +69,8 @@ impl PortableRegistry {
         Ok(PortableRegistry { types })
     }
 
-    /// The table of a registry that is not needed any more: its descriptions in order, each with its
-    /// index as `id`.
+    /// The table of a registry that is not needed any more: its descriptions in order, each with
+    /// its index as `id`.
     ///
     /// The same as [`from_registry`](PortableRegistry::from_registry), but the descriptions are
     /// moved into the table, and none is copied.

@@ -11,7 +11,8 @@ use Rattle.scale_info_bytes.specs.Parts.{IsConcatenation}
 use Rattle.scale_info_bytes.specs.Strings.{EncodesText}
 use Rattle.scale_info_bytes.proofs.Index.{BeginsWith, prefix_past_index, after}
 use Rattle.scale_info_bytes.proofs.Steps.{same_prefix, split_prefix}
-use Rattle.scale_info_transcode.specs.Skips.{HasNoItems, IsOnlyRest, IsOnlyRestOfItems}
+use Rattle.scale_info_transcode.specs.Skips.{IsOnlyRest, IsOnlyRestOfItems}
+use Rattle.scale_info_bytes.specs.Parts.{HasNoItems}
 
 -- what was read is followed by no other rest
 pub only_rest :

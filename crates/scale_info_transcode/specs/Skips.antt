@@ -13,10 +13,3 @@ pub record IsOnlyRestOfItems {A : Type 0} (S : A → List ℕ → Type 0) (count
   pub same :
       (values : List A) (other : List ℕ) → length values ≡ count
       → HasPrefix (EncodesItems S values) input other → other ≡ rest
-
--- the input does not begin with so many values
-pub record HasNoItems {A : Type 0} (S : A → List ℕ → Type 0) (count : ℕ) (input : List ℕ)
-    : Type 0 where
-  pub none :
-      (values : List A) (rest : List ℕ) → length values ≡ count
-      → HasPrefix (EncodesItems S values) input rest → ⊥

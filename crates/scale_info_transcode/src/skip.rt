@@ -3,7 +3,8 @@
 //! What is skipped is read later, and its strings are tested then. So each string is tested once.
 ghost use Rattle.std.specs.Prelude.{IfSome, IfNone};
 ghost use Rattle.scale_info_bytes.specs.Encodings.{HasNoPrefix};
-ghost use Rattle.scale_info_transcode.specs.Skips.{HasNoItems, IsOnlyRest, IsOnlyRestOfItems};
+ghost use Rattle.scale_info_transcode.specs.Skips.{IsOnlyRest, IsOnlyRestOfItems};
+ghost use Rattle.scale_info_bytes.specs.Parts.{HasNoItems};
 
 use scale_info_bytes::number::decode_compact;
 use scale_info_codec::Scale;
@@ -19,8 +20,8 @@ use scale_info_types::ty::fields::Field;
 pub trait Skip: Scale {
     /// What comes after the value, where the input begins with one. It does not allocate.
     ///
-    /// None, if no prefix of the input encodes a value. The bytes of strings are not looked at, so a
-    /// rest is also returned where one of them is no UTF-8.
+    /// None, if no prefix of the input encodes a value. The bytes of strings are not looked at, so
+    /// a rest is also returned where one of them is no UTF-8.
     fn skip(input: &[u8]) -> Option<&[u8]>
         ensures some { IfSome result (λ rest. IsOnlyRest Self.encodes input.now rest.now) }
         ensures none { IfNone result (HasNoPrefix Self.encodes input.now) };

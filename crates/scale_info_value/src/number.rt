@@ -29,8 +29,8 @@ pub(crate) fn bytes(count: usize, input: &[u8]) -> Result<(&[u8], &[u8]), ValueE
     Ok(input.split_at(count))
 }
 
-/// A number by its bytes, the lowest first. Where they are as many as those of a built-in type, they
-/// are taken at once.
+/// A number by its bytes, the lowest first. Where they are as many as those of a built-in type,
+/// they are taken at once.
 pub(crate) fn little_endian(bytes: &[u8]) -> u128
     requires { length bytes.now ≤ 16 }
     ensures number { result ≡ little_endian bytes.now }

@@ -42,8 +42,8 @@ fn kept(alloc: Global, known: &Catalogue) -> Result<u32, AllocError> {
     Ok(kept)
 }
 
-/// How many descriptions a catalogue has, whether it has one of this identity and that is the one of
-/// `u32`, and how many of the fifteen it has.
+/// How many descriptions a catalogue has, whether it has one of this identity and that is the one
+/// of `u32`, and how many of the fifteen it has.
 fn state(alloc: Global, known: &Catalogue, identity: &TypeId) -> Result<String, AllocError> {
     let (len, kept) = (known.len(), kept(alloc, known)?);
     let plain = plain(alloc);

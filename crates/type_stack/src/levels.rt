@@ -1,6 +1,7 @@
 //! Values of so many levels round a number, and the tables and bytes that they are decoded by.
 //!
-//! In a table the number's type has the id 0, and each type after it has the one before as its part.
+//! In a table the number's type has the id 0, and each type after it has the one before as its
+//! part.
 use anyhow::{Result, bail};
 use scale_info_codec::Scale;
 use scale_info_collections::items::Items;

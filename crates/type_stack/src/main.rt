@@ -1,9 +1,9 @@
 //! Calls that take stack by the depth of what they are given, each on an input as deep as wanted.
 //!
 //! `WHAT CALL LEVELS` makes values, identities or a table of so many levels, makes the call, and
-//! prints how deep the outcome is, or how many types were numbered. `checks/stack/run` runs it under
-//! bounds on the stack. What is given to a call is made without recursion, and is not dropped after
-//! `compare` and `copy`.
+//! prints how deep the outcome is, or how many types were numbered. `checks/stack/run` runs it
+//! under bounds on the stack. What is given to a call is made without recursion, and is not dropped
+//! after `compare` and `copy`.
 #![tactic(auto)]
 
 mod identities;

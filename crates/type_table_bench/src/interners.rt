@@ -16,8 +16,8 @@ const TEXT_LEN: usize = 45;
 /// How many elements of a large interner are looked up.
 const LOOKED_UP: usize = 200_000;
 
-/// Does so many rounds: each fills three interners of 1,000 elements, and in every second round one of
-/// 100,000, or of 1,000,000 in one of eight.
+/// Does so many rounds: each fills three interners of 1,000 elements, and in every second round one
+/// of 100,000, or of 1,000,000 in one of eight.
 pub fn run(alloc: Global, seed: u32, rounds: u32) -> Result<Digest> {
     let mut digest = Digest::new();
     let mut random = Random::new(seed, 9);

@@ -1,8 +1,8 @@
 //! The workloads of `bench/workloads.txt`.
 //!
-//! `NAME SEED ROUNDS` runs one of them, or each in turn where the name is `all`, and prints a digest
-//! of all results. A seed gives the inputs, which the program makes itself; no call is made twice on
-//! one input.
+//! `NAME SEED ROUNDS` runs one of them, or each in turn where the name is `all`, and prints a
+//! digest of all results. A seed gives the inputs, which the program makes itself; no call is made
+//! twice on one input.
 #![tactic(auto)]
 
 mod commands;

@@ -7,8 +7,8 @@ use scale_info::export::export;
 use scale_info::{MetaType, PortableRegistry, Registry, TryClone};
 use std::alloc::{AllocError, Global};
 
-/// Does so many rounds: each fills a catalogue, registers some of its types in another order, writes
-/// their table, and exports some of them.
+/// Does so many rounds: each fills a catalogue, registers some of its types in another order,
+/// writes their table, and exports some of them.
 pub fn run(alloc: Global, seed: u32, rounds: u32) -> Result<Digest> {
     let mut digest = Digest::new();
     let mut random = Random::new(seed, 9);

@@ -64,7 +64,8 @@ fn write_fields(table: &mut TableBytes, count: u32) -> Result<(), AllocError> {
     Ok(())
 }
 
-/// Decodes a table, asks it, copies it, and compares, numbers and prunes the copy. Both are written.
+/// Decodes a table, asks it, copies it, and compares, numbers and prunes the copy. Both are
+/// written.
 fn put_table(alloc: Global, bytes: &[u8], random: &mut Random, digest: &mut Digest) -> Result<()> {
     let (table, rest) = PortableRegistry::decode(alloc, bytes)?;
     digest.put(rest.len() as u64);

@@ -106,8 +106,8 @@ pub fn run_with<R: Read, W: Write, T: Reporter>(
 /// Runs the command that the arguments name, as [`run`], and returns the status and the message.
 ///
 /// The message is None at status 0, and else the one whose line [`run`] writes, which
-/// [`crate::report_message`] writes to a writer of the caller's. For example, without arguments it is
-/// `(2, Some(Message::Usage))`.
+/// [`crate::report_message`] writes to a writer of the caller's. For example, without arguments it
+/// is `(2, Some(Message::Usage))`.
 pub fn run_and_keep<R: Read, W: Write>(
     alloc: Global,
     arguments: &[Text],

@@ -1,6 +1,7 @@
 //! Which types descriptions leave out: `PhantomData<T>`, whatever `T` is.
 ghost use Rattle.std.specs.Prelude.{◌≡◌, ◌↔◌, IsTrue};
-ghost use Rattle.scale_info_identities.specs.TypeIds.{Term, term_of, terms_of, no_terms, more_terms};
+ghost use Rattle.scale_info_identities.specs.TypeIds.{Term, term_of, terms_of, no_terms};
+ghost use Rattle.scale_info_identities.specs.TypeIds.{more_terms};
 ghost use Rattle.scale_info_types.specs.MetaDescriptions.{type_term};
 ghost use Rattle.scale_info_types.specs.Phantoms.{is_phantom, phantom_term, unit_term};
 

@@ -1,6 +1,7 @@
 use Rattle.std.proofs.Common.{arith}
 use Rattle.scale_info_bytes.proofs.Steps.{no_next}
-use Rattle.scale_info_passes.proofs.Passes.{visited_item, visited_no_items, none_is}
+use Rattle.scale_info_passes.proofs.Passes.{visited_item, visited_no_items}
+use Rattle.scale_info_bytes.proofs.Options.{none_is}
 use Rattle.scale_info_passes.proofs.list.pass_items.Goals as goal
 
 pub loop-init : goal.loop-init

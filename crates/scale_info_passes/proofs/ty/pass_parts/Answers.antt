@@ -8,7 +8,8 @@ use Rattle.scale_info_bytes.proofs.Steps.{no_prefix_through}
 use Rattle.scale_info_codec.proofs.Definitions.{no_prefix_at, no_prefix_map, at_composite}
 use Rattle.scale_info_codec.proofs.Definitions.{at_variant, at_sequence, at_array, at_tuple}
 use Rattle.scale_info_codec.proofs.Definitions.{at_primitive, at_compact, at_bit_sequence, at_map}
-use Rattle.scale_info_passes.proofs.Passes.{visited_into, some_on, none_on, own_references}
+use Rattle.scale_info_passes.proofs.Passes.{visited_into, own_references}
+use Rattle.scale_info_bytes.proofs.Options.{some_on, none_on}
 use Rattle.scale_info_passes.proofs.Passes.{at_index}
 use Rattle.scale_info_passes.proofs.ty.pass_parts.Goals as goal
 

@@ -1,5 +1,5 @@
 use Rattle.std.proofs.Common.{arith}
-use Rattle.scale_info_transcode.proofs.Results.{none_is}
+use Rattle.scale_info_bytes.proofs.Options.{none_is}
 use Rattle.scale_info_transcode.proofs.Skips.{all_left, less_left, no_items_left, rest_of_items}
 use Rattle.scale_info_transcode.proofs.skip.skip_items.Goals as goal
 

@@ -1,6 +1,6 @@
 use Rattle.std.proofs.Common.{rules}
 use Rattle.scale_info_bytes.proofs.Steps.{no_prefix_through}
-use Rattle.scale_info_passes.proofs.Passes.{none_is}
+use Rattle.scale_info_bytes.proofs.Options.{none_is}
 use Rattle.scale_info_passes.proofs.interner.UntrackedSymbolTypeIdPass.pass.Goals as goal
 
 pub returns-in_err-id-clause-none : goal.returns-in_err-id-clause-none

@@ -1,5 +1,6 @@
 use Rattle.scale_info_bytes.proofs.Lists.{no_count, no_items_after}
-use Rattle.scale_info_passes.proofs.Passes.{visited_list, some_on, none_on, none_is}
+use Rattle.scale_info_passes.proofs.Passes.{visited_list}
+use Rattle.scale_info_bytes.proofs.Options.{some_on, none_on, none_is}
 use Rattle.scale_info_passes.proofs.list.ItemsPass.pass.Goals as goal
 
 pub returns-in_err-count-clause-none : goal.returns-in_err-count-clause-none

@@ -1,5 +1,6 @@
 use Rattle.std.proofs.Common.{refl}
-use Rattle.scale_info_passes.proofs.Passes.{visited_verbatim, none_is}
+use Rattle.scale_info_passes.proofs.Passes.{visited_verbatim}
+use Rattle.scale_info_bytes.proofs.Options.{none_is}
 use Rattle.scale_info_passes.proofs.number.U8Pass.pass.Goals as goal
 
 pub returns-in_err-rest-clause-none : goal.returns-in_err-rest-clause-none

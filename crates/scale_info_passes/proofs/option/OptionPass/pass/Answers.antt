@@ -1,6 +1,7 @@
 use Rattle.std.proofs.Common.{arith, [], ◌∷◌, None, refl}
 use Rattle.scale_info_bytes.proofs.Index.{begins, no_prefix_some}
-use Rattle.scale_info_passes.proofs.Passes.{visited_verbatim, visited_some, some_on, none_on}
+use Rattle.scale_info_passes.proofs.Passes.{visited_verbatim, visited_some}
+use Rattle.scale_info_bytes.proofs.Options.{some_on, none_on}
 use Rattle.scale_info_passes.proofs.option.OptionPass.pass.Goals as goal
 
 pub returns-in-0-clause-some : goal.returns-in-0-clause-some

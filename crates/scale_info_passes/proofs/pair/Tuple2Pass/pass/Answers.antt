@@ -1,5 +1,6 @@
 use Rattle.scale_info_bytes.proofs.Steps.{no_prefix_first, no_prefix_second}
-use Rattle.scale_info_passes.proofs.Passes.{visited_pair, some_on, none_on, none_is}
+use Rattle.scale_info_passes.proofs.Passes.{visited_pair}
+use Rattle.scale_info_bytes.proofs.Options.{some_on, none_on, none_is}
 use Rattle.scale_info_passes.proofs.pair.Tuple2Pass.pass.Goals as goal
 
 pub returns-in_err-rest-clause-none : goal.returns-in_err-rest-clause-none

@@ -3,7 +3,8 @@ use Rattle.std.proofs.lemmas.List.{append-nil}
 use Rattle.scale_info_codec.specs.Ty.{description_parts}
 use Rattle.scale_info_types.specs.References.{parameter_references}
 use Rattle.scale_info_bytes.proofs.Steps.{no_prefix_through}
-use Rattle.scale_info_passes.proofs.Passes.{visited_into, some_on, none_on, no_references}
+use Rattle.scale_info_passes.proofs.Passes.{visited_into, no_references}
+use Rattle.scale_info_bytes.proofs.Options.{some_on, none_on}
 use Rattle.scale_info_passes.proofs.ty.DescriptionPortableFormPass.pass.Goals as goal
 
 pub returns-clause-some : goal.returns-clause-some

@@ -1,6 +1,7 @@
 use Rattle.std.proofs.Common.{refl}
 use Rattle.scale_info_bytes.proofs.Steps.{no_prefix_through}
-use Rattle.scale_info_passes.proofs.Passes.{visited_into, some_on, none_on, no_references}
+use Rattle.scale_info_passes.proofs.Passes.{visited_into, no_references}
+use Rattle.scale_info_bytes.proofs.Options.{some_on, none_on}
 use Rattle.scale_info_passes.proofs.ty.PathPortableFormPass.pass.Goals as goal
 
 pub returns-clause-some : goal.returns-clause-some

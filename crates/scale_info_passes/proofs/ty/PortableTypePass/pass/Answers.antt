@@ -1,7 +1,8 @@
 use Rattle.std.proofs.Common.{refl}
 use Rattle.scale_info_codec.specs.Ty.{portable_type_parts}
 use Rattle.scale_info_bytes.proofs.Steps.{no_prefix_through}
-use Rattle.scale_info_passes.proofs.Passes.{visited_into, some_on, none_on}
+use Rattle.scale_info_passes.proofs.Passes.{visited_into}
+use Rattle.scale_info_bytes.proofs.Options.{some_on, none_on}
 use Rattle.scale_info_passes.proofs.ty.PortableTypePass.pass.Goals as goal
 
 pub returns-clause-some : goal.returns-clause-some

@@ -1,7 +1,8 @@
 use Rattle.std.proofs.Common.{arith, refl}
 use Rattle.scale_info_bytes.proofs.Index.{begins}
 use Rattle.scale_info_codec.proofs.Definitions.{no_prefix_definition}
-use Rattle.scale_info_passes.proofs.Passes.{visited_definition, some_on, none_on}
+use Rattle.scale_info_passes.proofs.Passes.{visited_definition}
+use Rattle.scale_info_bytes.proofs.Options.{some_on, none_on}
 use Rattle.scale_info_passes.proofs.ty.TypeDefPortableFormPass.pass.Goals as goal
 
 pub returns-in-len1-up-clause-some : goal.returns-in-len1-up-clause-some

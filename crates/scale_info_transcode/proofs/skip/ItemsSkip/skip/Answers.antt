@@ -1,5 +1,5 @@
 use Rattle.scale_info_bytes.proofs.Lists.{no_count, no_items_after}
-use Rattle.scale_info_transcode.proofs.Results.{some_on, none_on, none_is}
+use Rattle.scale_info_bytes.proofs.Options.{some_on, none_on, none_is}
 use Rattle.scale_info_transcode.proofs.Skips.{rest_of_list}
 use Rattle.scale_info_transcode.proofs.skip.ItemsSkip.skip.Goals as goal
 

@@ -1,6 +1,6 @@
 use Rattle.std.proofs.Common.{arith}
 use Rattle.scale_info_bytes.proofs.Index.{begins, no_prefix_some}
-use Rattle.scale_info_transcode.proofs.Results.{some_on, none_on}
+use Rattle.scale_info_bytes.proofs.Options.{some_on, none_on}
 use Rattle.scale_info_transcode.proofs.Skips.{rest_of_some}
 use Rattle.scale_info_transcode.proofs.skip.OptionSkip.skip.Goals as goal
 

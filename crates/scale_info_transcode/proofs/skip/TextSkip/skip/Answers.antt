@@ -1,5 +1,5 @@
 use Rattle.scale_info_bytes.proofs.StringAt.{no_text_count, no_text_short}
-use Rattle.scale_info_transcode.proofs.Results.{none_is}
+use Rattle.scale_info_bytes.proofs.Options.{none_is}
 use Rattle.scale_info_transcode.proofs.Skips.{rest_of_text}
 use Rattle.scale_info_transcode.proofs.skip.TextSkip.skip.Goals as goal
 

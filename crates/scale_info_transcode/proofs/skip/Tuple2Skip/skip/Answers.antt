@@ -1,5 +1,5 @@
 use Rattle.scale_info_bytes.proofs.Steps.{no_prefix_first}
-use Rattle.scale_info_transcode.proofs.Results.{some_on, none_on, none_is}
+use Rattle.scale_info_bytes.proofs.Options.{some_on, none_on, none_is}
 use Rattle.scale_info_transcode.proofs.Skips.{no_second_part, rest_of_pair}
 use Rattle.scale_info_transcode.proofs.skip.Tuple2Skip.skip.Goals as goal
 

@@ -1,5 +1,5 @@
 use Rattle.scale_info_bytes.proofs.Steps.{no_prefix_through}
-use Rattle.scale_info_transcode.proofs.Results.{none_is}
+use Rattle.scale_info_bytes.proofs.Options.{none_is}
 use Rattle.scale_info_transcode.proofs.skip.UntrackedSymbolTypeIdSkip.skip.Goals as goal
 
 pub returns-in_err-rest-clause-none : goal.returns-in_err-rest-clause-none
