@@ -1,7 +1,7 @@
 use Rattle.std.proofs.Common.{rules, length, ap, arith}
 use Rattle.std.proofs.lemmas.Grind.{common_steps}
 use Rattle.scale_info_tables.proofs.Interned.{length_numbered, numbered_push}
-use Rattle.scale_info_tables.proofs.portable.builder.numbered.Goals as goal
+use Rattle.scale_info_tables.proofs.portable.entries.copies_of.Goals as goal
 
 pub push_copy-requires : goal.push_copy-requires
 push_copy-requires c =

@@ -3,8 +3,8 @@ use Rattle.scale_info_numberings.specs.Tables.{IsTable}
 use Rattle.scale_info_discovery.specs.Discoveries.{nodes_of}
 use Rattle.scale_info_walk.specs.TypeSystems.{entry_of}
 use Rattle.scale_info_tables.proofs.Interned.{length_numbered}
-use Rattle.scale_info_tables.proofs.Registries.{numbered_entries}
-use Rattle.scale_info_tables.proofs.laws.registries.registered_tables.Goals as goal
+use Rattle.scale_info_export.proofs.NumberedEntries.{numbered_entries}
+use Rattle.scale_info_export.proofs.laws.registries.registered_tables.Goals as goal
 
 pub returns : goal.returns
 returns c = λ S R r table registration is long.

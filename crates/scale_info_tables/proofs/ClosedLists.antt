@@ -1,39 +1,17 @@
--- The entries that the table of a registry has.
+-- The entries that the table of a closed list of descriptions has.
 use Rattle.std.proofs.Common.{◌≡◌, ◌<◌, ℕ, zero, suc, ◌+◌, List, [], ◌∷◌, length, map, Some, slice_get, refl}
 use Rattle.std.proofs.Common.{ap, sym, ◌∙◌, subst, All, Contains}
 use Rattle.std.proofs.lemmas.List.Elements.{All-nil, All-cons}
 use Rattle.std.specs.List.{enumerate_from}
 use Rattle.scale_info_numberings.proofs.Places.{contains_head, contains_tail}
-use Rattle.scale_info_registry.specs.Registrations.{IsClosedRegistry, Registered, portable_entry}
+use Rattle.scale_info_references.specs.Closed.{AreClosed}
 use Rattle.scale_info_types.specs.Portable.{Description, Id}
 use Rattle.scale_info_types.specs.References.{references}
-use Rattle.scale_info_types.specs.declared.ty.PortableType.{PortableType}
-use Rattle.scale_info_walk.specs.TypeSystems.{entry_of}
 use Rattle.scale_info_tables.specs.BuiltTables.{numbered_from}
 use Rattle.scale_info_tables.specs.ClosedTables.{AreBelow, HasIndicesAsIds, HasReferencesBelow}
 use Rattle.scale_info_tables.specs.ClosedTables.{IsClosed}
 use Rattle.scale_info_tables.specs.declared.portable.PortableRegistry.{PortableRegistry}
 use Rattle.scale_info_tables.proofs.Interned.{length_numbered}
-
--- the entry of a description with this id
-abbrev pub with_id : ℕ × Description → PortableType
-with_id pair = record { id = pair.0; ty = pair.1 }
-
--- the entries of descriptions with ids that count up are numbered entries
-pub numbered_pairs :
-    (first : ℕ) (types : List Description)
-    → map with_id (enumerate_from first types) ≡ numbered_from first types
-numbered_pairs first [] = refl
-numbered_pairs first (ty ∷ types) =
-    ap (λ rest. record { id = first; ty = ty } ∷ rest) (numbered_pairs (first + 1) types)
-
--- as nodes of a system numbered entries are what the descriptions are
-pub numbered_entries :
-    (first : ℕ) (types : List Description)
-    → map entry_of (numbered_from first types) ≡ map portable_entry types
-numbered_entries first [] = refl
-numbered_entries first (ty ∷ types) =
-    ap (λ rest. portable_entry ty ∷ rest) (numbered_entries (first + 1) types)
 
 indexed_by_id :
     (first : ℕ) (types : List Description)
@@ -60,16 +38,15 @@ numbered_below count first (ty ∷ types) below =
     All-cons (λ entry. AreBelow count (references entry.ty)) _ _ (below zero ty refl)
     (numbered_below count (first + 1) types (λ i other at. below (suc i) other at))
 
--- the table of a closed registry is closed
+-- the table of a closed list of descriptions is closed
 pub closed_table :
-    (r : Registered) (table : PortableRegistry)
-    → table.types ≡ numbered_from 0 r.types → IsClosedRegistry r → IsClosed table
-closed_table r table is closed =
-    let count : length table.types ≡ length r.identities =
-    ap length is ∙ length_numbered 0 r.types ∙ closed.0 in (
-      subst HasIndicesAsIds (sym is) (indexed_by_id 0 r.types),
+    (count : ℕ) (types : List Description) (table : PortableRegistry)
+    → table.types ≡ numbered_from 0 types → AreClosed count types → IsClosed table
+closed_table count types table is closed =
+    let long : length table.types ≡ count = ap length is ∙ length_numbered 0 types ∙ closed.0 in (
+      subst HasIndicesAsIds (sym is) (indexed_by_id 0 types),
       subst (λ entries. HasReferencesBelow (length table.types) entries) (sym is)
-          (numbered_below (length table.types) 0 r.types
+          (numbered_below (length table.types) 0 types
           (λ i ty at. below_by_ids (length table.types) (references ty)
-          (λ p k. subst (λ n. p < n) (sym count) (closed.1 i ty at p k)))),
+          (λ p k. subst (λ n. p < n) (sym long) (closed.1 i ty at p k)))),
     )
