@@ -75,6 +75,7 @@ fn call_of_looks(rt: &HostRuntime, name: &str, input: &str) -> Option<Result<Out
     let outcome = match name {
         "register_known_type" => registrations::register_known_type(rt, input),
         "PortableRegistryBuilder::register_known_type" => builders::register_known_type(rt, input),
+        "truncate_numbers" => interners::truncate_numbers(rt, input),
         "look_at_builder" => builders::look(rt, input),
         "look_at_table" => looks::look(rt, input),
         "compare_tables" => looks::compare(rt, input),
