@@ -1,6 +1,7 @@
 //! The calls of this library, by their names.
 use crate::{
-    builders, bytes, conversions, interners, json, looks, prunings, registrations, values,
+    builders, bytes, conversions, interners, json, looks, passes, prunings, registrations, runs,
+    values,
 };
 use scale_info::meta_type::Catalogue;
 use std::test::Fail;
@@ -9,6 +10,23 @@ use type_refusals_common::types::catalogue;
 
 /// Makes the call of this name; None if there is none.
 pub fn call(rt: &HostRuntime, name: &str, input: &str) -> Option<Result<Outcome, Fail>> {
+    match name.strip_prefix("PortableRegistryBuilder::") {
+        Some(name) => Some(call_of_builders(rt, name, input)),
+        None => call_of_bytes(rt, name, input),
+    }
+}
+
+/// Makes the call of this name of a builder of tables.
+fn call_of_builders(rt: &HostRuntime, name: &str, input: &str) -> Result<Outcome, Fail> {
+    match name {
+        "finish" => builders::finish(rt, input),
+        "register_each" => builders::register_each(rt, input),
+        _ => builders::register_type(rt, name, input),
+    }
+}
+
+/// Makes the call of this name over bytes; None if there is none.
+fn call_of_bytes(rt: &HostRuntime, name: &str, input: &str) -> Option<Result<Outcome, Fail>> {
     let outcome = match name {
         "decode" => bytes::decode(rt, input),
         "encode" => bytes::encode(rt, input),
@@ -19,12 +37,16 @@ pub fn call(rt: &HostRuntime, name: &str, input: &str) -> Option<Result<Outcome,
         "append_json" => json::text_of(rt, input),
         "append_json_of" => json::text_of_bytes(rt, input),
         "decode_value" => values::decode(rt, input),
+        "decode_compact" => bytes::decode_compact(rt, input),
+        "pass" => passes::pass(rt, input),
+        "index_entries" => passes::index(rt, input),
+        "run" => runs::run(rt, input),
         _ => return call_of_walks(rt, name, input),
     };
     Some(outcome)
 }
 
-/// Makes the call of this name over references, or of a builder; None if there is none.
+/// Makes the call of this name over references; None if there is none.
 fn call_of_walks(rt: &HostRuntime, name: &str, input: &str) -> Option<Result<Outcome, Fail>> {
     let outcome = match name {
         "retain" => prunings::retain(rt, input),
@@ -34,12 +56,6 @@ fn call_of_walks(rt: &HostRuntime, name: &str, input: &str) -> Option<Result<Out
         "number_recursive" => prunings::number_table_recursively(rt, input),
         "Refs::of" => prunings::refs_of(rt, input),
         "Refs::prepend_of" => prunings::prepend(rt, input),
-        "PortableRegistryBuilder::register_type" => builders::register_type(rt, input),
-        "PortableRegistryBuilder::register_first_type" => builders::register_first_type(rt, input),
-        "PortableRegistryBuilder::register_seventeenth_type" => {
-            builders::register_seventeenth_type(rt, input)
-        }
-        "PortableRegistryBuilder::finish" => builders::finish(rt, input),
         _ => return call_of_registries(rt, name, input),
     };
     Some(outcome)
@@ -72,7 +88,6 @@ fn call_of_registries(rt: &HostRuntime, name: &str, input: &str) -> Option<Resul
 fn call_of_looks(rt: &HostRuntime, name: &str, input: &str) -> Option<Result<Outcome, Fail>> {
     let outcome = match name {
         "register_known_type" => registrations::register_known_type(rt, input),
-        "PortableRegistryBuilder::register_known_type" => builders::register_known_type(rt, input),
         "look_at_builder" => builders::look(rt, input),
         "look_at_table" => looks::look(rt, input),
         "compare_tables" => looks::compare(rt, input),

@@ -12,6 +12,7 @@ use type_refusals_common::outcomes::Outcome;
 use type_refusals_common::own::Missing;
 use type_refusals_common::types::{catalogue, documented_field, type_named, unnamed_field};
 use type_vectors_common::lists::{list_of, with};
+use type_vectors_common::rows::numbers;
 
 /// Registers a type.
 pub fn register_type(rt: &HostRuntime, name: &str) -> Result<Outcome, Fail> {
@@ -146,21 +147,43 @@ fn written(alloc: Global, exported: Exported) -> Result<Answer, AllocError> {
     done(format!(in alloc; "{ids:?} {map:?}"))
 }
 
-/// Writes what the second of three types reaches.
-pub fn export_types(rt: &HostRuntime, name: &str) -> Result<Outcome, Fail> {
+/// The types of these names, between which stand semicolons.
+fn types_named(alloc: Global, names: &str) -> Result<Vec<MetaType>, Fail> {
+    let mut all = Vec::new(alloc);
+    for name in names.split(';') {
+        if !name.is_empty() {
+            all.push(type_named(alloc, name.trim())?)?;
+        }
+    }
+    Ok(all)
+}
+
+/// Types and the ids of those that are chosen, after a colon; of one name alone three types, of
+/// which the second is chosen.
+fn chosen(alloc: Global, row: &str) -> Result<(Vec<u32>, Vec<MetaType>), Fail> {
+    match row.split_once(':') {
+        Some((names, ids)) => Ok((numbers(alloc, ids)?, types_named(alloc, names)?)),
+        None => Ok((numbers(alloc, "1")?, three(alloc, row)?)),
+    }
+}
+
+/// Writes what the chosen types reach. The filter answers by how often it was asked, so that it
+/// chooses these only where it is asked once for each id from 0 up.
+pub fn export_types(rt: &HostRuntime, row: &str) -> Result<Outcome, Fail> {
     let known = catalogue(rt.alloc())?;
-    let types = three(rt.alloc(), name)?;
+    let (ids, types) = chosen(rt.alloc(), row)?;
     let mut out = output(rt.alloc())?;
     let before = hex::encode(rt.alloc(), out.as_slice());
-    let mut asked = 0usize;
+    let mut asked = 0u32;
     begin(rt);
     let returned = export(
         rt.alloc(),
         &known,
         &types,
-        |id| {
+        |_| {
+            let id = asked;
             asked = asked.saturating_add(1);
-            id == 1
+            ids.contains(&id)
         },
         &mut out,
     );
@@ -170,5 +193,5 @@ pub fn export_types(rt: &HostRuntime, name: &str) -> Result<Outcome, Fail> {
         Ok(exported) => written(rt.alloc(), exported),
         Err(error) => failed(rt.alloc(), &error),
     };
-    Outcome::asking(Outcome::lending(before, after, answer), asked)
+    Outcome::asking(Outcome::lending(before, after, answer), asked as usize)
 }

@@ -6,11 +6,13 @@ use std::process::Abort;
 use std::test::Fail;
 use type_vectors_common::rows::{MIXED, row_bytes};
 
-/// Changes the byte at this index, if there is one.
-fn set(input: &mut [u8], index: usize, byte: u8) {
-    if index < input.len() {
-        input[index] = byte;
+/// The bytes with another byte at this index.
+fn changed(alloc: Global, table: &[u8], index: usize, byte: u8) -> Result<Vec<u8>, Fail> {
+    let mut copy = Vec::from_slice(alloc, table)?;
+    if index < copy.len() {
+        copy[index] = byte;
     }
+    Ok(copy)
 }
 
 /// Asserts that the program does with each change of the byte at an index what decoding does.
@@ -18,24 +20,23 @@ fn agrees_at(
     rt: &impl Abort,
     alloc: Global,
     words: &str,
-    input: &mut [u8],
+    table: &[u8],
     index: usize,
 ) -> Result<(), Fail> {
-    let old = input.get(index).copied().unwrap_or(0);
     for byte in 0..=255 {
-        set(input, index, byte);
-        let run = run_over(alloc, words, input)?;
-        is(rt, words, run, expected(alloc, words, input)?);
+        let input = changed(alloc, table, index, byte)?;
+        let run = run_over(alloc, words, &input)?;
+        is(rt, words, run, expected(alloc, words, &input)?);
     }
-    set(input, index, old);
     Ok(())
 }
 
-/// Asserts that the program does with each change of a byte what decoding does.
+/// Asserts so of each byte.
 fn agrees(rt: &impl Abort, alloc: Global, words: &str) -> Result<(), Fail> {
-    let mut input = row_bytes(alloc, MIXED)?;
-    for index in 0..input.len() {
-        agrees_at(rt, alloc, words, &mut input, index)?;
+    let table = row_bytes(alloc, MIXED)?;
+    is(rt, "bytes", table.len(), 312);
+    for index in 0..table.len() {
+        agrees_at(rt, alloc, words, &table, index)?;
     }
     Ok(())
 }
