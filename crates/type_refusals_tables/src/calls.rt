@@ -1,8 +1,5 @@
 //! The calls of this library, by their names.
-use crate::{
-    builders, bytes, conversions, interners, json, looks, passes, prunings, registrations, runs,
-    values,
-};
+use crate::{builders, bytes, conversions, interners, json, looks, prunings, registrations};
 use scale_info::meta_type::Catalogue;
 use std::test::Fail;
 use type_refusals_common::outcomes::Outcome;
@@ -36,11 +33,7 @@ fn call_of_bytes(rt: &HostRuntime, name: &str, input: &str) -> Option<Result<Out
         "from_json" => json::table_from(rt, input),
         "append_json" => json::text_of(rt, input),
         "append_json_of" => json::text_of_bytes(rt, input),
-        "decode_value" => values::decode(rt, input),
         "decode_compact" => bytes::decode_compact(rt, input),
-        "pass" => passes::pass(rt, input),
-        "index_entries" => passes::index(rt, input),
-        "run" => runs::run(rt, input),
         _ => return call_of_walks(rt, name, input),
     };
     Some(outcome)

@@ -1,5 +1,4 @@
-//! Calls over bytes, tables, registries and interners, and runs of the program `type_table`, each
-//! made once between marks.
+//! Calls over bytes, tables, registries and interners, each made once between marks.
 #![tactic(auto)]
 
 pub mod builders;
@@ -9,9 +8,6 @@ pub mod conversions;
 pub mod interners;
 pub mod json;
 pub mod looks;
-pub mod passes;
 pub mod prunings;
 pub mod registrations;
 pub mod registries;
-pub mod runs;
-pub mod values;

@@ -1,5 +1,4 @@
 //! The passes over bytes: a value is skipped, its references are gathered, and it is renumbered.
-use crate::bytes::with_rest;
 use scale_info::form::PortableForm;
 use scale_info::impls::Compact;
 use scale_info::{
@@ -15,6 +14,7 @@ use type_refusals_common::answers::{done, failed};
 use type_refusals_common::inputs::bytes_of;
 use type_refusals_common::marks::{begin, end};
 use type_refusals_common::outcomes::Outcome;
+use type_refusals_tables::bytes::with_rest;
 use type_vectors_common::rows::parted;
 
 /// The new numbers of the references 0, 1 and 2; a reference 3 stays.
