@@ -31,6 +31,23 @@ pub type TooLong = [u8; 4294967296];
 /// A box in a box, whose identity is that of the inner box.
 pub type Boxes = Box<Box<u8>>;
 
+/// A type, and arrays of it.
+type Arrays<T> = (
+    T,
+    [T; 1],
+    [T; 2],
+    [T; 3],
+    [T; 4],
+    [T; 5],
+    [T; 6],
+    [T; 7],
+    [T; 8],
+    [T; 9],
+);
+
+/// So many types that the cache of their numbers grows twice.
+pub type Many = (Arrays<u8>, Arrays<bool>, Arrays<u32>, Arrays<u64>);
+
 /// The type of this name. There is one of each kind of definition.
 pub fn type_named(alloc: Global, name: &str) -> Result<MetaType, Fail> {
     let ty = match name {
@@ -48,6 +65,7 @@ pub fn type_named(alloc: Global, name: &str) -> Result<MetaType, Fail> {
         "Box<u8>" => meta_type::<Box<u8>>(alloc),
         "bool" => meta_type::<bool>(alloc),
         "String" => meta_type::<String>(alloc),
+        "Many" => meta_type::<Many>(alloc),
         _ => return own_type_named(alloc, name),
     };
     Ok(ty?)
@@ -228,6 +246,31 @@ fn add_generic(catalogue: &mut Catalogue) -> Result<(), CatalogueError> {
     Ok(())
 }
 
+/// Adds arrays of a type, and their tuple.
+fn add_arrays<T: TypeInfo>(catalogue: &mut Catalogue) -> Result<(), CatalogueError> {
+    catalogue.add::<[T; 1]>()?;
+    catalogue.add::<[T; 2]>()?;
+    catalogue.add::<[T; 3]>()?;
+    catalogue.add::<[T; 4]>()?;
+    catalogue.add::<[T; 5]>()?;
+    catalogue.add::<[T; 6]>()?;
+    catalogue.add::<[T; 7]>()?;
+    catalogue.add::<[T; 8]>()?;
+    catalogue.add::<[T; 9]>()?;
+    catalogue.add::<Arrays<T>>()?;
+    Ok(())
+}
+
+/// Adds many types.
+fn add_many(catalogue: &mut Catalogue) -> Result<(), CatalogueError> {
+    add_arrays::<u8>(catalogue)?;
+    add_arrays::<bool>(catalogue)?;
+    add_arrays::<u32>(catalogue)?;
+    add_arrays::<u64>(catalogue)?;
+    catalogue.add::<Many>()?;
+    Ok(())
+}
+
 /// Adds the program's own types.
 fn add_own_types(alloc: Global, catalogue: &mut Catalogue) -> Result<(), CatalogueError> {
     add_own(catalogue, Recursive::type_id(alloc)?, recursive(alloc))?;
@@ -286,6 +329,7 @@ fn add_cycle(alloc: Global, catalogue: &mut Catalogue) -> Result<(), CatalogueEr
 fn add_all(alloc: Global, catalogue: &mut Catalogue) -> Result<(), CatalogueError> {
     add_plain(catalogue)?;
     add_generic(catalogue)?;
+    add_many(catalogue)?;
     add_own_types(alloc, catalogue)?;
     add_composites(alloc, catalogue)?;
     add_cycle(alloc, catalogue)

@@ -1,5 +1,7 @@
 //! The calls of this library, by their names.
-use crate::{builders, bytes, conversions, interners, json, looks, prunings, registrations};
+use crate::{
+    builders, bytes, conversions, discoveries, interners, json, looks, prunings, registrations,
+};
 use scale_info::meta_type::Catalogue;
 use std::test::Fail;
 use type_refusals_common::outcomes::Outcome;
@@ -60,6 +62,7 @@ fn call_of_registries(rt: &HostRuntime, name: &str, input: &str) -> Option<Resul
         "register_type" => registrations::register_type(rt, input),
         "register_types" => registrations::register_types(rt, input),
         "register_all" => registrations::register_all(rt, input),
+        "discover" => discoveries::discover_type(rt, input),
         "map_into_portable" => registrations::map_into_portable(rt, input),
         "from_registry" => registrations::from_registry(rt, input),
         "from_finished" => registrations::from_finished(rt, input),
@@ -81,6 +84,7 @@ fn call_of_registries(rt: &HostRuntime, name: &str, input: &str) -> Option<Resul
 fn call_of_looks(rt: &HostRuntime, name: &str, input: &str) -> Option<Result<Outcome, Fail>> {
     let outcome = match name {
         "register_known_type" => registrations::register_known_type(rt, input),
+        "truncate_numbers" => interners::truncate_numbers(rt, input),
         "look_at_builder" => builders::look(rt, input),
         "look_at_table" => looks::look(rt, input),
         "compare_tables" => looks::compare(rt, input),
