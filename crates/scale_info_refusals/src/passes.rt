@@ -37,11 +37,10 @@ fn visit<T: Pass>(alloc: Global, input: &[u8]) -> Result<Visit<'_>, AllocError> 
     }
 }
 
-/// How many of the proper prefixes of a value's bytes begin with a value, where so many bytes come
-/// after it.
-fn prefixes<T: Pass>(input: &[u8], rest: usize) -> usize {
+/// How many of the proper prefixes of an input begin with a value.
+fn prefixes<T: Pass>(input: &[u8]) -> usize {
     let mut count = 0usize;
-    for end in 0..input.len().saturating_sub(rest) {
+    for end in 0..input.len() {
         count = count.saturating_add(skip::<T>(&input[..end]).is_some() as usize);
     }
     count
@@ -63,16 +62,16 @@ fn shown(alloc: Global, rest: &[u8], ids: &[u32], renumbered: &[u8]) -> Result<S
     format!(in alloc; "references {ids}, renumbered {value}")
 }
 
-/// Has the passes visit a value, and the proper prefixes of its bytes.
+/// Has the passes visit a value, and the proper prefixes of the input.
 fn visited<T: Pass>(rt: &HostRuntime, input: &[u8]) -> Result<Outcome, Fail> {
     begin(rt);
     let returned = visit::<T>(rt.alloc(), input);
     end(rt);
     let answer = match returned {
         Ok(Some((rest, ids, renumbered))) => {
-            let count = prefixes::<T>(input, rest.len());
+            let (count, len) = (prefixes::<T>(input), input.len());
             let text = shown(rt.alloc(), rest, &ids, &renumbered)?;
-            done(format!(in rt.alloc(); "{text}, {count} prefixes"))
+            done(format!(in rt.alloc(); "{text}, {count} of {len} prefixes"))
         }
         Ok(None) => done(String::from_str(rt.alloc(), "no value")),
         Err(error) => failed(rt.alloc(), &error),
