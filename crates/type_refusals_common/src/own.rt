@@ -43,9 +43,3 @@ pub type D = Own<8>;
 pub type P = Own<9>;
 /// A composite of forty fields of `u32`.
 pub type Wide = Own<10>;
-/// A sequence of [`Second`].
-pub type First = Own<11>;
-/// A sequence of [`Third`].
-pub type Second = Own<12>;
-/// A sequence of [`First`].
-pub type Third = Own<13>;

@@ -1,12 +1,10 @@
 //! Types by their names, what they are described as, and a catalogue of them.
-use crate::own::{
-    A, B, Bits, C, D, First, Mapping, Missing, P, Recursive, Referring, Second, Third, Wide,
-};
+use crate::own::{A, B, Bits, C, D, Mapping, Missing, P, Recursive, Referring, Wide};
 use scale_info::impls::{Compact, meta_type};
 use scale_info::meta_type::{Catalogue, CatalogueError, HasIdentity, Identified};
 use scale_info::{
     Field, MetaType, Path, Type, TypeDef, TypeDefBitSequence, TypeDefComposite, TypeDefMap,
-    TypeDefSequence, TypeDefVariant, TypeInfo, TypeParameter, Variant,
+    TypeDefVariant, TypeInfo, TypeParameter, Variant,
 };
 use std::alloc::{AllocError, Global};
 use std::marker::PhantomData;
@@ -61,10 +59,6 @@ pub fn type_named(alloc: Global, name: &str) -> Result<MetaType, Fail> {
         "Compact<u32>" => meta_type::<Compact<u32>>(alloc),
         "Range<u8>" => meta_type::<Range<u8>>(alloc),
         "Box<Box<u8>>" => meta_type::<Boxes>(alloc),
-        "u8" => meta_type::<u8>(alloc),
-        "Box<u8>" => meta_type::<Box<u8>>(alloc),
-        "bool" => meta_type::<bool>(alloc),
-        "String" => meta_type::<String>(alloc),
         "Many" => meta_type::<Many>(alloc),
         _ => return own_type_named(alloc, name),
     };
@@ -82,9 +76,6 @@ fn own_type_named(alloc: Global, name: &str) -> Result<MetaType, Fail> {
         "A" => meta_type::<A>(alloc),
         "P" => meta_type::<P>(alloc),
         "Wide" => meta_type::<Wide>(alloc),
-        "First" => meta_type::<First>(alloc),
-        "Second" => meta_type::<Second>(alloc),
-        "Third" => meta_type::<Third>(alloc),
         _ => return Err(Fail::new("no type has this name")),
     };
     Ok(ty?)
@@ -300,39 +291,13 @@ fn add_composites(alloc: Global, catalogue: &mut Catalogue) -> Result<(), Catalo
     Ok(())
 }
 
-/// A sequence of this type.
-fn sequence_of<T: HasIdentity>(alloc: Global) -> Result<Type, AllocError> {
-    Ok(Type::from_def(alloc, TypeDefSequence::of::<T>(alloc)?.into()))
-}
-
-/// Adds three types, each a sequence of the next, and the last of the first.
-fn add_cycle(alloc: Global, catalogue: &mut Catalogue) -> Result<(), CatalogueError> {
-    add_own(
-        catalogue,
-        First::type_id(alloc)?,
-        sequence_of::<Second>(alloc),
-    )?;
-    add_own(
-        catalogue,
-        Second::type_id(alloc)?,
-        sequence_of::<Third>(alloc),
-    )?;
-    add_own(
-        catalogue,
-        Third::type_id(alloc)?,
-        sequence_of::<First>(alloc),
-    )?;
-    Ok(())
-}
-
 /// Adds all types here.
 fn add_all(alloc: Global, catalogue: &mut Catalogue) -> Result<(), CatalogueError> {
     add_plain(catalogue)?;
     add_generic(catalogue)?;
     add_many(catalogue)?;
     add_own_types(alloc, catalogue)?;
-    add_composites(alloc, catalogue)?;
-    add_cycle(alloc, catalogue)
+    add_composites(alloc, catalogue)
 }
 
 /// The catalogue of all types here.

@@ -1,6 +1,7 @@
 //! The calls of this library, by their names.
 use crate::{
-    builders, bytes, conversions, discoveries, interners, json, looks, prunings, registrations,
+    builders, bytes, conversions, discoveries, exports, interners, json, looks, prunings,
+    registrations,
 };
 use scale_info::meta_type::Catalogue;
 use std::test::Fail;
@@ -66,7 +67,7 @@ fn call_of_registries(rt: &HostRuntime, name: &str, input: &str) -> Option<Resul
         "map_into_portable" => registrations::map_into_portable(rt, input),
         "from_registry" => registrations::from_registry(rt, input),
         "from_finished" => registrations::from_finished(rt, input),
-        "export" => registrations::export_types(rt, input),
+        "export" => exports::export_types(rt, input),
         "intern_or_get_after" => interners::intern_or_get_after(rt, input),
         "into_portable" => conversions::part(rt, catalogue(rt.alloc()), input),
         "into_portable_undescribed" => {

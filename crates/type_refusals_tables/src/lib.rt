@@ -6,6 +6,7 @@ pub mod bytes;
 pub mod calls;
 pub mod conversions;
 pub mod discoveries;
+pub mod exports;
 pub mod interners;
 pub mod json;
 pub mod looks;

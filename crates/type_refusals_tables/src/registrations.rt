@@ -1,18 +1,15 @@
 //! Registrations of types of a program.
 use crate::registries::{described_registry_of, descriptions, listed, registry_of_u8, state};
-use scale_info::export::{Exported, export};
 use scale_info::meta_type::Catalogue;
 use scale_info::{Field, IntoPortable, Items, MetaType, PortableRegistry, Scale, tuple_meta_type};
 use std::alloc::{AllocError, Global};
 use std::test::Fail;
-use type_refusals_common::answers::{Answer, digits, done, encoded, failed};
-use type_refusals_common::inputs::output;
+use type_refusals_common::answers::{digits, done, encoded};
 use type_refusals_common::marks::{begin, end};
 use type_refusals_common::outcomes::Outcome;
 use type_refusals_common::own::Missing;
 use type_refusals_common::types::{catalogue, documented_field, type_named, unnamed_field};
 use type_vectors_common::lists::{list_of, with};
-use type_vectors_common::rows::numbers;
 
 /// Registers a type.
 pub fn register_type(rt: &HostRuntime, name: &str) -> Result<Outcome, Fail> {
@@ -41,7 +38,7 @@ pub fn register_known_type(rt: &HostRuntime, name: &str) -> Result<Outcome, Fail
 }
 
 /// `bool`, the type of this name, and `String`.
-fn three(alloc: Global, name: &str) -> Result<Vec<MetaType>, Fail> {
+pub fn three(alloc: Global, name: &str) -> Result<Vec<MetaType>, Fail> {
     let named = type_named(alloc, name)?;
     let two = with(tuple_meta_type!(alloc; bool), Ok(named));
     Ok(with(two, MetaType::new::<String>(alloc))?)
@@ -139,59 +136,4 @@ pub fn into_types(rt: &HostRuntime, name: &str) -> Result<Outcome, Fail> {
     let types = Items::from(registry.into_types());
     end(rt);
     Outcome::of(done(digits(rt.alloc(), &types)))
-}
-
-/// The ids and the map of what was written.
-fn written(alloc: Global, exported: Exported) -> Result<Answer, AllocError> {
-    let (ids, map) = (exported.ids, exported.map);
-    done(format!(in alloc; "{ids:?} {map:?}"))
-}
-
-/// The types of these names, between which stand semicolons.
-fn types_named(alloc: Global, names: &str) -> Result<Vec<MetaType>, Fail> {
-    let mut all = Vec::new(alloc);
-    for name in names.split(';') {
-        if !name.is_empty() {
-            all.push(type_named(alloc, name.trim())?)?;
-        }
-    }
-    Ok(all)
-}
-
-/// Types and the ids of those that are chosen, after a colon; of one name alone three types, of
-/// which the second is chosen.
-fn chosen(alloc: Global, row: &str) -> Result<(Vec<u32>, Vec<MetaType>), Fail> {
-    match row.split_once(':') {
-        Some((names, ids)) => Ok((numbers(alloc, ids)?, types_named(alloc, names)?)),
-        None => Ok((numbers(alloc, "1")?, three(alloc, row)?)),
-    }
-}
-
-/// Writes what the chosen types reach. The filter answers by how often it was asked, so that it
-/// chooses these only where it is asked once for each id from 0 up.
-pub fn export_types(rt: &HostRuntime, row: &str) -> Result<Outcome, Fail> {
-    let known = catalogue(rt.alloc())?;
-    let (ids, types) = chosen(rt.alloc(), row)?;
-    let mut out = output(rt.alloc())?;
-    let before = hex::encode(rt.alloc(), out.as_slice());
-    let mut asked = 0u32;
-    begin(rt);
-    let returned = export(
-        rt.alloc(),
-        &known,
-        &types,
-        |_| {
-            let id = asked;
-            asked = asked.saturating_add(1);
-            ids.contains(&id)
-        },
-        &mut out,
-    );
-    end(rt);
-    let after = hex::encode(rt.alloc(), out.as_slice());
-    let answer = match returned {
-        Ok(exported) => written(rt.alloc(), exported),
-        Err(error) => failed(rt.alloc(), &error),
-    };
-    Outcome::asking(Outcome::lending(before, after, answer), asked as usize)
 }
