@@ -33,13 +33,13 @@ fn outcome(rt: &HostRuntime, name: &str, input: &str) -> Result<Outcome, Fail> {
     if let Some(outcome) = calls_of_parts::call(rt, name, input) {
         return outcome;
     }
-    if let Some(outcome) = outcome_here(rt, name, input) {
-        return outcome;
-    }
     if let Some(outcome) = calls_of_builders::call(rt, name, input) {
         return outcome;
     }
-    Err(Fail::new("no call has this name"))
+    match outcome_here(rt, name, input) {
+        Some(outcome) => outcome,
+        None => Err(Fail::new("no call has this name")),
+    }
 }
 
 /// Makes the call of each line of the standard input, and prints what it did.
