@@ -3,11 +3,27 @@
 //! Each line of the standard input is a call and its input.
 #![tactic(auto)]
 
+mod passes;
+mod runs;
+mod values;
+
 use std::test::Fail;
 use type_refusals_build::calls as calls_of_builders;
 use type_refusals_common::outcomes::{Outcome, print};
 use type_refusals_parts::calls as calls_of_parts;
 use type_refusals_tables::calls as calls_of_tables;
+
+/// Makes the call of this name over values and their bytes, or runs the program `type_table`; None
+/// if there is none.
+fn outcome_here(rt: &HostRuntime, name: &str, input: &str) -> Option<Result<Outcome, Fail>> {
+    match name {
+        "decode_value" => Some(values::decode(rt, input)),
+        "pass" => Some(passes::pass(rt, input)),
+        "index_entries" => Some(passes::index(rt, input)),
+        "run" => Some(runs::run(rt, input)),
+        _ => None,
+    }
+}
 
 /// Makes the call of a line.
 fn outcome(rt: &HostRuntime, name: &str, input: &str) -> Result<Outcome, Fail> {
@@ -20,7 +36,10 @@ fn outcome(rt: &HostRuntime, name: &str, input: &str) -> Result<Outcome, Fail> {
     if let Some(outcome) = calls_of_builders::call(rt, name, input) {
         return outcome;
     }
-    Err(Fail::new("no call has this name"))
+    match outcome_here(rt, name, input) {
+        Some(outcome) => outcome,
+        None => Err(Fail::new("no call has this name")),
+    }
 }
 
 /// Makes the call of each line of the standard input, and prints what it did.

@@ -2,6 +2,8 @@
 use scale_info::PortableRegistry;
 use std::alloc::Global;
 use std::test::Fail;
+use type_vectors_common::chains::chain_to_bool;
+use type_vectors_common::encodings::into_encoding;
 use type_vectors_common::rows::{
     AMONG, BUILT, COMPOSITES, MALFORMED, MIXED, TABLES, row_bytes, row_named,
 };
@@ -24,8 +26,15 @@ pub fn is_malformed(name: &str) -> bool {
     has_row(MALFORMED, name)
 }
 
-/// The bytes of the row of this name; "each kind" is a table of each kind of definition.
-pub fn bytes_of(alloc: Global, name: &str) -> Result<Vec<u8>, Fail> {
+/// The bytes of a chain of so many types, of which the last is `bool`.
+fn chain_bytes(alloc: Global, count: &str) -> Result<Vec<u8>, Fail> {
+    let count: u32 = count.parse()?;
+    into_encoding(alloc, chain_to_bool(alloc, count)?)
+}
+
+/// The bytes of the row of this name; "each kind" is a table of each kind of definition, and
+/// "chain of 3" one of two sequences and `bool`. Other names are the digits of the bytes.
+fn named_bytes(alloc: Global, name: &str) -> Result<Vec<u8>, Fail> {
     if name == "each kind" {
         return row_bytes(alloc, MIXED);
     }
@@ -34,7 +43,19 @@ pub fn bytes_of(alloc: Global, name: &str) -> Result<Vec<u8>, Fail> {
             return Ok(row_named(alloc, text, name)?.bytes);
         }
     }
-    Err(Fail::new("no row has this name"))
+    match name.strip_prefix("chain of ") {
+        Some(count) => chain_bytes(alloc, count),
+        None => row_bytes(alloc, name),
+    }
+}
+
+/// The bytes of this name, and after a `+` more bytes in hexadecimal.
+pub fn bytes_of(alloc: Global, input: &str) -> Result<Vec<u8>, Fail> {
+    let (name, more) = input.split_once('+').unwrap_or((input, ""));
+    let more = row_bytes(alloc, more)?;
+    let mut bytes = named_bytes(alloc, name.trim())?;
+    bytes.extend_from_slice(&more)?;
+    Ok(bytes)
 }
 
 /// The table of this name.

@@ -1,13 +1,15 @@
 //! Tables that are built at run time.
 use scale_info::form::PortableForm;
-use scale_info::{PortableRegistry, PortableRegistryBuilder, Type};
+use scale_info::interner::InternError;
+use scale_info::{PortableRegistry, PortableRegistryBuilder, Scale, Type};
 use std::alloc::{AllocError, Global};
 use std::test::Fail;
-use type_refusals_common::answers::{digits, done, encoded, shown};
+use type_refusals_common::answers::{digits, done, encoded, failed, shown};
 use type_refusals_common::inputs::table_of;
 use type_refusals_common::marks::{begin, end};
 use type_refusals_common::outcomes::Outcome;
 use type_vectors_common::parts::sequence;
+use type_vectors_common::rows::row_bytes;
 
 /// The builder of a table's descriptions.
 fn built(alloc: Global, table: PortableRegistry) -> Result<PortableRegistryBuilder, Fail> {
@@ -62,28 +64,17 @@ fn register(
     Outcome::lending(before, after, shown(rt.alloc(), returned))
 }
 
-/// Registers the last description of a table after fifteen others, behind which there is room.
-pub fn register_type(rt: &HostRuntime, row: &str) -> Result<Outcome, Fail> {
-    let builder = sequences(rt.alloc(), 1015)?;
-    register(rt, builder, last_of(rt.alloc(), row)?)
-}
-
-/// Registers the last description of a table after sixteen others, which leave no room for one
-/// more, and none for its index.
-pub fn register_seventeenth_type(rt: &HostRuntime, row: &str) -> Result<Outcome, Fail> {
-    let builder = sequences(rt.alloc(), 1016)?;
-    register(rt, builder, last_of(rt.alloc(), row)?)
-}
-
-/// Registers the last description of a table as the first one.
-pub fn register_first_type(rt: &HostRuntime, row: &str) -> Result<Outcome, Fail> {
-    let builder = PortableRegistryBuilder::new(rt.alloc());
-    register(rt, builder, last_of(rt.alloc(), row)?)
-}
-
-/// Registers the last description of a table, which the builder has.
-pub fn register_known_type(rt: &HostRuntime, row: &str) -> Result<Outcome, Fail> {
-    let builder = built(rt.alloc(), table_of(rt.alloc(), row)?)?;
+/// Registers the last description of a table as a call of this name does: after fifteen others,
+/// behind which there is room; after sixteen others, which leave no room for one more, and none
+/// for its index; as the first one; or where the builder has it.
+pub fn register_type(rt: &HostRuntime, call: &str, row: &str) -> Result<Outcome, Fail> {
+    let builder = match call {
+        "register_type" => sequences(rt.alloc(), 1015)?,
+        "register_seventeenth_type" => sequences(rt.alloc(), 1016)?,
+        "register_first_type" => PortableRegistryBuilder::new(rt.alloc()),
+        "register_known_type" => built(rt.alloc(), table_of(rt.alloc(), row)?)?,
+        _ => return Err(Fail::new("no call of a builder has this name")),
+    };
     register(rt, builder, last_of(rt.alloc(), row)?)
 }
 
@@ -103,4 +94,48 @@ pub fn finish(rt: &HostRuntime, row: &str) -> Result<Outcome, Fail> {
     let returned = builder.finish(rt.alloc());
     end(rt);
     Outcome::of(encoded(rt.alloc(), returned))
+}
+
+/// The descriptions with these encodings, between which stand semicolons; each may have a name
+/// before a colon.
+fn described(alloc: Global, row: &str) -> Result<Vec<Type<PortableForm>>, Fail> {
+    let mut all = Vec::new(alloc);
+    for part in row.split(';') {
+        let (_, digits) = part.split_once(':').unwrap_or(("", part));
+        let bytes = row_bytes(alloc, digits)?;
+        let (ty, _) = Type::<PortableForm>::decode_from(alloc, &bytes)?;
+        all.push(ty)?;
+    }
+    Ok(all)
+}
+
+/// The ids of descriptions that are registered in this order, each with the next id after it, and
+/// the table of them.
+fn registered(
+    alloc: Global,
+    types: Vec<Type<PortableForm>>,
+) -> Result<(Vec<(u32, u32)>, PortableRegistry), InternError> {
+    let mut builder = PortableRegistryBuilder::new(alloc);
+    let mut ids = Vec::new(alloc);
+    for ty in types {
+        let id = builder.register_type(ty)?;
+        ids.push((id, builder.next_type_id()))?;
+    }
+    Ok((ids, builder.finish(alloc)?))
+}
+
+/// Registers descriptions, and makes the table of them.
+pub fn register_each(rt: &HostRuntime, row: &str) -> Result<Outcome, Fail> {
+    let types = described(rt.alloc(), row)?;
+    begin(rt);
+    let returned = registered(rt.alloc(), types);
+    end(rt);
+    let answer = match returned {
+        Ok((ids, table)) => {
+            let table = digits(rt.alloc(), &table)?;
+            done(format!(in rt.alloc(); "{ids:?} {table}"))
+        }
+        Err(error) => failed(rt.alloc(), &error),
+    };
+    Outcome::of(answer)
 }

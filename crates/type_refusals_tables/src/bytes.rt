@@ -1,10 +1,34 @@
 //! Tables as bytes, and their copies.
-use scale_info::{PortableRegistry, TryClone};
+use scale_info::impls::Compact;
+use scale_info::{DecodeError, PortableRegistry, Scale, TryClone};
+use std::alloc::{AllocError, Global};
 use std::test::Fail;
-use type_refusals_common::answers::{encoded, shown};
+use type_refusals_common::answers::{Answer, digits, done, encoded, failed, shown};
 use type_refusals_common::inputs::{bytes_of, output, table_of};
 use type_refusals_common::marks::{begin, end};
 use type_refusals_common::outcomes::Outcome;
+
+/// Digits, and after a `+` those of the bytes that are left.
+pub fn with_rest(digits: Result<String, AllocError>, rest: &[u8]) -> Result<String, AllocError> {
+    let mut text = digits?;
+    if !rest.is_empty() {
+        let rest = hex::encode(*text.allocator(), rest)?;
+        text.push_str(" + ")?;
+        text.push_str(rest.as_str())?;
+    }
+    Ok(text)
+}
+
+/// The answer of a table that was decoded, and of what is left.
+fn decoded(
+    alloc: Global,
+    returned: Result<(PortableRegistry, &[u8]), DecodeError>,
+) -> Result<Answer, AllocError> {
+    match returned {
+        Ok((table, rest)) => done(with_rest(digits(alloc, &table), rest)),
+        Err(error) => failed(alloc, &error),
+    }
+}
 
 /// Decodes a table.
 pub fn decode(rt: &HostRuntime, row: &str) -> Result<Outcome, Fail> {
@@ -12,11 +36,18 @@ pub fn decode(rt: &HostRuntime, row: &str) -> Result<Outcome, Fail> {
     begin(rt);
     let returned = PortableRegistry::decode(rt.alloc(), &bytes);
     end(rt);
-    let table = match returned {
-        Ok((table, _)) => Ok(table),
-        Err(error) => Err(error),
-    };
-    Outcome::of(encoded(rt.alloc(), table))
+    Outcome::of(decoded(rt.alloc(), returned))
+}
+
+/// Decodes a compact number, and encodes it again.
+pub fn decode_compact(rt: &HostRuntime, row: &str) -> Result<Outcome, Fail> {
+    let bytes = bytes_of(rt.alloc(), row)?;
+    begin(rt);
+    let returned = Compact::<u32>::decode_from(rt.alloc(), &bytes);
+    end(rt);
+    let (number, rest) = returned?;
+    let digits = with_rest(digits(rt.alloc(), &number), rest)?;
+    Outcome::of(done(format!(in rt.alloc(); "{} {digits}", number.0)))
 }
 
 /// Encodes a table.

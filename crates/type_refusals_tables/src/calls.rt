@@ -1,7 +1,7 @@
 //! The calls of this library, by their names.
 use crate::{
-    builders, bytes, conversions, discoveries, interners, json, looks, prunings, registrations,
-    values,
+    builders, bytes, conversions, discoveries, exports, interners, json, looks, prunings,
+    registrations,
 };
 use scale_info::meta_type::Catalogue;
 use std::test::Fail;
@@ -10,6 +10,23 @@ use type_refusals_common::types::catalogue;
 
 /// Makes the call of this name; None if there is none.
 pub fn call(rt: &HostRuntime, name: &str, input: &str) -> Option<Result<Outcome, Fail>> {
+    match name.strip_prefix("PortableRegistryBuilder::") {
+        Some(name) => Some(call_of_builders(rt, name, input)),
+        None => call_of_bytes(rt, name, input),
+    }
+}
+
+/// Makes the call of this name of a builder of tables.
+fn call_of_builders(rt: &HostRuntime, name: &str, input: &str) -> Result<Outcome, Fail> {
+    match name {
+        "finish" => builders::finish(rt, input),
+        "register_each" => builders::register_each(rt, input),
+        _ => builders::register_type(rt, name, input),
+    }
+}
+
+/// Makes the call of this name over bytes; None if there is none.
+fn call_of_bytes(rt: &HostRuntime, name: &str, input: &str) -> Option<Result<Outcome, Fail>> {
     let outcome = match name {
         "decode" => bytes::decode(rt, input),
         "encode" => bytes::encode(rt, input),
@@ -19,13 +36,13 @@ pub fn call(rt: &HostRuntime, name: &str, input: &str) -> Option<Result<Outcome,
         "from_json" => json::table_from(rt, input),
         "append_json" => json::text_of(rt, input),
         "append_json_of" => json::text_of_bytes(rt, input),
-        "decode_value" => values::decode(rt, input),
+        "decode_compact" => bytes::decode_compact(rt, input),
         _ => return call_of_walks(rt, name, input),
     };
     Some(outcome)
 }
 
-/// Makes the call of this name over references, or of a builder; None if there is none.
+/// Makes the call of this name over references; None if there is none.
 fn call_of_walks(rt: &HostRuntime, name: &str, input: &str) -> Option<Result<Outcome, Fail>> {
     let outcome = match name {
         "retain" => prunings::retain(rt, input),
@@ -35,12 +52,6 @@ fn call_of_walks(rt: &HostRuntime, name: &str, input: &str) -> Option<Result<Out
         "number_recursive" => prunings::number_table_recursively(rt, input),
         "Refs::of" => prunings::refs_of(rt, input),
         "Refs::prepend_of" => prunings::prepend(rt, input),
-        "PortableRegistryBuilder::register_type" => builders::register_type(rt, input),
-        "PortableRegistryBuilder::register_first_type" => builders::register_first_type(rt, input),
-        "PortableRegistryBuilder::register_seventeenth_type" => {
-            builders::register_seventeenth_type(rt, input)
-        }
-        "PortableRegistryBuilder::finish" => builders::finish(rt, input),
         _ => return call_of_registries(rt, name, input),
     };
     Some(outcome)
@@ -56,7 +67,7 @@ fn call_of_registries(rt: &HostRuntime, name: &str, input: &str) -> Option<Resul
         "map_into_portable" => registrations::map_into_portable(rt, input),
         "from_registry" => registrations::from_registry(rt, input),
         "from_finished" => registrations::from_finished(rt, input),
-        "export" => registrations::export_types(rt, input),
+        "export" => exports::export_types(rt, input),
         "intern_or_get_after" => interners::intern_or_get_after(rt, input),
         "into_portable" => conversions::part(rt, catalogue(rt.alloc()), input),
         "into_portable_undescribed" => {
@@ -74,7 +85,6 @@ fn call_of_registries(rt: &HostRuntime, name: &str, input: &str) -> Option<Resul
 fn call_of_looks(rt: &HostRuntime, name: &str, input: &str) -> Option<Result<Outcome, Fail>> {
     let outcome = match name {
         "register_known_type" => registrations::register_known_type(rt, input),
-        "PortableRegistryBuilder::register_known_type" => builders::register_known_type(rt, input),
         "truncate_numbers" => interners::truncate_numbers(rt, input),
         "look_at_builder" => builders::look(rt, input),
         "look_at_table" => looks::look(rt, input),

@@ -39,10 +39,20 @@ pub fn table_from(rt: &HostRuntime, row: &str) -> Result<Outcome, Fail> {
     Outcome::of(encoded(rt.alloc(), returned))
 }
 
-/// The answer of written bytes, or of an error.
+/// A text that was appended to the byte `aa`, with the byte before it in hexadecimal.
+fn appended(alloc: Global, bytes: &[u8]) -> Result<String, Fail> {
+    let Some((first, text)) = bytes.split_first() else {
+        return Err(Fail::new("the byte before the text is gone"));
+    };
+    let text = str::from_utf8(text)?;
+    let first = hex::encode(alloc, &[*first])?;
+    Ok(format!(in alloc; "{first} {text}")?)
+}
+
+/// The answer of a text that was appended, or of an error.
 fn written<E: Debug + Drop>(alloc: Global, returned: Result<Vec<u8>, E>) -> Result<Outcome, Fail> {
     let answer = match returned {
-        Ok(bytes) => done(hex::encode(alloc, bytes.as_slice())),
+        Ok(bytes) => done(Ok(appended(alloc, &bytes)?)),
         Err(error) => failed(alloc, &error),
     };
     Outcome::of(answer)

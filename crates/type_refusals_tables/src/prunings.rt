@@ -17,9 +17,13 @@ no such type: 0 7 9; Vec<u32>
 a dangling id: 1; reference outside the table
 ";
 
-/// The name of bytes, and the ids that they are pruned to: those of the row of this name, or 0 for
-/// bytes that begin with no table, or else every second index of the table of this name.
+/// The name of bytes, and the ids that they are pruned to: those before a colon, those of the row
+/// of this name, or 0 for bytes that begin with no table, or else every second index of the table
+/// of this name.
 fn given<'a>(alloc: Global, row: &'a str) -> Result<(&'a str, Vec<u32>), Fail> {
+    if let Some((ids, name)) = row.split_once(':') {
+        return Ok((name.trim(), numbers(alloc, ids)?));
+    }
     if is_malformed(row) {
         return Ok((row, numbers(alloc, "0")?));
     }
@@ -44,23 +48,26 @@ fn chosen(alloc: Global, table: &PortableRegistry) -> Result<Vec<u32>, Fail> {
     Ok(ids)
 }
 
-/// Keeps what every second entry reaches.
+/// Keeps what the given ids reach. The filter answers by how often it was asked, so that it chooses
+/// these ids only where it is asked once for each id from 0 up.
 pub fn retain(rt: &HostRuntime, row: &str) -> Result<Outcome, Fail> {
-    let mut table = table_of(rt.alloc(), row)?;
+    let (name, ids) = given(rt.alloc(), row)?;
+    let mut table = table_of(rt.alloc(), name)?;
     let before = digits(rt.alloc(), &table);
-    let mut asked = 0usize;
+    let mut asked = 0u32;
     begin(rt);
-    let returned = table.retain(rt.alloc(), |id| {
+    let returned = table.retain(rt.alloc(), |_| {
+        let id = asked;
         asked = asked.saturating_add(1);
-        id % 2 == 0
+        ids.contains(&id)
     });
     end(rt);
     let after = digits(rt.alloc(), &table);
     let outcome = Outcome::lending(before, after, shown(rt.alloc(), returned));
-    Outcome::asking(outcome, asked)
+    Outcome::asking(outcome, asked as usize)
 }
 
-/// Appends the table of what every second entry reaches, with the new ids.
+/// Appends the table of what the given ids reach, with the new ids.
 pub fn prune_bytes(rt: &HostRuntime, row: &str) -> Result<Outcome, Fail> {
     let (name, ids) = given(rt.alloc(), row)?;
     let bytes = bytes_of(rt.alloc(), name)?;
@@ -73,7 +80,7 @@ pub fn prune_bytes(rt: &HostRuntime, row: &str) -> Result<Outcome, Fail> {
     Outcome::lending(before, after, shown(rt.alloc(), returned))
 }
 
-/// Appends the table of what every second entry reaches.
+/// Appends the table of what the given ids reach.
 pub fn append_pruned_bytes(rt: &HostRuntime, row: &str) -> Result<Outcome, Fail> {
     let (name, ids) = given(rt.alloc(), row)?;
     let bytes = bytes_of(rt.alloc(), name)?;
@@ -98,20 +105,20 @@ fn walked(alloc: Global, returned: Result<Numbering, RetainError>) -> Result<Out
     Outcome::of(answer)
 }
 
-/// Numbers what every second entry reaches.
+/// Numbers what the given ids reach.
 pub fn number_table(rt: &HostRuntime, row: &str) -> Result<Outcome, Fail> {
-    let table = table_of(rt.alloc(), row)?;
-    let ids = chosen(rt.alloc(), &table)?;
+    let (name, ids) = given(rt.alloc(), row)?;
+    let table = table_of(rt.alloc(), name)?;
     begin(rt);
     let returned = number(rt.alloc(), table.types(), &ids);
     end(rt);
     walked(rt.alloc(), returned)
 }
 
-/// Numbers what every second entry reaches, by a recursion.
+/// Numbers what the given ids reach, by a recursion.
 pub fn number_table_recursively(rt: &HostRuntime, row: &str) -> Result<Outcome, Fail> {
-    let table = table_of(rt.alloc(), row)?;
-    let ids = chosen(rt.alloc(), &table)?;
+    let (name, ids) = given(rt.alloc(), row)?;
+    let table = table_of(rt.alloc(), name)?;
     begin(rt);
     let returned = number_recursive(rt.alloc(), table.types(), &ids);
     end(rt);

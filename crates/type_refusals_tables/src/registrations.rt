@@ -1,12 +1,10 @@
 //! Registrations of types of a program.
 use crate::registries::{described_registry_of, descriptions, listed, registry_of_u8, state};
-use scale_info::export::{Exported, export};
 use scale_info::meta_type::Catalogue;
 use scale_info::{Field, IntoPortable, Items, MetaType, PortableRegistry, Scale, tuple_meta_type};
 use std::alloc::{AllocError, Global};
 use std::test::Fail;
-use type_refusals_common::answers::{Answer, digits, done, encoded, failed};
-use type_refusals_common::inputs::output;
+use type_refusals_common::answers::{digits, done, encoded};
 use type_refusals_common::marks::{begin, end};
 use type_refusals_common::outcomes::Outcome;
 use type_refusals_common::own::Missing;
@@ -40,7 +38,7 @@ pub fn register_known_type(rt: &HostRuntime, name: &str) -> Result<Outcome, Fail
 }
 
 /// `bool`, the type of this name, and `String`.
-fn three(alloc: Global, name: &str) -> Result<Vec<MetaType>, Fail> {
+pub fn three(alloc: Global, name: &str) -> Result<Vec<MetaType>, Fail> {
     let named = type_named(alloc, name)?;
     let two = with(tuple_meta_type!(alloc; bool), Ok(named));
     Ok(with(two, MetaType::new::<String>(alloc))?)
@@ -138,37 +136,4 @@ pub fn into_types(rt: &HostRuntime, name: &str) -> Result<Outcome, Fail> {
     let types = Items::from(registry.into_types());
     end(rt);
     Outcome::of(done(digits(rt.alloc(), &types)))
-}
-
-/// The ids and the map of what was written.
-fn written(alloc: Global, exported: Exported) -> Result<Answer, AllocError> {
-    let (ids, map) = (exported.ids, exported.map);
-    done(format!(in alloc; "{ids:?} {map:?}"))
-}
-
-/// Writes what the second of three types reaches.
-pub fn export_types(rt: &HostRuntime, name: &str) -> Result<Outcome, Fail> {
-    let known = catalogue(rt.alloc())?;
-    let types = three(rt.alloc(), name)?;
-    let mut out = output(rt.alloc())?;
-    let before = hex::encode(rt.alloc(), out.as_slice());
-    let mut asked = 0usize;
-    begin(rt);
-    let returned = export(
-        rt.alloc(),
-        &known,
-        &types,
-        |id| {
-            asked = asked.saturating_add(1);
-            id == 1
-        },
-        &mut out,
-    );
-    end(rt);
-    let after = hex::encode(rt.alloc(), out.as_slice());
-    let answer = match returned {
-        Ok(exported) => written(rt.alloc(), exported),
-        Err(error) => failed(rt.alloc(), &error),
-    };
-    Outcome::asking(Outcome::lending(before, after, answer), asked)
 }

@@ -1,8 +1,7 @@
 //! Programs of `docs/CALLING.md` that write and read tables, and that convert their values.
 use crate::asserts::{holds, is};
-use crate::exports::catalogue;
 use scale_info::impls::meta_type;
-use scale_info::meta_type::{Catalogue, HasIdentity};
+use scale_info::meta_type::{Catalogue, CatalogueError, HasIdentity};
 use scale_info::{PortableRegistry, Registry, tuple_meta_type};
 use scale_info_callers::build::write_point;
 use scale_info_callers::inspect::inspect;
@@ -14,6 +13,12 @@ use std::test::Fail;
 use type_vectors_common::encodings::encoding;
 use type_vectors_common::lists::{list_of, with};
 use type_vectors_common::rows::{TABLES, row_named};
+
+/// Adds `u32` and `Vec<u32>`.
+fn add_list(known: &mut Catalogue) -> Result<bool, CatalogueError> {
+    known.add::<u32>()?;
+    known.add::<Vec<u32>>()
+}
 
 #[test]
 fn the_written_table_is_printed(rt: HostRuntime) -> Result<(), Fail> {
@@ -76,7 +81,8 @@ fn call<T: HasIdentity>(alloc: Global, name: &'static str) -> Result<Call, Alloc
 
 /// A call with a list of numbers and a call with a number, as they leave.
 fn portable_calls(alloc: Global, registry: &mut Registry) -> Result<Vec<PortableCall>, Fail> {
-    let known = catalogue(alloc)?;
+    let mut known = Catalogue::new(alloc);
+    add_list(&mut known)?;
     let first = list_of(alloc, call::<Vec<u32>>(alloc, "a")?);
     let calls = with(first, call::<u32>(alloc, "b"))?;
     Ok(registry.map_into_portable(calls, &known)?)

@@ -1,6 +1,6 @@
-//! Tests of what tables are used for: walks and pruning, by rows of bytes and by long chains;
-//! `export`, types of a program in and bytes out; values that are decoded by a table; and a program
-//! that writes a table and one that prints it.
+//! Tests of what tables are used for, where rows of data do not say it: long chains under walks,
+//! `prune`, `retain`, a builder and the program `type_table`; the program over readers and writers
+//! that fail, and over each change of a byte; and programs that write a table and print it.
 #![tactic(auto)]
 
 #[cfg(test)]
@@ -10,18 +10,10 @@ mod callers;
 #[cfg(test)]
 mod chains;
 #[cfg(test)]
-mod chosen;
+mod changes;
 #[cfg(test)]
-mod deep;
+mod entries;
 #[cfg(test)]
-mod exports;
+mod runs;
 #[cfg(test)]
-mod own;
-#[cfg(test)]
-mod rows;
-#[cfg(test)]
-mod tables;
-#[cfg(test)]
-mod values;
-#[cfg(test)]
-mod walks;
+mod streams;

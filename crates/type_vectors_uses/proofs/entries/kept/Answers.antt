@@ -1,5 +1,5 @@
 use Rattle.std.proofs.Common.{◌<◌, ◌≤◌, ℕ, zero, suc, length, arith, get_or, [], ◌∷◌}
-use Rattle.type_vectors_tables.proofs.passes.kept.Goals as goal
+use Rattle.type_vectors_uses.proofs.entries.kept.Goals as goal
 
 -- the indices of the test are below six
 below_six : (n : ℕ) → 6 ≤ n → (k d : ℕ) → k < 5 → get_or (1 ∷ 2 ∷ 3 ∷ 4 ∷ 0 ∷ []) k d < n
