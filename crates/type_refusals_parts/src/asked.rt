@@ -1,4 +1,5 @@
 //! Values that are asked for their parts between marks.
+use std::alloc::{AllocError, Global};
 use std::fmt::Debug;
 use std::test::Fail;
 use type_refusals_common::answers::done;
@@ -12,6 +13,9 @@ pub trait Asked {
 
     /// Asks.
     fn parts(&self) -> Self::Parts;
+
+    /// What else the value returns, as a text.
+    fn texts(&self, alloc: Global) -> Result<String, AllocError>;
 }
 
 /// Asks a value that is made for it.
@@ -20,5 +24,6 @@ pub fn ask<T: Asked + Drop>(rt: &HostRuntime, made: Result<T, Fail>) -> Result<O
     begin(rt);
     let parts = value.parts();
     end(rt);
-    Outcome::of(done(format!(in rt.alloc(); "{parts:?}")))
+    let texts = value.texts(rt.alloc())?;
+    Outcome::of(done(format!(in rt.alloc(); "{parts:?} {texts}")))
 }

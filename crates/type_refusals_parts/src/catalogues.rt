@@ -1,17 +1,16 @@
 //! Catalogues, to which descriptions are added.
 use crate::asked::{Asked, ask};
-use scale_info::impls::Compact;
 use scale_info::meta_type::{Catalogue, CatalogueError, Identified};
 use scale_info::{MetaType, Type, TypeDefPrimitive, TypeId, TypeInfo};
 use std::alloc::{AllocError, Global};
-use std::ops::Range;
 use std::test::Fail;
-use type_refusals_common::answers::{Answer, done, shown};
+use type_refusals_common::answers::{Answer, shown};
 use type_refusals_common::marks::{begin, end};
 use type_refusals_common::outcomes::Outcome;
 use type_refusals_common::own::Missing;
-use type_refusals_common::types::{Pair, TooLong, catalogue, description_named, type_named};
+use type_refusals_common::types::{Pair, add_all, catalogue, description_named, type_named};
 use type_vectors_common::catalogues::add_own;
+use type_vectors_common::shown::Show;
 
 /// The identity of this number.
 fn numbered(alloc: Global, number: usize) -> Result<TypeId, AllocError> {
@@ -42,18 +41,29 @@ fn kept(alloc: Global, known: &Catalogue) -> Result<u32, AllocError> {
     Ok(kept)
 }
 
-/// How many descriptions a catalogue has, whether it has one of this identity and that is the one
-/// of `u32`, and how many of the fifteen it has.
-fn state(alloc: Global, known: &Catalogue, identity: &TypeId) -> Result<String, AllocError> {
-    let (len, kept) = (known.len(), kept(alloc, known)?);
-    let plain = plain(alloc);
-    let found = known.get(identity).map(|ty| *ty == plain);
-    format!(in alloc; "{len} {found:?} {kept}")
+/// What a catalogue describes under this identity, as a text; of an identity that it has not
+/// `nothing`.
+fn found(alloc: Global, known: &Catalogue, identity: &TypeId) -> Result<String, AllocError> {
+    let mut text = String::new(alloc);
+    match known.get(identity) {
+        Some(ty) => ty.push_to(&mut text)?,
+        None => text.push_str("nothing")?,
+    }
+    Ok(text)
 }
 
-/// Adds a type.
-fn add_of<T: TypeInfo>(rt: &HostRuntime) -> Result<Outcome, Fail> {
+/// How many descriptions a catalogue has, how many of the fifteen it has, and what it describes
+/// under this identity.
+fn state(alloc: Global, known: &Catalogue, identity: &TypeId) -> Result<String, AllocError> {
+    let (len, kept) = (known.len(), kept(alloc, known)?);
+    let found = found(alloc, known, identity)?;
+    format!(in alloc; "{len} {kept} {found}")
+}
+
+/// Adds a type to the fifteen and the types of these names.
+pub fn add<T: TypeInfo>(rt: &HostRuntime, before: &str) -> Result<Outcome, Fail> {
     let mut known = fifteen(rt.alloc())?;
+    add_all(rt.alloc(), &mut known, before)?;
     let identity = T::Identity::type_id(rt.alloc())?;
     let before = state(rt.alloc(), &known, &identity);
     begin(rt);
@@ -61,21 +71,6 @@ fn add_of<T: TypeInfo>(rt: &HostRuntime) -> Result<Outcome, Fail> {
     end(rt);
     let after = state(rt.alloc(), &known, &identity);
     Outcome::lending(before, after, shown(rt.alloc(), returned))
-}
-
-/// Adds the type of this name.
-pub fn add(rt: &HostRuntime, name: &str) -> Result<Outcome, Fail> {
-    match name {
-        "u32" => add_of::<u32>(rt),
-        "Vec<u32>" => add_of::<Vec<u32>>(rt),
-        "[u8; 32]" => add_of::<[u8; 32]>(rt),
-        "(u32, bool)" => add_of::<Pair>(rt),
-        "Option<(u32, bool)>" => add_of::<Option<Pair>>(rt),
-        "Compact<u32>" => add_of::<Compact<u32>>(rt),
-        "Range<u8>" => add_of::<Range<u8>>(rt),
-        "[u8; 4294967296]" => add_of::<TooLong>(rt),
-        _ => Err(Fail::new("no type has this name")),
-    }
 }
 
 /// Adds the pair of `u32` and `bool`, whose identity has the description of `u32`.
@@ -141,12 +136,16 @@ struct Lookup {
 }
 
 impl Asked for Lookup {
-    type Parts = (bool, bool, usize);
+    type Parts = (bool, bool);
 
-    fn parts(&self) -> (bool, bool, usize) {
+    fn parts(&self) -> (bool, bool) {
         let found = self.ty.type_info(&self.known).is_some();
         let same = self.known.get(self.ty.type_id()).is_some();
-        (found, same, self.known.len())
+        (found, same)
+    }
+
+    fn texts(&self, alloc: Global) -> Result<String, AllocError> {
+        found(alloc, &self.known, self.ty.type_id())
     }
 }
 

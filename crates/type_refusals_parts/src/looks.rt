@@ -2,13 +2,14 @@
 use crate::asked::{Asked, ask};
 use scale_info::form::PortableForm;
 use scale_info::utils::is_rust_identifier;
-use scale_info::{Field, Path, PortableType, Scale, Type, TypeDef, TypeParameter, Variant};
-use std::alloc::Global;
+use scale_info::{Field, Path, PortableType, Scale, Text, Type, TypeDef, TypeParameter, Variant};
+use std::alloc::{AllocError, Global};
 use std::hash::{FoldHasher, Hash, Hasher};
 use std::test::Fail;
-use type_refusals_common::answers::done;
+use type_refusals_common::answers::{digits, done};
 use type_refusals_common::marks::{begin, end};
 use type_refusals_common::outcomes::Outcome;
+use type_refusals_common::texts::bracketed;
 use type_refusals_common::types::{description_named, type_named};
 use type_vectors_common::parts;
 use type_vectors_common::rows::row_named;
@@ -20,6 +21,11 @@ impl Asked for Field<PortableForm> {
         let (is_named, has_type_name) = (self.name().is_some(), self.type_name().is_some());
         (is_named, has_type_name, self.ty().id(), self.docs().len())
     }
+
+    fn texts(&self, alloc: Global) -> Result<String, AllocError> {
+        let (name, type_name, docs) = (self.name(), self.type_name(), self.docs());
+        format!(in alloc; "{name:?} {type_name:?} {docs:?}")
+    }
 }
 
 impl Asked for Variant<PortableForm> {
@@ -28,6 +34,11 @@ impl Asked for Variant<PortableForm> {
     fn parts(&self) -> (usize, u8, usize, usize) {
         let (name, fields) = (self.name().len(), self.fields().len());
         (name, self.index(), fields, self.docs().len())
+    }
+
+    fn texts(&self, alloc: Global) -> Result<String, AllocError> {
+        let (name, docs) = (self.name(), self.docs());
+        format!(in alloc; "{name:?} {docs:?}")
     }
 }
 
@@ -38,6 +49,11 @@ impl Asked for Path<PortableForm> {
         let (segments, modules) = (self.segments().len(), self.namespace().len());
         (segments, modules, self.is_empty())
     }
+
+    fn texts(&self, alloc: Global) -> Result<String, AllocError> {
+        let (segments, modules) = (self.segments(), self.namespace());
+        format!(in alloc; "{segments:?} {modules:?} {self} {self:*>40} {self:5.2}")
+    }
 }
 
 impl Asked for TypeParameter<PortableForm> {
@@ -46,6 +62,11 @@ impl Asked for TypeParameter<PortableForm> {
     fn parts(&self) -> (usize, Option<u32>) {
         (self.name().len(), self.ty().map(|ty| ty.id()))
     }
+
+    fn texts(&self, alloc: Global) -> Result<String, AllocError> {
+        let name = self.name();
+        format!(in alloc; "{name:?}")
+    }
 }
 
 impl Asked for PortableType {
@@ -53,6 +74,10 @@ impl Asked for PortableType {
 
     fn parts(&self) -> (u32, bool) {
         (self.id(), self.ty().path().is_empty())
+    }
+
+    fn texts(&self, alloc: Global) -> Result<String, AllocError> {
+        digits(alloc, self.ty())
     }
 }
 
@@ -73,6 +98,10 @@ impl Asked for TypeDef<PortableForm> {
         };
         (first as usize, second as usize)
     }
+
+    fn texts(&self, alloc: Global) -> Result<String, AllocError> {
+        digits(alloc, self)
+    }
 }
 
 impl Asked for Type {
@@ -82,30 +111,36 @@ impl Asked for Type {
         let (is_empty, params) = (self.path().is_empty(), self.type_params().len());
         (is_empty, params, self.docs().len())
     }
+
+    fn texts(&self, alloc: Global) -> Result<String, AllocError> {
+        let (segments, docs) = (self.path().segments(), self.docs());
+        format!(in alloc; "{segments:?} {docs:?}")
+    }
 }
 
-/// Asks a field for its parts.
-pub fn field(rt: &HostRuntime) -> Result<Outcome, Fail> {
-    ask(
-        rt,
-        Ok(parts::field(rt.alloc(), Some("n"), 3, Some("N"), &["d", ""])?),
-    )
+impl Asked for Type<PortableForm> {
+    type Parts = (usize, usize, usize);
+
+    fn parts(&self) -> (usize, usize, usize) {
+        let segments = self.path().segments().len();
+        (segments, self.type_params().len(), self.docs().len())
+    }
+
+    fn texts(&self, alloc: Global) -> Result<String, AllocError> {
+        digits(alloc, self.type_def())
+    }
 }
 
-/// Asks a variant for its parts.
-pub fn variant(rt: &HostRuntime) -> Result<Outcome, Fail> {
-    ask(
-        rt,
-        Ok(parts::variant(rt.alloc(), "V", &[1, 2], 255, &["v"])?),
-    )
-}
+impl Asked for Text {
+    type Parts = (usize, bool);
 
-/// Asks a path for its parts.
-pub fn path(rt: &HostRuntime) -> Result<Outcome, Fail> {
-    ask(
-        rt,
-        Ok(parts::path(rt.alloc(), &["hello", "world", "Planet"])?),
-    )
+    fn parts(&self) -> (usize, bool) {
+        (self.len(), self.is_empty())
+    }
+
+    fn texts(&self, alloc: Global) -> Result<String, AllocError> {
+        format!(in alloc; "{self} {self:?}")
+    }
 }
 
 /// Asks the description of this name for its parts.
@@ -113,15 +148,46 @@ pub fn description(rt: &HostRuntime, name: &str) -> Result<Outcome, Fail> {
     ask(rt, description_named(rt.alloc(), name))
 }
 
-/// Asks a parameter for its parts.
-pub fn parameter(rt: &HostRuntime) -> Result<Outcome, Fail> {
-    ask(rt, Ok(parts::parameter(rt.alloc(), "T", Some(7))?))
+/// The path of the texts between brackets.
+fn path(alloc: Global, row: &str) -> Result<Path<PortableForm>, AllocError> {
+    parts::path(alloc, bracketed(alloc, row)?.as_slice())
 }
 
-/// Asks an entry for its parts.
-pub fn entry(rt: &HostRuntime) -> Result<Outcome, Fail> {
-    let ty = Type::from_def(rt.alloc(), parts::sequence(2));
-    ask(rt, Ok(PortableType::new(9, ty)))
+/// A description with a path, a parameter and docs.
+fn described_in_full(alloc: Global) -> Result<Type<PortableForm>, AllocError> {
+    let definition = parts::sequence(2);
+    parts::description(alloc, &["p", "q"], &["S"], definition, &["d", "", "e"])
+}
+
+/// The value that a value of parts is.
+fn made<T>(value: Result<T, AllocError>) -> Result<T, Fail> {
+    Ok(value?)
+}
+
+/// Asks a part of this kind for its parts: the texts of a path, of a parameter and of a text come
+/// after the kind.
+pub fn part(rt: &HostRuntime, input: &str) -> Result<Outcome, Fail> {
+    let alloc = rt.alloc();
+    let (kind, given) = input.split_once(' ').unwrap_or((input, ""));
+    match kind {
+        "field" => ask(
+            rt,
+            made(parts::field(alloc, Some("n"), 3, Some("N"), &["d", ""])),
+        ),
+        "unnamed_field" => ask(rt, made(parts::field(alloc, None, 3, None, &[]))),
+        "variant" => ask(rt, made(parts::variant(alloc, "V", &[1, 2], 255, &["v"]))),
+        "path" => ask(rt, made(path(alloc, given))),
+        "skipped_parameter" => ask(rt, made(parts::parameter(alloc, given, None))),
+        "parameter" => ask(rt, made(parts::parameter(alloc, given, Some(7)))),
+        "entry" => ask(
+            rt,
+            Ok(PortableType::new(9, Type::from_def(alloc, parts::sequence(2)))),
+        ),
+        "text" => ask(rt, made(parts::text(alloc, given))),
+        "description" => ask(rt, made(described_in_full(alloc))),
+        "definition_alone" => ask(rt, Ok(Type::from_def(alloc, parts::sequence(2)))),
+        _ => Err(Fail::new("no kind has this name")),
+    }
 }
 
 /// The definition of each kind: a row is a name, a colon and the encoding.

@@ -1,15 +1,9 @@
-//! Tests of lists and texts, paths, interners and the public surface, by values made in the test.
+//! A test of the public surface: each public item, by its path at `scale_info`.
+//!
+//! What the items do is tried by the rows of `scale_info_refusals`.
 #![tactic(auto)]
 
 #[cfg(test)]
 mod asserts;
-#[cfg(test)]
-mod collections;
-#[cfg(test)]
-mod errors;
-#[cfg(test)]
-mod interners;
-#[cfg(test)]
-mod paths;
 #[cfg(test)]
 mod surface;

@@ -3,7 +3,7 @@ use scale_info::build::{PathAssigned, TypeBuilder};
 use scale_info::form::MetaForm;
 use scale_info::impls::meta_type;
 use scale_info::meta_type::HasIdentity;
-use scale_info::{Field, Items, MetaType, Path, Type, TypeDefTuple, TypeParameter, Variant};
+use scale_info::{Field, Items, Path, Type, TypeParameter, Variant};
 use std::alloc::{AllocError, Global};
 use type_vectors_common::lists::list_of;
 use type_vectors_common::results::both;
@@ -12,7 +12,7 @@ use type_vectors_common::results::both;
 pub type Begun = TypeBuilder<MetaForm, PathAssigned<MetaForm>>;
 
 /// A field of this type, without docs.
-pub fn field<T: HasIdentity>(
+fn field<T: HasIdentity>(
     alloc: Global,
     name: Option<&'static str>,
     type_name: Option<&'static str>,
@@ -34,19 +34,6 @@ pub fn variant<T: HasIdentity>(
 ) -> Result<Variant, AllocError> {
     let fields = list_of(alloc, field::<T>(alloc, None, None)?)?;
     Ok(Variant::new(name, fields, index, Vec::new(alloc)))
-}
-
-/// A parameter that is given a type.
-pub fn given<T: HasIdentity>(
-    alloc: Global,
-    name: &'static str,
-) -> Result<TypeParameter, AllocError> {
-    Ok(TypeParameter::new(name, Some(meta_type::<T>(alloc)?)))
-}
-
-/// A tuple of these types.
-pub fn tuple(members: Result<Vec<MetaType>, AllocError>) -> Result<TypeDefTuple, AllocError> {
-    Ok(TypeDefTuple::from(Items::from(members?)))
 }
 
 /// A description of these parameters and this path in the making.

@@ -1,11 +1,7 @@
 //! Lists of lists.
-use crate::asserts::holds;
-use crate::registered::table;
 use scale_info::meta_type::{Catalogue, CatalogueError};
-use scale_info::{PortableRegistry, TypeDef, TypeDefPrimitive, TypeInfo, tuple_meta_type};
-use std::alloc::Global;
-use std::test::Fail;
-use type_vectors_common::chains::chain;
+use scale_info::{MetaType, TypeInfo, tuple_meta_type};
+use std::alloc::{AllocError, Global};
 
 /// Four lists around `T`.
 type Lists<T> = Vec<Vec<Vec<Vec<T>>>>;
@@ -38,21 +34,14 @@ fn add_all(known: &mut Catalogue) -> Result<bool, CatalogueError> {
     add_eight::<Sixteen>(known)
 }
 
-/// The table of the 24 lists.
-fn lists(alloc: Global) -> Result<PortableRegistry, Fail> {
+/// The catalogue of the 24 lists.
+pub fn catalogue(alloc: Global) -> Result<Catalogue, CatalogueError> {
     let mut known = Catalogue::new(alloc);
     add_all(&mut known)?;
-    table(
-        alloc,
-        &known,
-        tuple_meta_type!(alloc; Lists<Lists<Sixteen>>)?,
-    )
+    Ok(known)
 }
 
-#[test]
-fn each_list_refers_to_the_next_type(rt: HostRuntime) -> Result<(), Fail> {
-    let alloc = rt.alloc();
-    let wanted = chain(alloc, 25, TypeDef::from(TypeDefPrimitive::U8))?;
-    holds(&rt, "the table", lists(alloc)? == wanted);
-    Ok(())
+/// The outermost list.
+pub fn outermost(alloc: Global) -> Result<Vec<MetaType>, AllocError> {
+    tuple_meta_type!(alloc; Lists<Lists<Sixteen>>)
 }
