@@ -1,5 +1,5 @@
 //! Constructors that collect lists or make identities.
-use scale_info::form::PortableForm;
+use scale_info::form::{Form, PortableForm};
 use scale_info::{
     Type, TypeDef, TypeDefBitSequence, TypeDefComposite, TypeDefTuple, TypeDefVariant, TypeId,
     UntrackedSymbol,
@@ -66,7 +66,7 @@ pub fn portable_composite(rt: &HostRuntime, row: &str) -> Result<Outcome, Fail> 
     begin(rt);
     let returned = TypeDefComposite::<PortableForm>::new(rt.alloc(), fields);
     end(rt);
-    Outcome::of(encoded(rt.alloc(), returned))
+    Outcome::of(encoded(rt.alloc(), definition(returned)))
 }
 
 /// Makes the definition of an enum of one variant, with fields of the types with these ids.
@@ -77,7 +77,7 @@ pub fn portable_variants(rt: &HostRuntime, row: &str) -> Result<Outcome, Fail> {
     begin(rt);
     let returned = TypeDefVariant::<PortableForm>::new(rt.alloc(), variants);
     end(rt);
-    Outcome::of(encoded(rt.alloc(), returned))
+    Outcome::of(encoded(rt.alloc(), definition(returned)))
 }
 
 /// Makes the definition of a tuple of types of the program, as a text.
@@ -95,7 +95,7 @@ pub fn portable_tuple(rt: &HostRuntime, row: &str) -> Result<Outcome, Fail> {
     begin(rt);
     let returned = TypeDefTuple::new_portable(rt.alloc(), members);
     end(rt);
-    Outcome::of(encoded(rt.alloc(), returned))
+    Outcome::of(encoded(rt.alloc(), definition(returned)))
 }
 
 /// References to the types with these ids.
@@ -119,14 +119,20 @@ pub fn bit_sequence(rt: &HostRuntime, name: &str) -> Result<Outcome, Fail> {
     shown(rt.alloc(), returned)
 }
 
+/// The definition that a definition of one kind is.
+fn definition<F: Form, D: Into<TypeDef<F>>>(
+    returned: Result<D, AllocError>,
+) -> Result<TypeDef<F>, AllocError> {
+    match returned {
+        Ok(definition) => Ok(definition.into()),
+        Err(error) => Err(error),
+    }
+}
+
 /// A definition as a text.
 fn shown<D: Into<TypeDef>>(
     alloc: Global,
     returned: Result<D, AllocError>,
 ) -> Result<Outcome, Fail> {
-    let definition = match returned {
-        Ok(definition) => Ok(definition.into()),
-        Err(error) => Err(error),
-    };
-    Outcome::of(printed(alloc, text_of(alloc, definition)))
+    Outcome::of(printed(alloc, text_of(alloc, definition(returned))))
 }

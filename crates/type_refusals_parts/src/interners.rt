@@ -81,35 +81,29 @@ struct Lookup {
     value: Text,
 }
 
-impl Asked for Lookup {
-    type Parts = (Option<u32>, bool, usize, bool);
-
-    fn parts(&self) -> (Option<u32>, bool, usize, bool) {
-        let id = self
-            .texts
-            .get(&self.value)
-            .map(|symbol| symbol.into_untracked().id());
-        let found = match self.texts.get(&self.value) {
-            Some(symbol) => self.other.resolve(symbol).is_some(),
-            None => false,
-        };
-        (
-            id,
-            found,
-            self.texts.elements().len(),
-            self.texts == self.other,
-        )
-    }
-
-    fn texts(&self, alloc: Global) -> Result<String, AllocError> {
+impl Lookup {
+    /// What the symbol of the text stands for in the other interner, after its number.
+    fn push_symbol(&self, text: &mut String) -> Result<(), AllocError> {
         match self.texts.get(&self.value) {
             Some(symbol) => {
-                let copy = symbol.try_clone(alloc)?.into_untracked().id();
                 let resolved = self.other.resolve(symbol);
-                format!(in alloc; "{copy} {resolved:?}")
+                write!(text, "{resolved:?}")
             }
-            None => String::from_str(alloc, "none"),
+            None => text.push_str("no symbol"),
         }
+    }
+}
+
+impl Asked for Lookup {
+    fn push_parts(&self, text: &mut String) -> Result<(), AllocError> {
+        let alloc = *text.allocator();
+        if let Some(symbol) = self.texts.get(&self.value) {
+            let copy = symbol.try_clone(alloc)?.into_untracked().id();
+            write!(text, "{copy} ")?;
+        }
+        let (len, same) = (self.texts.elements().len(), self.texts == self.other);
+        self.push_symbol(text)?;
+        write!(text, " {len} {same}")
     }
 }
 

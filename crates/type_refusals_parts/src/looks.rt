@@ -6,7 +6,7 @@ use scale_info::{Field, Path, PortableType, Scale, Text, Type, TypeDef, TypePara
 use std::alloc::{AllocError, Global};
 use std::hash::{FoldHasher, Hash, Hasher};
 use std::test::Fail;
-use type_refusals_common::answers::{digits, done};
+use type_refusals_common::answers::done;
 use type_refusals_common::marks::{begin, end};
 use type_refusals_common::outcomes::Outcome;
 use type_refusals_common::texts::bracketed;
@@ -15,131 +15,88 @@ use type_vectors_common::parts;
 use type_vectors_common::rows::row_named;
 
 impl Asked for Field<PortableForm> {
-    type Parts = (bool, bool, u32, usize);
-
-    fn parts(&self) -> (bool, bool, u32, usize) {
-        let (is_named, has_type_name) = (self.name().is_some(), self.type_name().is_some());
-        (is_named, has_type_name, self.ty().id(), self.docs().len())
-    }
-
-    fn texts(&self, alloc: Global) -> Result<String, AllocError> {
-        let (name, type_name, docs) = (self.name(), self.type_name(), self.docs());
-        format!(in alloc; "{name:?} {type_name:?} {docs:?}")
+    fn push_parts(&self, text: &mut String) -> Result<(), AllocError> {
+        let (name, type_name) = (self.name(), self.type_name());
+        let (ty, docs) = (self.ty().id(), self.docs());
+        write!(text, "{name:?} {ty} {type_name:?} {docs:?}")
     }
 }
 
 impl Asked for Variant<PortableForm> {
-    type Parts = (usize, u8, usize, usize);
-
-    fn parts(&self) -> (usize, u8, usize, usize) {
-        let (name, fields) = (self.name().len(), self.fields().len());
-        (name, self.index(), fields, self.docs().len())
-    }
-
-    fn texts(&self, alloc: Global) -> Result<String, AllocError> {
-        let (name, docs) = (self.name(), self.docs());
-        format!(in alloc; "{name:?} {docs:?}")
+    fn push_parts(&self, text: &mut String) -> Result<(), AllocError> {
+        let (name, index) = (self.name(), self.index());
+        let (fields, docs) = (self.fields().len(), self.docs());
+        write!(text, "{name:?} {fields} {index} {docs:?}")
     }
 }
 
 impl Asked for Path<PortableForm> {
-    type Parts = (usize, usize, bool);
-
-    fn parts(&self) -> (usize, usize, bool) {
-        let (segments, modules) = (self.segments().len(), self.namespace().len());
-        (segments, modules, self.is_empty())
-    }
-
-    fn texts(&self, alloc: Global) -> Result<String, AllocError> {
+    fn push_parts(&self, text: &mut String) -> Result<(), AllocError> {
         let (segments, modules) = (self.segments(), self.namespace());
-        format!(in alloc; "{segments:?} {modules:?} {self} {self:*>40} {self:5.2}")
+        let is_empty = self.is_empty();
+        write!(text, "{segments:?} {modules:?} {is_empty} {self} {self:*>40} {self:5.2}")
     }
 }
 
 impl Asked for TypeParameter<PortableForm> {
-    type Parts = (usize, Option<u32>);
-
-    fn parts(&self) -> (usize, Option<u32>) {
-        (self.name().len(), self.ty().map(|ty| ty.id()))
-    }
-
-    fn texts(&self, alloc: Global) -> Result<String, AllocError> {
-        let name = self.name();
-        format!(in alloc; "{name:?}")
+    fn push_parts(&self, text: &mut String) -> Result<(), AllocError> {
+        let (name, ty) = (self.name(), self.ty().map(|ty| ty.id()));
+        write!(text, "{name:?} {ty:?}")
     }
 }
 
 impl Asked for PortableType {
-    type Parts = (u32, bool);
-
-    fn parts(&self) -> (u32, bool) {
-        (self.id(), self.ty().path().is_empty())
+    fn push_parts(&self, text: &mut String) -> Result<(), AllocError> {
+        let id = self.id();
+        write!(text, "{id}: ")?;
+        self.ty().push_parts(text)
     }
+}
 
-    fn texts(&self, alloc: Global) -> Result<String, AllocError> {
-        digits(alloc, self.ty())
-    }
+/// The numbers that a definition holds, or how many parts it has.
+fn numbers(definition: &TypeDef<PortableForm>) -> (usize, usize) {
+    let (first, second) = match definition {
+        TypeDef::Composite(it) => return (it.fields().len(), 0),
+        TypeDef::Variant(it) => return (it.variants().len(), 0),
+        TypeDef::Tuple(it) => return (it.fields().len(), 0),
+        TypeDef::Primitive(_) => (0, 0),
+        TypeDef::Sequence(it) => (it.type_param().id(), 0),
+        TypeDef::Compact(it) => (it.type_param().id(), 0),
+        TypeDef::Array(it) => (it.len(), it.type_param().id()),
+        TypeDef::BitSequence(it) => (it.bit_store_type().id(), it.bit_order_type().id()),
+        TypeDef::Map(it) => (it.key().id(), it.value().id()),
+    };
+    (first as usize, second as usize)
 }
 
 impl Asked for TypeDef<PortableForm> {
-    type Parts = (usize, usize);
-
-    fn parts(&self) -> (usize, usize) {
-        let (first, second) = match self {
-            TypeDef::Composite(it) => return (it.fields().len(), 0),
-            TypeDef::Variant(it) => return (it.variants().len(), 0),
-            TypeDef::Tuple(it) => return (it.fields().len(), 0),
-            TypeDef::Primitive(_) => (0, 0),
-            TypeDef::Sequence(it) => (it.type_param().id(), 0),
-            TypeDef::Compact(it) => (it.type_param().id(), 0),
-            TypeDef::Array(it) => (it.len(), it.type_param().id()),
-            TypeDef::BitSequence(it) => (it.bit_store_type().id(), it.bit_order_type().id()),
-            TypeDef::Map(it) => (it.key().id(), it.value().id()),
-        };
-        (first as usize, second as usize)
-    }
-
-    fn texts(&self, alloc: Global) -> Result<String, AllocError> {
-        digits(alloc, self)
-    }
-}
-
-impl Asked for Type {
-    type Parts = (bool, usize, usize);
-
-    fn parts(&self) -> (bool, usize, usize) {
-        let (is_empty, params) = (self.path().is_empty(), self.type_params().len());
-        (is_empty, params, self.docs().len())
-    }
-
-    fn texts(&self, alloc: Global) -> Result<String, AllocError> {
-        let (segments, docs) = (self.path().segments(), self.docs());
-        format!(in alloc; "{segments:?} {docs:?}")
+    fn push_parts(&self, text: &mut String) -> Result<(), AllocError> {
+        let (first, second) = numbers(self);
+        write!(text, "{first} {second}")
     }
 }
 
 impl Asked for Type<PortableForm> {
-    type Parts = (usize, usize, usize);
-
-    fn parts(&self) -> (usize, usize, usize) {
-        let segments = self.path().segments().len();
-        (segments, self.type_params().len(), self.docs().len())
+    fn push_parts(&self, text: &mut String) -> Result<(), AllocError> {
+        let (segments, docs) = (self.path().segments(), self.docs());
+        let params = self.type_params().len();
+        write!(text, "{segments:?} {params} {docs:?} ")?;
+        self.type_def().push_parts(text)
     }
+}
 
-    fn texts(&self, alloc: Global) -> Result<String, AllocError> {
-        digits(alloc, self.type_def())
+impl Asked for Type {
+    fn push_parts(&self, text: &mut String) -> Result<(), AllocError> {
+        let (segments, docs) = (self.path().segments(), self.docs());
+        let params = self.type_params().len();
+        write!(text, "{segments:?} {params} {docs:?}")
     }
 }
 
 impl Asked for Text {
-    type Parts = (usize, bool);
-
-    fn parts(&self) -> (usize, bool) {
-        (self.len(), self.is_empty())
-    }
-
-    fn texts(&self, alloc: Global) -> Result<String, AllocError> {
-        format!(in alloc; "{self} {self:?}")
+    fn push_parts(&self, text: &mut String) -> Result<(), AllocError> {
+        let (len, is_empty) = (self.len(), self.is_empty());
+        write!(text, "{len} {is_empty} {self} {self:?}")
     }
 }
 

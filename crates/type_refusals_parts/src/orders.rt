@@ -1,4 +1,4 @@
-//! Values in order, of which each is compared with all. Rows give their encodings.
+//! Values in order, of which each is compared with all. Rows give their encodings, each with a name.
 //!
 //! Fields are compared in the order of their declaration: lists lexicographically, None before
 //! Some, variants of an enum as declared, texts by their bytes.
@@ -52,10 +52,11 @@ fn compare<T: Ord + Drop>(
     Outcome::of(done(Ok(signs)))
 }
 
-/// The values of these encodings, with ` | ` between two.
+/// The values of these encodings, each after a name and a colon, with ` | ` between two.
 fn values<T: Scale>(alloc: Global, row: &str) -> Result<Vec<T>, Fail> {
     let mut all = Vec::new(alloc);
-    for digits in row.split(" | ") {
+    for value in row.split(" | ") {
+        let (_, digits) = value.rsplit_once(':').unwrap_or(("", value));
         let bytes = row_bytes(alloc, digits)?;
         let (value, _) = T::decode_from(alloc, &bytes)?;
         all.push(value)?;

@@ -86,14 +86,14 @@ fn definition(
 ) -> Result<Outcome, Fail> {
     let alloc = rt.alloc();
     match kind {
-        "definition" => {
+        "a definition" => {
             convert(rt, given, Ok(TypeDef::from(TypeDefSequence::new(ty))))
         }
-        "sequence" => convert(rt, given, Ok(TypeDefSequence::new(ty))),
-        "array" => convert(rt, given, Ok(TypeDefArray::new(32, ty))),
-        "compact" => convert(rt, given, Ok(TypeDefCompact::new(ty))),
-        "tuple" => convert(rt, given, tuple(alloc, type_named(alloc, "u8")?, ty)),
-        "map" => convert(rt, given, Ok(TypeDefMap::new(type_named(alloc, "u8")?, ty))),
+        "a sequence" => convert(rt, given, Ok(TypeDefSequence::new(ty))),
+        "an array" => convert(rt, given, Ok(TypeDefArray::new(32, ty))),
+        "a compact" => convert(rt, given, Ok(TypeDefCompact::new(ty))),
+        "a tuple" => convert(rt, given, tuple(alloc, type_named(alloc, "u8")?, ty)),
+        "a map" => convert(rt, given, Ok(TypeDefMap::new(type_named(alloc, "u8")?, ty))),
         _ => Err(Fail::new("no kind has this name")),
     }
 }
@@ -102,28 +102,28 @@ fn definition(
 fn part(rt: &HostRuntime, given: Given, kind: &str, ty: MetaType) -> Result<Outcome, Fail> {
     let alloc = rt.alloc();
     match kind {
-        "text" => convert(rt, given, Ok("x")),
-        "type" => convert(rt, given, Ok(ty)),
-        "parameter" => convert(rt, given, Ok(TypeParameter::new("T", Some(ty)))),
-        "field" => convert(rt, given, Ok(field(alloc, ty, Some("A")))),
-        "variant" => convert(rt, given, variant(alloc, ty)),
-        "composite" => convert(rt, given, composite(alloc, ty)),
+        "a text" => convert(rt, given, Ok("x")),
+        "a type" => convert(rt, given, Ok(ty)),
+        "a parameter" => convert(rt, given, Ok(TypeParameter::new("T", Some(ty)))),
+        "a field" => convert(rt, given, Ok(field(alloc, ty, Some("A")))),
+        "a variant" => convert(rt, given, variant(alloc, ty)),
+        "a composite" => convert(rt, given, composite(alloc, ty)),
         "variants" => convert(rt, given, variants(alloc, ty)),
         _ => definition(rt, given, kind, ty),
     }
 }
 
-/// Converts a value of the kind that a row begins with, for the type after ` of `.
+/// Converts a value of the kind that a row begins with, which holds the type after the colon.
 pub fn value(rt: &HostRuntime, row: &str) -> Result<Outcome, Fail> {
     let (kind, row) = parted(row, ':')?;
     let (given, name) = read(rt.alloc(), row)?;
     let name = name.trim();
     match kind {
-        "description" => {
+        "a description" => {
             let described = description_named(rt.alloc(), name)?;
             convert(rt, given, Ok(described))
         }
-        "bit sequence" => {
+        "a bit sequence" => {
             let bits = BitsInOrder { alloc: rt.alloc() };
             convert(rt, given, Ok(found(for_known_type(bits, name))?))
         }

@@ -1,10 +1,9 @@
 //! Catalogues, to which descriptions are added.
-use crate::asked::{Asked, ask};
 use scale_info::meta_type::{Catalogue, CatalogueError, Identified};
-use scale_info::{MetaType, Type, TypeDefPrimitive, TypeId, TypeInfo};
+use scale_info::{Type, TypeDefPrimitive, TypeId, TypeInfo};
 use std::alloc::{AllocError, Global};
 use std::test::Fail;
-use type_refusals_common::answers::{Answer, shown};
+use type_refusals_common::answers::{Answer, done, shown};
 use type_refusals_common::marks::{begin, end};
 use type_refusals_common::outcomes::Outcome;
 use type_refusals_common::own::Missing;
@@ -128,35 +127,14 @@ pub fn add_described_after(rt: &HostRuntime, other: &str, name: &str) -> Result<
     add_to(rt, known, name)
 }
 
-/// A catalogue, and a type to look up.
-#[derive(Drop)]
-struct Lookup {
-    known: Catalogue,
-    ty: MetaType,
-}
-
-impl Asked for Lookup {
-    type Parts = (bool, bool);
-
-    fn parts(&self) -> (bool, bool) {
-        let found = self.ty.type_info(&self.known).is_some();
-        let same = self.known.get(self.ty.type_id()).is_some();
-        (found, same)
-    }
-
-    fn texts(&self, alloc: Global) -> Result<String, AllocError> {
-        found(alloc, &self.known, self.ty.type_id())
-    }
-}
-
-/// The look-up of the type of this name.
-fn lookup_of(alloc: Global, name: &str) -> Result<Lookup, Fail> {
-    let ty = type_named(alloc, name)?;
-    let known = catalogue(alloc)?;
-    Ok(Lookup { known, ty })
-}
-
-/// Looks a type up.
+/// Looks the type of this name up in the catalogue of all types.
 pub fn look(rt: &HostRuntime, name: &str) -> Result<Outcome, Fail> {
-    ask(rt, lookup_of(rt.alloc(), name))
+    let ty = type_named(rt.alloc(), name)?;
+    let known = catalogue(rt.alloc())?;
+    begin(rt);
+    let is_found = ty.type_info(&known).is_some();
+    let same = known.get(ty.type_id()).is_some();
+    end(rt);
+    let found = found(rt.alloc(), &known, ty.type_id())?;
+    Outcome::of(done(format!(in rt.alloc(); "({is_found}, {same}) {found}")))
 }
