@@ -1,9 +1,10 @@
-/* An allocator in the place of the C library's, to be preloaded: it counts requests for memory, and refuses some.
+/* An allocator in the place of the C library's, to be preloaded: it counts requests for memory and blocks that are given back, and
+   refuses some requests.
 
    A part of a run goes from the line "begin" to the line "end", each of which the program writes to descriptor 2 by one write.
    With REFUSE_AT the whole run is one part. In a part these requests are refused, by the value of REFUSE: "none", "all", from the
    k-th on ("from") or the k-th alone ("alone"), where k is REFUSE_AT, or else the number of the part, from 1 on. After each part
-   the descriptor REFUSE_REPORT gets a line "requests N refused M". */
+   the descriptor REFUSE_REPORT gets a line "requests N refused M freed F". */
 #define _GNU_SOURCE
 #include <errno.h>
 #include <limits.h>
@@ -18,9 +19,10 @@ void *__libc_malloc(size_t);
 void *__libc_calloc(size_t, size_t);
 void *__libc_realloc(void *, size_t);
 void *__libc_memalign(size_t, size_t);
+void __libc_free(void *);
 
 static int counting, is_whole;
-static long part, requests, refused, first, last;
+static long part, requests, refused, freed, first, last;
 
 static long number_of(const char *name)
 {
@@ -34,7 +36,7 @@ static void begin_part(long k)
     int is_none = !what || !strcmp(what, "none");
     first = is_none ? LONG_MAX : !strcmp(what, "all") ? 1 : k;
     last = is_none ? 0 : !strcmp(what, "alone") ? k : LONG_MAX;
-    requests = refused = 0;
+    requests = refused = freed = 0;
     counting = 1;
 }
 
@@ -42,7 +44,7 @@ static void end_part(void)
 {
     char line[80];
     counting = 0;
-    int length = snprintf(line, sizeof line, "requests %ld refused %ld\n", requests, refused);
+    int length = snprintf(line, sizeof line, "requests %ld refused %ld freed %ld\n", requests, refused, freed);
     syscall(SYS_write, (int)number_of("REFUSE_REPORT"), line, length);
 }
 
@@ -112,6 +114,12 @@ int posix_memalign(void **block, size_t align, size_t size)
         return ENOMEM;
     *block = made;
     return 0;
+}
+
+void free(void *block)
+{
+    freed += counting && block;
+    __libc_free(block);
 }
 
 ssize_t write(int file, const void *bytes, size_t size)

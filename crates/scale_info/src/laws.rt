@@ -4,7 +4,9 @@ pub mod examples;
 
 pub use scale_info_catalogue::laws::equal_catalogue_errors;
 pub use scale_info_discovery::laws::equal_register_errors;
-pub use scale_info_export::laws::{equal_export_errors, equal_exported, headline};
+pub use scale_info_export::laws::{
+    equal_export_errors, equal_exported, headline, registered_tables,
+};
 pub use scale_info_identities::laws::{
     equal_intern_errors, equal_type_ids, hashed_type_ids, ordered_type_ids, symbols_by_number,
     tracked_symbols_by_number,
@@ -32,9 +34,7 @@ pub use scale_info_registry::laws::{
     registrations_compose,
 };
 pub use scale_info_segments::laws::{equal_path_errors, one_list_of_pieces};
-pub use scale_info_tables::laws::{
-    equal_tables, old_texts_stay, one_text, registered_tables, spelled_within_limits,
-};
+pub use scale_info_tables::laws::{equal_tables, old_texts_stay, one_text, spelled_within_limits};
 pub use scale_info_type_ids::laws::{
     own_identities, own_standard_identities, own_tuple_identities, shared_identities,
 };

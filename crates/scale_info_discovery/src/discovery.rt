@@ -113,7 +113,7 @@ pub fn number_of(identities: &Interner<TypeId>, cache: &NumberCache, id: &TypeId
     ensures known { IsSome result
         ↔ IsKnown ⟦<TypeId as PartialEq>⟧.eq identities.now id.now }
 {
-    match cache.known_by(identities, id, cache.hash(id)) {
+    match cache.known(identities, id) {
         Some(number) => Some(number),
         None => Some(identities.get(id)?.into_untracked().id),
     }

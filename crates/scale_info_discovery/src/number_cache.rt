@@ -62,6 +62,14 @@ impl NumberCache {
         }
     }
 
+    /// The number of an identity, if the cache has it. Neither searches nor allocates.
+    pub fn known(&self, identities: &Interner<TypeId>, id: &TypeId) -> Option<u32>
+        ensures index { IfSome result
+            (IsIndexOf ⟦<TypeId as PartialEq>⟧.eq identities.now id.now) }
+    {
+        self.known_by(identities, id, self.hash(id))
+    }
+
     /// The number of the identity with this hash, if its slot or the one beside it has it.
     #[inline]
     pub(crate) fn known_by(

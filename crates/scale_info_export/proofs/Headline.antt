@@ -26,7 +26,7 @@ use Rattle.scale_info_tables.specs.BuiltTables.{numbered_from}
 use Rattle.scale_info_tables.specs.TableEncoding.{EncodesRegistry}
 use Rattle.scale_info_tables.specs.TableSystems.{system_of}
 use Rattle.scale_info_tables.specs.declared.portable.PortableRegistry.{PortableRegistry}
-use Rattle.scale_info_tables.proofs.Registries.{numbered_entries}
+use Rattle.scale_info_export.proofs.NumberedEntries.{numbered_entries}
 use Rattle.scale_info_types.specs.Portable.{Description}
 use Rattle.scale_info_types.specs.Shapes.{Shape}
 use Rattle.scale_info_types.specs.declared.ty.PortableType.{PortableType}

@@ -12,12 +12,12 @@ ghost use Rattle.scale_info_discovery.specs.Discoveries.{roots_of};
 ghost use Rattle.scale_info_tables.specs.TableEncoding.{EncodesRegistry};
 ghost use Rattle.scale_info_tables.specs.declared.portable.PortableRegistry as tables;
 
+use crate::laws::registered_tables;
 use scale_info_bytes::error::EncodeError;
 use scale_info_catalogue::catalogue::Catalogue;
 use scale_info_identities::interner::UntrackedSymbol;
 use scale_info_identities::type_id::TypeId;
 use scale_info_registry::registry::{RegisterError, Registry};
-use scale_info_tables::laws::registered_tables;
 use scale_info_tables::portable::PortableRegistry;
 use scale_info_types::meta_type::MetaType;
 use scale_info_walk::walk::RetainError;

@@ -22,8 +22,10 @@ use scale_info_tables::laws::one_text;
 use scale_info_types::laws::shape_and_references;
 
 mod equalities;
+mod registries;
 
 pub use equalities::{equal_export_errors, equal_exported};
+pub use registries::registered_tables;
 
 /// After any list of accepted registrations and one successful `retain`, the bytes are the
 /// grammar's only text of the one depth-first numbering of what the chosen types reach, as if

@@ -1,6 +1,6 @@
 -- Registrations: what a registry holds after one.
 use Rattle.std.specs.Prelude.{◌≡◌, ℕ, ◌<◌, ◌≤◌, ◌++◌, ◌∷◌, [], suc, Bool, cond, List, Some}
-use Rattle.std.specs.Prelude.{slice_get, map, length, Contains, ⊤}
+use Rattle.std.specs.Prelude.{slice_get, map, length, ⊤}
 use Rattle.std.specs.List.{flat_map}
 use Rattle.scale_info_identities.specs.TypeIds.{Term, term_of}
 use Rattle.scale_info_identities.specs.contracts.type_id.TypeIdPartialEq.TheImpl.{ghosts as equals}
@@ -8,6 +8,7 @@ use Rattle.scale_info_identities.specs.declared.type_id.TypeId.{TypeId}
 use Rattle.scale_info_numberings.specs.Extensions.{IsExtension}
 use Rattle.scale_info_numberings.specs.Systems.{Entry, Grows, System}
 use Rattle.scale_info_numberings.specs.Tables.{ArePlaces}
+use Rattle.scale_info_references.specs.Closed.{AreClosed}
 use Rattle.scale_info_references.specs.Conversions.{with_ids, ids_in}
 use Rattle.scale_info_types.specs.Portable as portable
 use Rattle.scale_info_types.specs.Shapes.{Shape, shape}
@@ -34,10 +35,7 @@ registered ids types = record { identities = ids; types = types }
 
 -- each identity has a description, and each id in a description is that of an identity
 abbrev pub IsClosedRegistry : Registered → Type 0
-IsClosedRegistry r =
-    (length r.types ≡ length r.identities)
-    × ((i : ℕ) (ty : portable.Description) → slice_get r.types i ≡ Some ty
-    → (p : ℕ) → Contains (ids_in ty) p → p < length r.identities)
+IsClosedRegistry r = AreClosed (length r.identities) r.types
 
 -- `new` is `old` after a registration of the roots: the numbered terms are extended by the roots;
 -- the identities and descriptions that were there stay, at their indices; and each new identity has

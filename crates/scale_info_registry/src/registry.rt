@@ -67,6 +67,7 @@ use scale_info_types::ty::Type;
 use std::alloc::{AllocError, Global};
 use std::marker::Model;
 
+mod closed;
 mod conversion;
 mod equality;
 mod into_portable;

@@ -1,4 +1,4 @@
 pub mod Below
+pub mod ClosedLists
 pub mod IndexedEntries
 pub mod Interned
-pub mod Registries

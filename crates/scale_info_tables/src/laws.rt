@@ -4,10 +4,8 @@ ghost use Rattle.scale_info_tables.specs.TableEncoding.{EncodesRegistry};
 ghost use Rattle.scale_info_tables.specs.declared.portable.PortableRegistry.{PortableRegistry};
 
 pub mod examples;
-mod registries;
 mod tables;
 
-pub use registries::registered_tables;
 pub use tables::{equal_tables, old_texts_stay, spelled_within_limits};
 
 /// A table has at most one encoding, and no encoding of a table is a proper prefix of another: if

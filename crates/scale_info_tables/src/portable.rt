@@ -15,7 +15,7 @@ ghost use Rattle.scale_info_walk.specs.Pruned.{IsChosen, IsPruned, IsRetainError
 use scale_info_codec::{DecodeError, EncodeError, Scale};
 use scale_info_collections::items::Items;
 use scale_info_collections::try_clone::TryClone;
-use scale_info_registry::registry::Registry;
+use scale_info_references::closed::Descriptions;
 use scale_info_types::form::PortableForm;
 use scale_info_types::ty::{PortableType, Type};
 use scale_info_walk::pruned::retain_types;
@@ -44,7 +44,8 @@ impl PortableRegistry {
     /// The table of a registry: its descriptions in order, each with its index as `id`.
     ///
     /// It is closed, as the registry is. The registry stays as it is and can go on; the table has
-    /// copies. The crate `scale-info` makes it by `From<Registry>`.
+    /// copies. Whatever else has a closed list of descriptions will do too. The crate `scale-info`
+    /// makes it by `From<Registry>`.
     ///
     /// Errors: `AllocError`, where an allocation for the table failed.
     ///
@@ -53,19 +54,17 @@ impl PortableRegistry {
     /// registry.register_type(&MetaType::new::<Vec<u32>>(alloc)?, &catalogue)?;
     /// PortableRegistry::from_registry(alloc, &registry)?  // a sequence of the type 1, and `u32`
     /// ```
-    pub fn from_registry(alloc: Global, registry: &Registry) -> Result<PortableRegistry, AllocError>
+    pub fn from_registry<R: Descriptions>(
+        alloc: Global,
+        registry: &R,
+    ) -> Result<PortableRegistry, AllocError>
         ensures entries { IfOk result
-            (λ table. table.types ≡ numbered_from 0 registry.now.types) }
-        ensures long { IfOk result
-            (λ table. length table.types ≡ length registry.now.identities) }
+            (λ table. table.types ≡ numbered_from 0 (R.listed registry.now)) }
+        ensures long { IfOk result (λ table. length table.types ≡ R.count registry.now) }
         ensures closed { IfOk result (λ table. IsClosed table) }
         ensures few { IfOk result (λ table. length table.types ≤ 4294967295) }
     {
-        let entries = registry.types();
-        let mut types = Items::with_capacity(alloc, entries.size_hint().0)?;
-        for (id, ty) in entries {
-            types.push(PortableType::new(id.id, ty.try_clone(alloc)?))?;
-        }
+        let types = entries::copies_of(alloc, registry.descriptions())?;
         Ok(PortableRegistry { types })
     }
 
@@ -76,16 +75,18 @@ impl PortableRegistry {
     /// moved into the table, and none is copied.
     ///
     /// Errors: `AllocError`, where an allocation for the list of entries failed.
-    pub fn from_finished(alloc: Global, registry: Registry) -> Result<PortableRegistry, AllocError>
+    pub fn from_finished<R: Descriptions>(
+        alloc: Global,
+        registry: R,
+    ) -> Result<PortableRegistry, AllocError>
         ensures entries { IfOk result
-            (λ table. table.types ≡ numbered_from 0 registry.types) }
-        ensures long { IfOk result
-            (λ table. length table.types ≡ length registry.identities) }
+            (λ table. table.types ≡ numbered_from 0 (R.listed registry)) }
+        ensures long { IfOk result (λ table. length table.types ≡ R.count registry) }
         ensures closed { IfOk result (λ table. IsClosed table) }
         ensures few { IfOk result (λ table. length table.types ≤ 4294967295) }
     {
         Ok(PortableRegistry {
-            types: entries::of_descriptions(alloc, registry.into_types())?,
+            types: entries::of_descriptions(alloc, registry.into_descriptions())?,
         })
     }
 

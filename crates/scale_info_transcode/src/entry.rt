@@ -2,8 +2,8 @@
 ghost use Rattle.scale_info_json.specs.Tables.{description_rows, entry_rows};
 ghost use Rattle.scale_info_json.specs.Written.{object_tree};
 
-use crate::members::{transcode_member, transcode_unless_empty, write_member};
-use crate::reading::skip_part;
+use crate::later::skip_part;
+use crate::member_text::{transcode_member, transcode_unless_empty, write_member};
 use crate::transcode::Transcode;
 use json::Writer;
 use scale_info_codec::{DecodeError, Scale};

@@ -5,16 +5,16 @@
 //! written.
 #![tactic(auto)]
 
-mod definition;
-mod described;
+mod definition_text;
 mod entry;
-mod list;
-mod members;
-mod reading;
+mod later;
+mod list_text;
+mod member_text;
+mod part_text;
 mod skip;
-mod table;
-mod text;
+mod string;
+mod table_text;
 mod transcode;
 mod whole;
 
-pub use table::append_json_of;
+pub use table_text::append_json_of;

@@ -1,4 +1,5 @@
 pub mod Entries
+pub mod Examples
 pub mod Iterators
 pub mod MetaDescriptions
 pub mod Orders

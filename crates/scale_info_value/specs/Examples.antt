@@ -1,7 +1,7 @@
 -- Small tables, on which the definition of readings is tried.
 use Rattle.std.specs.Prelude.{ℕ, List, [], ◌∷◌, codes, map}
-use Rattle.scale_info_laws.specs.Examples.{id, plain}
-use Rattle.scale_info_laws.specs.Examples.{example_field, example_tuple_field, example_variant}
+use Rattle.scale_info_types.specs.Examples.{id, plain}
+use Rattle.scale_info_types.specs.Examples.{example_field, example_tuple_field, example_variant}
 use Rattle.scale_info_types.specs.Portable.{TypeDef}
 use Rattle.scale_info_types.specs.declared.ty.TypeDef.TheVariants as def
 use Rattle.scale_info_primitives.specs.declared.primitive.TypeDefPrimitive.{TypeDefPrimitive}

@@ -6,7 +6,7 @@ use crate::own::{
 use crate::phantom::{Nothing, Phantom};
 use crate::structs::MyStruct;
 use crate::tree::Tree;
-use crate::types::{Boxes, Marked, Pair, TooLong, Triple};
+use crate::types::{Boxes, Many, Marked, Pair, TooLong, Triple};
 use scale_info::TypeInfo;
 use scale_info::impls::{Compact, SliceOf, StrType};
 use scale_info::meta_type::HasIdentity;
@@ -221,6 +221,7 @@ fn for_tuple<V: Described>(call: V, name: &str) -> Option<V::Returned> {
         "(u32, [u8; 32], bool)" => Some(call.of::<Triple>()),
         "((i8, i16), (u32, u64))" => Some(call.of::<((i8, i16), (u32, u64))>()),
         "(bool,)" => Some(call.of::<(bool,)>()),
+        "Many" => Some(call.of::<Many>()),
         _ => for_short_tuple(call, name),
     }
 }

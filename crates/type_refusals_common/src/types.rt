@@ -29,6 +29,23 @@ pub type TooLong = [u8; 4294967296];
 /// A box in a box, whose identity is that of the inner box.
 pub type Boxes = Box<Box<u8>>;
 
+/// A type, and arrays of it.
+type Arrays<T> = (
+    T,
+    [T; 1],
+    [T; 2],
+    [T; 3],
+    [T; 4],
+    [T; 5],
+    [T; 6],
+    [T; 7],
+    [T; 8],
+    [T; 9],
+);
+
+/// So many types that the cache of their numbers grows twice.
+pub type Many = (Arrays<u8>, Arrays<bool>, Arrays<u32>, Arrays<u64>);
+
 /// Makes the type of a name.
 #[derive(Drop)]
 struct MetaTypeOf {
@@ -255,7 +272,34 @@ pub fn catalogue_of(alloc: Global, names: &str) -> Result<Catalogue, CatalogueEr
     Ok(known)
 }
 
+/// Adds arrays of a type, and their tuple.
+fn add_arrays<T: TypeInfo>(catalogue: &mut Catalogue) -> Result<(), CatalogueError> {
+    catalogue.add::<[T; 1]>()?;
+    catalogue.add::<[T; 2]>()?;
+    catalogue.add::<[T; 3]>()?;
+    catalogue.add::<[T; 4]>()?;
+    catalogue.add::<[T; 5]>()?;
+    catalogue.add::<[T; 6]>()?;
+    catalogue.add::<[T; 7]>()?;
+    catalogue.add::<[T; 8]>()?;
+    catalogue.add::<[T; 9]>()?;
+    catalogue.add::<Arrays<T>>()?;
+    Ok(())
+}
+
+/// Adds many types.
+fn add_many(catalogue: &mut Catalogue) -> Result<(), CatalogueError> {
+    add_arrays::<u8>(catalogue)?;
+    add_arrays::<bool>(catalogue)?;
+    add_arrays::<u32>(catalogue)?;
+    add_arrays::<u64>(catalogue)?;
+    catalogue.add::<Many>()?;
+    Ok(())
+}
+
 /// The catalogue of all types here.
 pub fn catalogue(alloc: Global) -> Result<Catalogue, CatalogueError> {
-    catalogue_of(alloc, ALL)
+    let mut known = catalogue_of(alloc, ALL)?;
+    add_many(&mut known)?;
+    Ok(known)
 }

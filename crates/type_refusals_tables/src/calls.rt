@@ -1,6 +1,7 @@
 //! The calls of this library, by their names.
 use crate::{
-    builders, bytes, conversions, interners, json, looks, prunings, registrations, values,
+    builders, bytes, conversions, discoveries, interners, json, looks, prunings, registrations,
+    values,
 };
 use scale_info::meta_type::Catalogue;
 use std::test::Fail;
@@ -51,6 +52,7 @@ fn call_of_registries(rt: &HostRuntime, name: &str, input: &str) -> Option<Resul
         "register_type" => registrations::register_type(rt, input),
         "register_types" => registrations::register_types(rt, input),
         "register_all" => registrations::register_all(rt, input),
+        "discover" => discoveries::discover_type(rt, input),
         "map_into_portable" => registrations::map_into_portable(rt, input),
         "from_registry" => registrations::from_registry(rt, input),
         "from_finished" => registrations::from_finished(rt, input),
@@ -73,6 +75,7 @@ fn call_of_looks(rt: &HostRuntime, name: &str, input: &str) -> Option<Result<Out
     let outcome = match name {
         "register_known_type" => registrations::register_known_type(rt, input),
         "PortableRegistryBuilder::register_known_type" => builders::register_known_type(rt, input),
+        "truncate_numbers" => interners::truncate_numbers(rt, input),
         "look_at_builder" => builders::look(rt, input),
         "look_at_table" => looks::look(rt, input),
         "compare_tables" => looks::compare(rt, input),

@@ -1,9 +1,9 @@
-//! Interners that are full enough for one more element to split a chunk of their order.
+//! Interners of so many elements that their order has chunks, which are split and joined.
 use scale_info::Text;
 use scale_info::interner::{InternError, Interner};
 use std::alloc::{AllocError, Global};
 use std::test::Fail;
-use type_refusals_common::answers::shown;
+use type_refusals_common::answers::{done, shown};
 use type_refusals_common::marks::{begin, end};
 use type_refusals_common::outcomes::Outcome;
 
@@ -29,6 +29,19 @@ fn state_of_numbers(alloc: Global, texts: &Interner<Text>) -> Result<String, All
         same = same.saturating_add((digits_of(alloc, index)? == *element) as usize);
     }
     format!(in alloc; "{} {same}", elements.len())
+}
+
+/// Cuts the interner of the digits of so many numbers back to so many: two numbers in a text.
+pub fn truncate_numbers(rt: &HostRuntime, counts: &str) -> Result<Outcome, Fail> {
+    let (count, kept) = counts.split_once(' ').unwrap_or((counts, "0"));
+    let (count, kept): (usize, usize) = (count.parse()?, kept.parse()?);
+    let mut texts = first_numbers(rt.alloc(), count)?;
+    let before = state_of_numbers(rt.alloc(), &texts);
+    begin(rt);
+    texts.truncate(kept);
+    end(rt);
+    let after = state_of_numbers(rt.alloc(), &texts);
+    Outcome::lending(before, after, done(format!(in rt.alloc(); "truncated")))
 }
 
 /// Interns one more number's digits after those of so many.

@@ -5,6 +5,7 @@ pub mod builders;
 pub mod bytes;
 pub mod calls;
 pub mod conversions;
+pub mod discoveries;
 pub mod interners;
 pub mod json;
 pub mod looks;

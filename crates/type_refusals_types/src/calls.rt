@@ -1,5 +1,5 @@
 //! The calls of this library, by their names.
-use crate::{catalogues, conversions, discoveries, errors, identities, registrations};
+use crate::{catalogues, conversions, errors, identities, registrations};
 use std::test::Fail;
 use type_refusals_common::outcomes::Outcome;
 
@@ -30,7 +30,6 @@ fn call_of_registrations(
             registrations::register(rt, name, input)
         }
         "register_nested" => registrations::register_nested(rt),
-        "discover" => discoveries::types(rt, input),
         "leave" => conversions::value(rt, input),
         "error" => errors::error(rt, input),
         _ => return None,

@@ -5,7 +5,6 @@
 pub mod calls;
 pub mod catalogues;
 pub mod conversions;
-pub mod discoveries;
 pub mod errors;
 pub mod identities;
 pub mod nested;

@@ -7,8 +7,7 @@ ghost use Rattle.scale_info_numberings.specs.Numberings.{AreDistinct};
 ghost use Rattle.scale_info_tables.specs.BuiltTables.{IsUnregistered, numbered_from};
 
 use super::PortableRegistry;
-use super::entries::push_entry;
-use scale_info_collections::items::Items;
+use super::entries::copies_of;
 use scale_info_collections::try_clone::TryClone;
 use scale_info_identities::interner::{InternError, Interner};
 use scale_info_types::form::PortableForm;
@@ -101,34 +100,9 @@ impl PortableRegistryBuilder {
         ensures { IfOk result (λ table. table.types ≡ numbered_from 0 self.now) }
     {
         Ok(PortableRegistry {
-            types: numbered(alloc, self.types.elements())?,
+            types: copies_of(alloc, self.types.elements())?,
         })
     }
-}
-
-/// Copies of descriptions as the entries of a table.
-fn numbered(alloc: Global, types: &[Type<PortableForm>]) -> Result<Items<PortableType>, AllocError>
-    requires { length types.now ≤ 4294967295 }
-    ensures { IfOk result (λ entries. entries ≡ numbered_from 0 types.now) }
-{
-    let mut entries = Items::with_capacity(alloc, types.len())?;
-    for ty in types {
-        push_copy(alloc, ty, &mut entries)?;
-    }
-    Ok(entries)
-}
-
-/// Appends a copy of a description, with its index as its id.
-fn push_copy(
-    alloc: Global,
-    ty: &Type<PortableForm>,
-    entries: &mut Items<PortableType>,
-) -> Result<(), AllocError>
-    requires { length entries.old ≤ 4294967295 }
-    ensures { OnOk result (entries.new
-        ≡ entries.old ++ numbered_from (length entries.old) (ty.now ∷ [])) }
-{
-    push_entry(ty.try_clone(alloc)?, entries)
 }
 
 /// The number of a value in an interner, where it goes last if it is new.

@@ -4,6 +4,7 @@ ghost use Rattle.std.specs.Prelude.{◌≡◌, ◌≤◌, ◌++◌, ◌∷◌, [
 ghost use Rattle.scale_info_tables.specs.BuiltTables.{numbered_from};
 
 use scale_info_collections::items::Items;
+use scale_info_collections::try_clone::TryClone;
 use scale_info_types::form::PortableForm;
 use scale_info_types::ty::{PortableType, Type};
 use std::alloc::{AllocError, Global};
@@ -68,11 +69,36 @@ pub(super) fn of_descriptions(
     Ok(entries)
 }
 
-/// Appends a description, with its index as its id.
-pub(super) fn push_entry(
-    ty: Type<PortableForm>,
+/// Copies of descriptions as the entries of a table.
+pub(super) fn copies_of(
+    alloc: Global,
+    types: &[Type<PortableForm>],
+) -> Result<Items<PortableType>, AllocError>
+    requires { length types.now ≤ 4294967295 }
+    ensures { IfOk result (λ entries. entries ≡ numbered_from 0 types.now) }
+{
+    let mut entries = Items::with_capacity(alloc, types.len())?;
+    for ty in types {
+        push_copy(alloc, ty, &mut entries)?;
+    }
+    Ok(entries)
+}
+
+/// Appends a copy of a description, with its index as its id.
+fn push_copy(
+    alloc: Global,
+    ty: &Type<PortableForm>,
     entries: &mut Items<PortableType>,
 ) -> Result<(), AllocError>
+    requires { length entries.old ≤ 4294967295 }
+    ensures { OnOk result (entries.new
+        ≡ entries.old ++ numbered_from (length entries.old) (ty.now ∷ [])) }
+{
+    push_entry(ty.try_clone(alloc)?, entries)
+}
+
+/// Appends a description, with its index as its id.
+fn push_entry(ty: Type<PortableForm>, entries: &mut Items<PortableType>) -> Result<(), AllocError>
     requires { length entries.old ≤ 4294967295 }
     ensures { OnOk result (entries.new
         ≡ entries.old ++ numbered_from (length entries.old) (ty ∷ [])) }

@@ -1,0 +1,24 @@
+use Rattle.scale_info_bytes.proofs.Errors.{passed_malformed}
+use Rattle.scale_info_bytes.proofs.Steps.{no_prefix_through}
+use Rattle.scale_info_bytes.specs.Parts.{EncodesList}
+use Rattle.scale_info_codec.specs.Ty.{EncodesField}
+use Rattle.scale_info_json.specs.Definitions.{composite_rows}
+use Rattle.scale_info_transcode.proofs.Objects.{one_row, whole_object}
+use Rattle.scale_info_types.specs.Portable as portable
+use Rattle.scale_info_transcode.proofs.definition_text.TypeDefCompositePortableFormTranscode.transcode.Goals as goal
+
+pub returns-in_err-rest-clause-malformed : goal.returns-in_err-rest-clause-malformed
+returns-in_err-rest-clause-malformed c =
+    passed_malformed c.from_residual-in_err-rest.result c.in_err-rest.field-0.0
+    c.from_residual-in_err-rest.ensures.1 (λ n. no_prefix_through (λ v. v.fields) n)
+    c.in_err-rest.ensures.malformed
+
+pub returns : goal.returns
+returns c =
+    let fields = c.in_ok-rest.ensures.ok in
+    let composite : portable.TypeDefComposite = record { fields = fields.value } in
+    let object =
+    whole_object (λ v b. EncodesList EncodesField v.fields b) composite_rows composite
+    fields.read c.in_ok-begin_object.ensures (one_row fields.appends)
+    c.in_ok-end_object.ensures in
+    record { before = object.before; ok = object.ok; malformed = tt }
