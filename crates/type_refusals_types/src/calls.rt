@@ -1,5 +1,5 @@
 //! The calls of this library, by their names.
-use crate::{catalogues, conversions, errors, identities, registrations};
+use crate::{catalogues, conversions, errors, identities, registrations, surface};
 use std::test::Fail;
 use type_refusals_common::outcomes::Outcome;
 
@@ -32,6 +32,7 @@ fn call_of_registrations(
         "register_nested" => registrations::register_nested(rt),
         "leave" => conversions::value(rt, input),
         "error" => errors::error(rt, input),
+        "look_at_public_items" => surface::items(rt),
         _ => return None,
     };
     Some(outcome)

@@ -1,6 +1,4 @@
 //! The public items, each by its path at `scale_info`.
-use crate::asserts::holds;
-use crate::asserts::is;
 use scale_info::DecodeError;
 use scale_info::EncodeError;
 use scale_info::Field;
@@ -226,11 +224,12 @@ use scale_info::walk::Refs;
 use scale_info::walk::RetainError;
 use scale_info::walk::number;
 use scale_info::walk::number_recursive;
-use std::alloc::Global;
-use std::process::Abort;
+use std::alloc::{AllocError, Global};
 use std::test::Fail;
+use type_refusals_common::answers::done;
+use type_refusals_common::marks::{begin, end};
+use type_refusals_common::outcomes::Outcome;
 use type_vectors_common::encodings::encoding;
-use type_vectors_common::rows::row_bytes;
 
 /// The items of the root, each in the place of a type.
 type Root = (
@@ -457,39 +456,42 @@ fn table_of_u8(alloc: Global) -> Result<(u32, PortableRegistry), Fail> {
     Ok((id, builder.finish(alloc)?))
 }
 
-/// Asserts that the type with this id is the only one of the table, and has no path.
-fn has_one_entry(rt: &impl Abort, id: u32, table: &PortableRegistry) {
-    assert!(rt; table.is_closed() && table.len() == 1 && !table.is_empty());
-    for (index, ty) in table.entries() {
-        assert_eq!(rt; index, id);
-        assert!(rt; ty.path.is_empty() && is_rust_identifier("u8"));
+/// The ids of a table's entries, and whether each has a path.
+fn entries_of(alloc: Global, table: &PortableRegistry) -> Result<String, AllocError> {
+    let mut text = String::new(alloc);
+    for (id, ty) in table.entries() {
+        let has_path = !ty.path.is_empty();
+        write!(text, "{id} {has_path} ")?;
     }
+    Ok(text)
 }
 
-/// The bytes of the table of `u8`, twice, and of a table without entries.
-const TWICE: &str = "04 000000050300 04 000000050300 00";
-
-/// Asserts that the functions that append write these bytes.
-fn is_written_twice(rt: &impl Abort, alloc: Global, bytes: &[u8]) -> Result<(), Fail> {
-    let wanted = row_bytes(alloc, TWICE)?;
-    is(rt, "twice", &appended(alloc, bytes)?, &wanted);
-    Ok(())
-}
-
-/// Asserts that the table of `u8` is written twice, and its text in two ways.
-fn is_appended(rt: &impl Abort, alloc: Global, table: &PortableRegistry) -> Result<(), Fail> {
+/// What the calls that append write of a table in turn, and whether its JSON is one text.
+fn written(alloc: Global, table: &PortableRegistry) -> Result<String, Fail> {
     let same = read_back(alloc, table)?;
     let bytes = encoding(alloc, &same)?;
-    holds(rt, "one text", is_written_alike(alloc, &same, &bytes)?);
-    is_written_twice(rt, alloc, &bytes)
+    let is_one_text = is_written_alike(alloc, &same, &bytes)?;
+    let digits = hex::encode(alloc, appended(alloc, &bytes)?.as_slice())?;
+    Ok(format!(in alloc; "{digits} {is_one_text}")?)
 }
 
-#[test]
-fn public_items_are_offered_at_scale_info(rt: HostRuntime) -> Result<(), Fail> {
+/// What a table returns and what is written of it.
+fn shown(alloc: Global, id: u32, table: &PortableRegistry) -> Result<String, Fail> {
+    let (len, is_empty, is_closed) = (table.len(), table.is_empty(), table.is_closed());
+    let entries = entries_of(alloc, table)?;
+    let written = written(alloc, table)?;
+    Ok(format!(in alloc; "{id} {len} {is_empty} {is_closed} {entries}{written}")?)
+}
+
+/// Names the public items, calls the functions among them, and shows the table of `u8`.
+pub fn items(rt: &HostRuntime) -> Result<Outcome, Fail> {
     is_offered::<u32, PortableForm>(&7, None);
     is_described(&7);
+    begin(rt);
+    let is_identifier = is_rust_identifier("u8");
+    end(rt);
     let (id, table) = table_of_u8(rt.alloc())?;
-    has_one_entry(&rt, id, &table);
-    is_appended(&rt, rt.alloc(), &table)?;
-    functions_are_offered(rt.alloc(), &table)
+    functions_are_offered(rt.alloc(), &table)?;
+    let shown = shown(rt.alloc(), id, &table)?;
+    Outcome::of(done(format!(in rt.alloc(); "{is_identifier} {shown}")))
 }
