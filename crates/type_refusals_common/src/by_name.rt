@@ -255,8 +255,12 @@ fn for_long_tuple<V: Described>(call: V, name: &str) -> Option<V::Returned> {
         "tuple of 16" => Some(call.of::<(A, B, C, D, E, F, G, H, I, J, K, L, M, N, O, P)>()),
         "tuple of 17" => Some(call.of::<(A, B, C, D, E, F, G, H, I, J, K, L, M, N, O, P, Q)>()),
         "tuple of 18" => Some(call.of::<(A, B, C, D, E, F, G, H, I, J, K, L, M, N, O, P, Q, R)>()),
-        "tuple of 19" => Some(call.of::<(A, B, C, D, E, F, G, H, I, J, K, L, M, N, O, P, Q, R, S)>()),
-        "tuple of 20" => Some(call.of::<(A, B, C, D, E, F, G, H, I, J, K, L, M, N, O, P, Q, R, S, T)>()),
+        "tuple of 19" => Some(call.of::<
+            (A, B, C, D, E, F, G, H, I, J, K, L, M, N, O, P, Q, R, S),
+        >()),
+        "tuple of 20" => Some(call.of::<
+            (A, B, C, D, E, F, G, H, I, J, K, L, M, N, O, P, Q, R, S, T),
+        >()),
         _ => None,
     }
 }

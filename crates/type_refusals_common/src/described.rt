@@ -4,9 +4,7 @@ use crate::parts::{begun, composite, enumeration, named, variant};
 use crate::types::parameters;
 use scale_info::impls::meta_type;
 use scale_info::meta_type::HasIdentity;
-use scale_info::{
-    Field, Type, TypeDefComposite, TypeDefPrimitive, TypeDefVariant, Variant,
-};
+use scale_info::{Field, Type, TypeDefComposite, TypeDefPrimitive, TypeDefVariant, Variant};
 use std::alloc::{AllocError, Global};
 use type_vectors_common::lists::{list_of, with};
 

@@ -254,11 +254,7 @@ fn add_named(alloc: Global, known: &mut Catalogue, name: &str) -> Result<bool, C
 }
 
 /// Adds the types of these names, with ` | ` between two.
-pub fn add_all(
-    alloc: Global,
-    known: &mut Catalogue,
-    names: &str,
-) -> Result<(), CatalogueError> {
+pub fn add_all(alloc: Global, known: &mut Catalogue, names: &str) -> Result<(), CatalogueError> {
     for name in names.split(" | ") {
         add_named(alloc, known, name)?;
     }

@@ -15,11 +15,7 @@ use type_vectors_common::rows::parted;
 const FOUR: &str = "[Hello] [, World!] [] [1 2 3]";
 
 /// Interns texts in order, and appends of each whether it is new, and its number.
-fn intern_all(
-    alloc: Global,
-    texts: &mut Interner<Text>,
-    row: &str,
-) -> Result<String, InternError> {
+fn intern_all(alloc: Global, texts: &mut Interner<Text>, row: &str) -> Result<String, InternError> {
     let mut numbers = String::new(alloc);
     for chars in bracketed(alloc, row)? {
         let (is_new, symbol) = texts.intern_or_get(text(alloc, chars)?)?;

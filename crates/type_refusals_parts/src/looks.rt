@@ -34,7 +34,10 @@ impl Asked for Path<PortableForm> {
     fn push_parts(&self, text: &mut String) -> Result<(), AllocError> {
         let (segments, modules) = (self.segments(), self.namespace());
         let is_empty = self.is_empty();
-        write!(text, "{segments:?} {modules:?} {is_empty} {self} {self:*>40} {self:5.2}")
+        write!(
+            text,
+            "{segments:?} {modules:?} {is_empty} {self} {self:*>40} {self:5.2}"
+        )
     }
 }
 

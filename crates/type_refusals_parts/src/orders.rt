@@ -1,4 +1,4 @@
-//! Values in order, of which each is compared with all. Rows give their encodings, each with a name.
+//! Values in order, of which each is compared with all. Rows give encodings, each after a name.
 //!
 //! Fields are compared in the order of their declaration: lists lexicographically, None before
 //! Some, variants of an enum as declared, texts by their bytes.
@@ -38,10 +38,7 @@ fn push_signs<T: Ord>(signs: &mut String, values: &[T]) -> Result<(), AllocError
 }
 
 /// Compares each value with all.
-fn compare<T: Ord + Drop>(
-    rt: &HostRuntime,
-    values: Result<Vec<T>, Fail>,
-) -> Result<Outcome, Fail> {
+fn compare<T: Ord + Drop>(rt: &HostRuntime, values: Result<Vec<T>, Fail>) -> Result<Outcome, Fail> {
     let values = values?;
     let words = values.len().saturating_mul(values.len().saturating_add(1));
     let mut signs = String::with_capacity(rt.alloc(), words)?;

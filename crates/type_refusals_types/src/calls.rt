@@ -6,8 +6,13 @@ use type_refusals_common::outcomes::Outcome;
 /// Makes the call of this name; None if there is none.
 pub fn call(rt: &HostRuntime, name: &str, input: &str) -> Option<Result<Outcome, Fail>> {
     let outcome = match name {
-        "type_id" | "type_info" | "describe" | "MetaType::new" | "meta_type"
-        | "TypeDefSequence::of" | "Catalogue::add" => identities::call(rt, name, input),
+        "type_id"
+        | "type_info"
+        | "describe"
+        | "MetaType::new"
+        | "meta_type"
+        | "TypeDefSequence::of"
+        | "Catalogue::add" => identities::call(rt, name, input),
         "add_described_otherwise" => catalogues::add_described_otherwise(rt),
         "add_described" => catalogues::add_described(rt, input),
         "add_first_described" => catalogues::add_first_described(rt, input),

@@ -2,8 +2,9 @@
 use crate::registrations::{Given, read, state};
 use scale_info::meta_type::HasIdentity;
 use scale_info::{
-    Field, IntoPortable, MetaType, Scale, TypeDef, TypeDefArray, TypeDefBitSequence, TypeDefCompact,
-    TypeDefComposite, TypeDefMap, TypeDefSequence, TypeDefTuple, TypeDefVariant, TypeParameter, Variant,
+    Field, IntoPortable, MetaType, Scale, TypeDef, TypeDefArray, TypeDefBitSequence,
+    TypeDefCompact, TypeDefComposite, TypeDefMap, TypeDefSequence, TypeDefTuple, TypeDefVariant,
+    TypeParameter, Variant,
 };
 use std::alloc::{AllocError, Global};
 use std::test::Fail;
@@ -78,17 +79,10 @@ impl Known for BitsInOrder {
 }
 
 /// Converts a definition of this kind, with `u8` where it has two types.
-fn definition(
-    rt: &HostRuntime,
-    given: Given,
-    kind: &str,
-    ty: MetaType,
-) -> Result<Outcome, Fail> {
+fn definition(rt: &HostRuntime, given: Given, kind: &str, ty: MetaType) -> Result<Outcome, Fail> {
     let alloc = rt.alloc();
     match kind {
-        "a definition" => {
-            convert(rt, given, Ok(TypeDef::from(TypeDefSequence::new(ty))))
-        }
+        "a definition" => { convert(rt, given, Ok(TypeDef::from(TypeDefSequence::new(ty)))) }
         "a sequence" => convert(rt, given, Ok(TypeDefSequence::new(ty))),
         "an array" => convert(rt, given, Ok(TypeDefArray::new(32, ty))),
         "a compact" => convert(rt, given, Ok(TypeDefCompact::new(ty))),

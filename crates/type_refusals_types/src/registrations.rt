@@ -136,9 +136,7 @@ fn register_type(rt: &HostRuntime, given: Given, ty: &MetaType) -> Result<Outcom
 pub fn register(rt: &HostRuntime, call: &str, row: &str) -> Result<Outcome, Fail> {
     let (given, names) = read(rt.alloc(), row)?;
     match call {
-        "Registry::register_types" => {
-            register_types(rt, given, types_named(rt.alloc(), names)?)
-        }
+        "Registry::register_types" => { register_types(rt, given, types_named(rt.alloc(), names)?) }
         "Registry::register_all" => register_all(rt, given, &types_named(rt.alloc(), names)?),
         _ => register_type(rt, given, &type_named(rt.alloc(), names)?),
     }
@@ -148,5 +146,9 @@ pub fn register(rt: &HostRuntime, call: &str, row: &str) -> Result<Outcome, Fail
 pub fn register_nested(rt: &HostRuntime) -> Result<Outcome, Fail> {
     let registry = Registry::new(rt.alloc());
     let known = nested::catalogue(rt.alloc())?;
-    register_types(rt, Given { registry, known }, nested::outermost(rt.alloc())?)
+    register_types(
+        rt,
+        Given { registry, known },
+        nested::outermost(rt.alloc())?,
+    )
 }

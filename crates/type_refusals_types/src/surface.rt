@@ -224,10 +224,12 @@ use scale_info::walk::Refs;
 use scale_info::walk::RetainError;
 use scale_info::walk::number;
 use scale_info::walk::number_recursive;
-use std::alloc::{AllocError, Global};
+use std::alloc::AllocError;
+use std::alloc::Global;
 use std::test::Fail;
 use type_refusals_common::answers::done;
-use type_refusals_common::marks::{begin, end};
+use type_refusals_common::marks::begin;
+use type_refusals_common::marks::end;
 use type_refusals_common::outcomes::Outcome;
 use type_vectors_common::encodings::encoding;
 
