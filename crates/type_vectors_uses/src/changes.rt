@@ -1,5 +1,5 @@
-//! Tables that are cut or go on, and every change of one byte of a table of each kind of definition,
-//! under each command.
+//! Tables that are cut or go on, and every change of one byte of a table of each kind of
+//! definition, under each command.
 use crate::asserts::is;
 use crate::runs::{expected, refused, run_over};
 use std::alloc::Global;
