@@ -28,14 +28,6 @@ fn chain_bytes(alloc: Global, count: u32, end: Option<u32>) -> Result<Vec<u8>, F
     into_encoding(alloc, chain(alloc, count, last(end))?)
 }
 
-#[test]
-fn a_chain_has_a_known_length(rt: HostRuntime) -> Result<(), Fail> {
-    let bytes = chain_bytes(rt.alloc(), 100000, None)?;
-    is(&rt, "length", bytes.len(), 1134340);
-    holds(&rt, "count", bytes.starts_with(&[0x82, 0x1a, 0x06, 0x00]));
-    Ok(())
-}
-
 /// What is kept of a chain of 100000 types.
 #[derive(Drop)]
 struct Kept {
@@ -101,14 +93,6 @@ fn takes(rt: &impl Abort, alloc: Global, kept: &Kept) -> Result<(), Fail> {
     Ok(())
 }
 
-#[test]
-fn walks_take_a_step_for_each_reference(rt: HostRuntime) -> Result<(), Fail> {
-    for kept in &KEPT {
-        takes(&rt, rt.alloc(), kept)?;
-    }
-    Ok(())
-}
-
 /// Asserts that so many ids begin at the chosen one, and end at the last one.
 fn are_new_ids(rt: &impl Abort, new_ids: &BTreeMap<u32, u32>, kept: &Kept) {
     is(rt, "ids", new_ids.len(), kept.count as usize);
@@ -131,14 +115,6 @@ fn prunes(rt: &impl Abort, alloc: Global, kept: &Kept) -> Result<(), Fail> {
     Ok(())
 }
 
-#[test]
-fn a_chain_is_pruned_from_each_root(rt: HostRuntime) -> Result<(), Fail> {
-    for kept in &KEPT {
-        prunes(&rt, rt.alloc(), kept)?;
-    }
-    Ok(())
-}
-
 /// Asserts that `retain` leaves the chain of what is kept.
 fn retains(rt: &impl Abort, alloc: Global, kept: &Kept) -> Result<(), Fail> {
     let mut table = chain(alloc, 100000, last(kept.end))?;
@@ -150,8 +126,10 @@ fn retains(rt: &impl Abort, alloc: Global, kept: &Kept) -> Result<(), Fail> {
 }
 
 #[test]
-fn a_chain_is_retained_from_each_root(rt: HostRuntime) -> Result<(), Fail> {
+fn a_chain_is_walked_and_kept_from_each_root(rt: HostRuntime) -> Result<(), Fail> {
     for kept in &KEPT {
+        takes(&rt, rt.alloc(), kept)?;
+        prunes(&rt, rt.alloc(), kept)?;
         retains(&rt, rt.alloc(), kept)?;
     }
     Ok(())
@@ -243,17 +221,9 @@ fn is_read(rt: &impl Abort, alloc: Global, end: Option<u32>) -> Result<(), Fail>
 }
 
 #[test]
-fn the_program_reads_a_chain(rt: HostRuntime) -> Result<(), Fail> {
-    is_read(&rt, rt.alloc(), None)
-}
-
-#[test]
-fn the_program_reads_a_cycle(rt: HostRuntime) -> Result<(), Fail> {
-    is_read(&rt, rt.alloc(), Some(0))
-}
-
-#[test]
-fn the_program_reads_a_chain_that_leads_nowhere(rt: HostRuntime) -> Result<(), Fail> {
+fn the_program_reads_chains_to_bool_in_a_cycle_and_to_nowhere(rt: HostRuntime) -> Result<(), Fail> {
+    is_read(&rt, rt.alloc(), None)?;
+    is_read(&rt, rt.alloc(), Some(0))?;
     is_read(&rt, rt.alloc(), Some(100000))
 }
 
@@ -275,19 +245,22 @@ fn registers_a_chain(
     Ok(())
 }
 
+/// The encoding of the chain that is registered twice.
+fn registered_twice(rt: &impl Abort, alloc: Global) -> Result<Vec<u8>, Fail> {
+    let mut builder = PortableRegistryBuilder::new(alloc);
+    registers_a_chain(rt, alloc, &mut builder)?;
+    registers_a_chain(rt, alloc, &mut builder)?;
+    is(rt, "next id", builder.next_type_id(), 100000);
+    into_encoding(alloc, builder.finish(alloc)?)
+}
+
 /// The test's limit of 60 seconds alone bounds the time, which one comparison with each earlier
 /// description at each call would not keep.
 #[test]
 fn a_hundred_thousand_descriptions_are_registered_twice(rt: HostRuntime) -> Result<(), Fail> {
-    let mut builder = PortableRegistryBuilder::new(rt.alloc());
-    registers_a_chain(&rt, rt.alloc(), &mut builder)?;
-    registers_a_chain(&rt, rt.alloc(), &mut builder)?;
-    is(&rt, "next id", builder.next_type_id(), 100000);
-    let found = into_encoding(rt.alloc(), builder.finish(rt.alloc())?)?;
-    holds(
-        &rt,
-        "chain",
-        found == chain_bytes(rt.alloc(), 100000, None)?,
-    );
+    let bytes = chain_bytes(rt.alloc(), 100000, None)?;
+    is(&rt, "length", bytes.len(), 1134340);
+    holds(&rt, "count", bytes.starts_with(&[0x82, 0x1a, 0x06, 0x00]));
+    holds(&rt, "chain", registered_twice(&rt, rt.alloc())? == bytes);
     Ok(())
 }

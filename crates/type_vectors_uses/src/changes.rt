@@ -1,5 +1,5 @@
-//! Tables that are cut or go on, and every change of one byte of a table of each kind of definition,
-//! under each command.
+//! Tables that are cut or go on, and every change of one byte of a table of each kind of
+//! definition, under each command.
 use crate::asserts::is;
 use crate::runs::{expected, refused, run_over};
 use std::alloc::Global;
@@ -32,29 +32,23 @@ fn agrees_at(
     Ok(())
 }
 
-/// Asserts so of each byte.
-fn agrees(rt: &impl Abort, alloc: Global, words: &str) -> Result<(), Fail> {
-    let table = row_bytes(alloc, MIXED)?;
-    is(rt, "bytes", table.len(), 312);
-    for index in 0..table.len() {
-        agrees_at(rt, alloc, words, &table, index)?;
+/// The commands over each change.
+const OVER_CHANGES: &str = "\
+check
+prune 17 1 9
+json
+";
+
+#[test]
+fn each_command_does_with_each_change_what_decoding_does(rt: HostRuntime) -> Result<(), Fail> {
+    let table = row_bytes(rt.alloc(), MIXED)?;
+    is(&rt, "bytes", table.len(), 312);
+    for words in OVER_CHANGES.lines() {
+        for index in 0..table.len() {
+            agrees_at(&rt, rt.alloc(), words, &table, index)?;
+        }
     }
     Ok(())
-}
-
-#[test]
-fn prune_does_with_each_change_what_retain_does(rt: HostRuntime) -> Result<(), Fail> {
-    agrees(&rt, rt.alloc(), "prune 17 1 9")
-}
-
-#[test]
-fn json_writes_of_each_change_what_its_tree_says(rt: HostRuntime) -> Result<(), Fail> {
-    agrees(&rt, rt.alloc(), "json")
-}
-
-#[test]
-fn check_writes_of_each_change_what_encodes_it(rt: HostRuntime) -> Result<(), Fail> {
-    agrees(&rt, rt.alloc(), "check")
 }
 
 /// The commands, a line for each.

@@ -27,15 +27,6 @@ fn reads_fail(rt: &impl Abort, alloc: Global, words: &str, input: &[u8]) -> Resu
     Ok(())
 }
 
-#[test]
-fn failing_reads_are_reported(rt: HostRuntime) -> Result<(), Fail> {
-    let input = row_bytes(rt.alloc(), MIXED)?;
-    for words in COMMANDS.lines() {
-        reads_fail(&rt, rt.alloc(), words, &input)?;
-    }
-    Ok(())
-}
-
 /// Asserts that a writer with this much room gets as much of the output, and that the status and
 /// the line are these.
 fn ends_so(
@@ -67,9 +58,10 @@ fn writes_fail(rt: &impl Abort, alloc: Global, words: &str, input: &[u8]) -> Res
 }
 
 #[test]
-fn failing_writes_are_reported(rt: HostRuntime) -> Result<(), Fail> {
+fn failing_reads_and_writes_are_reported(rt: HostRuntime) -> Result<(), Fail> {
     let input = row_bytes(rt.alloc(), MIXED)?;
     for words in COMMANDS.lines() {
+        reads_fail(&rt, rt.alloc(), words, &input)?;
         writes_fail(&rt, rt.alloc(), words, &input)?;
     }
     Ok(())
