@@ -62,6 +62,9 @@ type S = NonZeroI16;
 
 type T = NonZeroI32;
 
+/// A tuple of twenty members.
+pub type Twenty = (A, B, C, D, E, F, G, H, I, J, K, L, M, N, O, P, Q, R, S, T);
+
 /// A call that is made for a type with a description.
 pub trait Described: Drop {
     /// What it returns.
@@ -258,9 +261,7 @@ fn for_long_tuple<V: Described>(call: V, name: &str) -> Option<V::Returned> {
         "tuple of 19" => Some(call.of::<
             (A, B, C, D, E, F, G, H, I, J, K, L, M, N, O, P, Q, R, S),
         >()),
-        "tuple of 20" => Some(call.of::<
-            (A, B, C, D, E, F, G, H, I, J, K, L, M, N, O, P, Q, R, S, T),
-        >()),
+        "tuple of 20" => Some(call.of::<Twenty>()),
         _ => None,
     }
 }

@@ -1,16 +1,19 @@
 //! Types by their names, what they are described as, and a catalogue of them.
-use crate::by_name::{Described, Known, for_known_type, for_type, found};
+use crate::by_name::{Described, Known, Twenty, for_known_type, for_type, found};
 use crate::described::described;
 use crate::own::{Missing, Recursive};
-use scale_info::impls::meta_type;
+use scale_info::impls::{Compact, meta_type};
 use scale_info::meta_type::{Catalogue, CatalogueError, HasIdentity, Identified};
 use scale_info::{
     Field, MetaType, Path, Type, TypeDef, TypeDefBitSequence, TypeDefComposite, TypeDefMap,
     TypeDefVariant, TypeId, TypeInfo, TypeParameter, Variant,
 };
 use std::alloc::{AllocError, Global};
+use std::collections::{BTreeSet, VecDeque};
 use std::marker::PhantomData;
+use std::ops::{Range, RangeInclusive};
 use std::test::Fail;
+use std::time::Duration;
 use type_vectors_common::lists::{list_of, with};
 use type_vectors_common::results::both;
 
@@ -29,22 +32,26 @@ pub type TooLong = [u8; 4294967296];
 /// A box in a box, whose identity is that of the inner box.
 pub type Boxes = Box<Box<u8>>;
 
-/// A type, and arrays of it.
-type Arrays<T> = (
-    T,
-    [T; 1],
-    [T; 2],
-    [T; 3],
-    [T; 4],
-    [T; 5],
-    [T; 6],
-    [T; 7],
-    [T; 8],
-    [T; 9],
-);
-
 /// So many types that the cache of their numbers grows twice.
-pub type Many = (Arrays<u8>, Arrays<bool>, Arrays<u32>, Arrays<u64>);
+pub type Many = (
+    Twenty,
+    Vec<u32>,
+    [u8; 32],
+    [u32; 16],
+    Pair,
+    Triple,
+    Option<Pair>,
+    Compact<u32>,
+    Range<u8>,
+    RangeInclusive<u8>,
+    Duration,
+    String,
+    Result<bool, String>,
+    BTreeSet<String>,
+    VecDeque<String>,
+    Option<u8>,
+    Option<u128>,
+);
 
 /// Makes the type of a name.
 #[derive(Drop)]
@@ -216,7 +223,9 @@ bool | char | u8 | u16 | u32 | u64 | u128 | i8 | i16 | i32 | i64 | i128 | U256 |
 | Vec<u32> | [u8; 32] | [u32; 16] | (u32, bool) | (u32, [u8; 32], bool) | (u64, PhantomData<u8>) \
 | Option<(u32, bool)> | Compact<u32> | Range<u8> | Duration | Box<Box<u8>> | Recursive | Bits \
 | Mapping | Referring | A | B | C | D | P | Wide | EnumOfItself | References | Documented \
-| Fielded | Choice";
+| Fielded | Choice | NonZeroU8 | NonZeroU16 | NonZeroU32 | NonZeroU64 | NonZeroU128 | NonZeroI8 \
+| NonZeroI16 | NonZeroI32 | tuple of 20 | RangeInclusive<u8> | Result<bool, String> \
+| BTreeSet<String> | VecDeque<String> | Option<u8> | Option<u128> | Many";
 
 /// Adds a standard type with a name.
 #[derive(Drop)]
@@ -268,34 +277,7 @@ pub fn catalogue_of(alloc: Global, names: &str) -> Result<Catalogue, CatalogueEr
     Ok(known)
 }
 
-/// Adds arrays of a type, and their tuple.
-fn add_arrays<T: TypeInfo>(catalogue: &mut Catalogue) -> Result<(), CatalogueError> {
-    catalogue.add::<[T; 1]>()?;
-    catalogue.add::<[T; 2]>()?;
-    catalogue.add::<[T; 3]>()?;
-    catalogue.add::<[T; 4]>()?;
-    catalogue.add::<[T; 5]>()?;
-    catalogue.add::<[T; 6]>()?;
-    catalogue.add::<[T; 7]>()?;
-    catalogue.add::<[T; 8]>()?;
-    catalogue.add::<[T; 9]>()?;
-    catalogue.add::<Arrays<T>>()?;
-    Ok(())
-}
-
-/// Adds many types.
-fn add_many(catalogue: &mut Catalogue) -> Result<(), CatalogueError> {
-    add_arrays::<u8>(catalogue)?;
-    add_arrays::<bool>(catalogue)?;
-    add_arrays::<u32>(catalogue)?;
-    add_arrays::<u64>(catalogue)?;
-    catalogue.add::<Many>()?;
-    Ok(())
-}
-
 /// The catalogue of all types here.
 pub fn catalogue(alloc: Global) -> Result<Catalogue, CatalogueError> {
-    let mut known = catalogue_of(alloc, ALL)?;
-    add_many(&mut known)?;
-    Ok(known)
+    catalogue_of(alloc, ALL)
 }
