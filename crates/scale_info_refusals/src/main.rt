@@ -12,6 +12,7 @@ use type_refusals_build::calls as calls_of_builders;
 use type_refusals_common::outcomes::{Outcome, print};
 use type_refusals_parts::calls as calls_of_parts;
 use type_refusals_tables::calls as calls_of_tables;
+use type_refusals_types::calls as calls_of_types;
 
 /// Makes the call of this name over values and their bytes, or runs the program `type_table`; None
 /// if there is none.
@@ -31,6 +32,9 @@ fn outcome(rt: &HostRuntime, name: &str, input: &str) -> Result<Outcome, Fail> {
         return outcome;
     }
     if let Some(outcome) = calls_of_parts::call(rt, name, input) {
+        return outcome;
+    }
+    if let Some(outcome) = calls_of_types::call(rt, name, input) {
         return outcome;
     }
     if let Some(outcome) = calls_of_builders::call(rt, name, input) {

@@ -1,7 +1,8 @@
 //! The calls of this library, by their names.
-use crate::{constructors, descriptions, fields, lists, paths, variants};
+use crate::{constructors, descriptions, fields, lists, paths, structs, variants};
 use std::test::Fail;
 use type_refusals_common::outcomes::Outcome;
+use type_vectors_common::rows::parted;
 
 /// Makes the call of this name; None if there is none.
 pub fn call(rt: &HostRuntime, name: &str, input: &str) -> Option<Result<Outcome, Fail>> {
@@ -11,6 +12,9 @@ pub fn call(rt: &HostRuntime, name: &str, input: &str) -> Option<Result<Outcome,
         "TypeBuilder::docs" => descriptions::docs(rt),
         "list" => list(rt, input),
         "build_empty" => empty(rt, input),
+        "build_struct" => structs::generic(rt, input),
+        "build_enum" => structs::enumeration(rt, input),
+        "build_portable" => structs::portable(rt, input),
         _ => return call_of_constructors(rt, name, input),
     };
     Some(outcome)
@@ -27,8 +31,10 @@ fn call_of_constructors(
         "Type::new_portable" => constructors::portable_description(rt),
         "TypeDefComposite::new" => constructors::composite(rt),
         "TypeDefVariant::new" => constructors::variants(rt),
-        "TypeDefTuple::new" => constructors::tuple(rt),
-        "TypeDefTuple::new_portable" => constructors::portable_tuple(rt),
+        "TypeDefComposite::new_portable" => constructors::portable_composite(rt, input),
+        "TypeDefVariant::new_portable" => constructors::portable_variants(rt, input),
+        "TypeDefTuple::new" => constructors::tuple(rt, input),
+        "TypeDefTuple::new_portable" => constructors::portable_tuple(rt, input),
         "TypeDefBitSequence::new" => constructors::bit_sequence(rt, input),
         _ => return call_of_paths(rt, name, input),
     };
@@ -41,22 +47,22 @@ fn call_of_paths(rt: &HostRuntime, name: &str, input: &str) -> Option<Result<Out
         "Path::new" => paths::new(rt, input),
         "Path::new_with_replace" => paths::new_with_replace(rt, input),
         "Path::from_segments" => paths::from_segments(rt, input),
-        "Path::from_segments_unchecked" => paths::from_segments_unchecked(rt),
-        "Path::ident" => paths::ident(rt),
+        "Path::from_segments_unchecked" => paths::from_segments_unchecked(rt, input),
+        "Path::ident" => paths::ident(rt, input),
         _ => return None,
     };
     Some(outcome)
 }
 
-/// Adds a field of this kind, or gives it its type.
-fn field(rt: &HostRuntime, kind: &str) -> Result<Outcome, Fail> {
-    match kind {
-        "named" => fields::named(rt),
-        "unnamed" => fields::unnamed(rt),
+/// Adds or makes a field of this kind, for the type after it.
+fn field(rt: &HostRuntime, input: &str) -> Result<Outcome, Fail> {
+    match input {
         "portable named" => fields::portable_named(rt),
         "portable unnamed" => fields::portable_unnamed(rt),
-        "type" => fields::ty(rt),
-        _ => Err(Fail::new("no kind has this name")),
+        _ => {
+            let (kind, name) = parted(input, ' ')?;
+            fields::field(rt, kind, name)
+        }
     }
 }
 

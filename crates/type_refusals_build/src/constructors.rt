@@ -1,17 +1,21 @@
 //! Constructors that collect lists or make identities.
-use scale_info::form::PortableForm;
+use scale_info::form::{Form, PortableForm};
 use scale_info::{
-    MetaType, Type, TypeDefBitSequence, TypeDefComposite, TypeDefTuple, TypeDefVariant,
+    Type, TypeDef, TypeDefBitSequence, TypeDefComposite, TypeDefTuple, TypeDefVariant, TypeId,
+    UntrackedSymbol,
 };
+use std::alloc::{AllocError, Global};
 use std::test::Fail;
-use type_refusals_common::answers::{encoded, registered};
+use type_refusals_common::answers::{encoded, printed, registered};
 use type_refusals_common::marks::{begin, end};
 use type_refusals_common::outcomes::Outcome;
 use type_refusals_common::types::{
-    demo_path, description_named, documented_field, documented_variant, parameters,
+    demo_path, description_named, documented_field, documented_variant, parameters, types_named,
 };
-use type_vectors_common::lists::{list_of, with};
+use type_vectors_common::lists::list_of;
 use type_vectors_common::parts;
+use type_vectors_common::rows::numbers;
+use type_vectors_common::shown::text_of;
 
 /// Makes a description of the kind of this name.
 pub fn description(rt: &HostRuntime, name: &str) -> Result<Outcome, Fail> {
@@ -55,32 +59,80 @@ pub fn variants(rt: &HostRuntime) -> Result<Outcome, Fail> {
     Outcome::of(registered(rt.alloc(), returned))
 }
 
-/// Makes the definition of a tuple of types of the program.
-pub fn tuple(rt: &HostRuntime) -> Result<Outcome, Fail> {
-    let first = list_of(rt.alloc(), MetaType::new::<Vec<u32>>(rt.alloc())?);
-    let members = with(first, MetaType::new::<bool>(rt.alloc()))?;
+/// Makes the definition of a composite of the types with these ids.
+pub fn portable_composite(rt: &HostRuntime, row: &str) -> Result<Outcome, Fail> {
+    let ids = numbers(rt.alloc(), row)?;
+    let fields = parts::unnamed_fields(rt.alloc(), &ids)?;
+    begin(rt);
+    let returned = TypeDefComposite::<PortableForm>::new(rt.alloc(), fields);
+    end(rt);
+    Outcome::of(encoded(rt.alloc(), definition(returned)))
+}
+
+/// Makes the definition of an enum of one variant, with fields of the types with these ids.
+pub fn portable_variants(rt: &HostRuntime, row: &str) -> Result<Outcome, Fail> {
+    let ids = numbers(rt.alloc(), row)?;
+    let variant = parts::variant(rt.alloc(), "V", &ids, 0, &[])?;
+    let variants = list_of(rt.alloc(), variant)?;
+    begin(rt);
+    let returned = TypeDefVariant::<PortableForm>::new(rt.alloc(), variants);
+    end(rt);
+    Outcome::of(encoded(rt.alloc(), definition(returned)))
+}
+
+/// Makes the definition of a tuple of types of the program, as a text.
+pub fn tuple(rt: &HostRuntime, names: &str) -> Result<Outcome, Fail> {
+    let members = types_named(rt.alloc(), names)?;
     begin(rt);
     let returned = TypeDefTuple::new(rt.alloc(), members);
     end(rt);
-    Outcome::of(registered(rt.alloc(), returned))
+    shown(rt.alloc(), returned)
 }
 
 /// Makes the definition of a tuple of ids.
-pub fn portable_tuple(rt: &HostRuntime) -> Result<Outcome, Fail> {
-    let members = vec![in rt.alloc(); parts::id(3), parts::id(0)]?;
+pub fn portable_tuple(rt: &HostRuntime, row: &str) -> Result<Outcome, Fail> {
+    let members = ids(rt.alloc(), &numbers(rt.alloc(), row)?)?;
     begin(rt);
     let returned = TypeDefTuple::new_portable(rt.alloc(), members);
     end(rt);
-    Outcome::of(encoded(rt.alloc(), returned))
+    Outcome::of(encoded(rt.alloc(), definition(returned)))
 }
 
-/// Makes the definition of a sequence of bits.
+/// References to the types with these ids.
+fn ids(alloc: Global, numbers: &[u32]) -> Result<Vec<UntrackedSymbol<TypeId>>, AllocError> {
+    let mut ids = Vec::new(alloc);
+    for number in numbers {
+        ids.push(parts::id(*number))?;
+    }
+    Ok(ids)
+}
+
+/// Makes the definition of a sequence of bits, as a text.
 pub fn bit_sequence(rt: &HostRuntime, name: &str) -> Result<Outcome, Fail> {
     begin(rt);
     let returned = match name {
         "of plain types" => TypeDefBitSequence::new::<u8, u32>(rt.alloc()),
+        "of a box" => TypeDefBitSequence::new::<Box<u8>, bool>(rt.alloc()),
         _ => TypeDefBitSequence::new::<Vec<u32>, [u8; 32]>(rt.alloc()),
     };
     end(rt);
-    Outcome::of(registered(rt.alloc(), returned))
+    shown(rt.alloc(), returned)
+}
+
+/// The definition that a definition of one kind is.
+fn definition<F: Form, D: Into<TypeDef<F>>>(
+    returned: Result<D, AllocError>,
+) -> Result<TypeDef<F>, AllocError> {
+    match returned {
+        Ok(definition) => Ok(definition.into()),
+        Err(error) => Err(error),
+    }
+}
+
+/// A definition as a text.
+fn shown<D: Into<TypeDef>>(
+    alloc: Global,
+    returned: Result<D, AllocError>,
+) -> Result<Outcome, Fail> {
+    Outcome::of(printed(alloc, text_of(alloc, definition(returned))))
 }

@@ -8,4 +8,5 @@ pub mod descriptions;
 pub mod fields;
 pub mod lists;
 pub mod paths;
+pub mod structs;
 pub mod variants;

@@ -34,6 +34,17 @@ pub fn shown<T: Debug + Drop, E: Debug + Drop>(
     }
 }
 
+/// The answer of a text, or of an error.
+pub fn printed<E: Debug + Drop>(
+    alloc: Global,
+    returned: Result<String, E>,
+) -> Result<Answer, AllocError> {
+    match returned {
+        Ok(text) => done(Ok(text)),
+        Err(error) => failed(alloc, &error),
+    }
+}
+
 /// The encoding of a value in hexadecimal; of a value without an encoding the error.
 pub fn digits<T: Scale>(alloc: Global, value: &T) -> Result<String, AllocError> {
     let mut bytes = Vec::new(alloc);

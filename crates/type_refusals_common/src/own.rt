@@ -43,3 +43,17 @@ pub type D = Own<8>;
 pub type P = Own<9>;
 /// A composite of forty fields of `u32`.
 pub type Wide = Own<10>;
+/// An enum of itself, without docs.
+pub type EnumOfItself = Own<11>;
+/// A composite of itself through a box and two references.
+pub type References = Own<12>;
+/// An enum with docs of the type, a variant and its field.
+pub type Documented = Own<13>;
+/// A composite of `u32`, `[u8; 32]` and `bool`.
+pub type Fielded = Own<14>;
+/// An enum of `u32` or `bool`.
+pub type Choice = Own<15>;
+/// The primitive `u256`.
+pub type U256 = Own<16>;
+/// The primitive `i256`.
+pub type I256 = Own<17>;

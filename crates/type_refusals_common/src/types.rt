@@ -1,16 +1,16 @@
 //! Types by their names, what they are described as, and a catalogue of them.
-use crate::own::{A, B, Bits, C, D, Mapping, Missing, P, Recursive, Referring, Wide};
-use scale_info::impls::{Compact, meta_type};
+use crate::by_name::{Described, Known, for_known_type, for_type, found};
+use crate::described::described;
+use crate::own::{Missing, Recursive};
+use scale_info::impls::meta_type;
 use scale_info::meta_type::{Catalogue, CatalogueError, HasIdentity, Identified};
 use scale_info::{
     Field, MetaType, Path, Type, TypeDef, TypeDefBitSequence, TypeDefComposite, TypeDefMap,
-    TypeDefVariant, TypeInfo, TypeParameter, Variant,
+    TypeDefVariant, TypeId, TypeInfo, TypeParameter, Variant,
 };
 use std::alloc::{AllocError, Global};
 use std::marker::PhantomData;
-use std::ops::Range;
 use std::test::Fail;
-use type_vectors_common::catalogues::add_own;
 use type_vectors_common::lists::{list_of, with};
 use type_vectors_common::results::both;
 
@@ -46,55 +46,83 @@ type Arrays<T> = (
 /// So many types that the cache of their numbers grows twice.
 pub type Many = (Arrays<u8>, Arrays<bool>, Arrays<u32>, Arrays<u64>);
 
-/// The type of this name. There is one of each kind of definition.
-pub fn type_named(alloc: Global, name: &str) -> Result<MetaType, Fail> {
-    let ty = match name {
-        "u32" => meta_type::<u32>(alloc),
-        "Vec<u32>" => meta_type::<Vec<u32>>(alloc),
-        "[u8; 32]" => meta_type::<[u8; 32]>(alloc),
-        "(u32, bool)" => meta_type::<Pair>(alloc),
-        "(u32, [u8; 32], bool)" => meta_type::<Triple>(alloc),
-        "(u64, PhantomData<u8>)" => meta_type::<Marked>(alloc),
-        "Option<(u32, bool)>" => meta_type::<Option<Pair>>(alloc),
-        "Compact<u32>" => meta_type::<Compact<u32>>(alloc),
-        "Range<u8>" => meta_type::<Range<u8>>(alloc),
-        "Box<Box<u8>>" => meta_type::<Boxes>(alloc),
-        "Many" => meta_type::<Many>(alloc),
-        _ => return own_type_named(alloc, name),
-    };
-    Ok(ty?)
+/// Makes the type of a name.
+#[derive(Drop)]
+struct MetaTypeOf {
+    alloc: Global,
 }
 
-/// The program's own type of this name.
-fn own_type_named(alloc: Global, name: &str) -> Result<MetaType, Fail> {
-    let ty = match name {
-        "Recursive" => meta_type::<Recursive>(alloc),
-        "Bits" => meta_type::<Bits>(alloc),
-        "Mapping" => meta_type::<Mapping>(alloc),
-        "Missing" => meta_type::<Missing>(alloc),
-        "Referring" => meta_type::<Referring>(alloc),
-        "A" => meta_type::<A>(alloc),
-        "P" => meta_type::<P>(alloc),
-        "Wide" => meta_type::<Wide>(alloc),
-        _ => return Err(Fail::new("no type has this name")),
-    };
-    Ok(ty?)
+impl Known for MetaTypeOf {
+    type Returned = Result<MetaType, Fail>;
+
+    fn of<T: HasIdentity>(self) -> Result<MetaType, Fail> {
+        Ok(meta_type::<T>(self.alloc)?)
+    }
+}
+
+/// The type of this name. There is one of each kind of definition.
+pub fn type_named(alloc: Global, name: &str) -> Result<MetaType, Fail> {
+    found(for_known_type(MetaTypeOf { alloc }, name))
+}
+
+/// The types of these names, in order, with ` | ` between two; none of an empty text.
+pub fn types_named(alloc: Global, names: &str) -> Result<Vec<MetaType>, Fail> {
+    let mut types = Vec::new(alloc);
+    for name in names.split(" | ") {
+        if !name.is_empty() {
+            types.push(type_named(alloc, name)?)?;
+        }
+    }
+    Ok(types)
+}
+
+/// Makes the identity that the type of a name is known by.
+#[derive(Drop)]
+struct IdentityOf {
+    alloc: Global,
+}
+
+impl Known for IdentityOf {
+    type Returned = Result<TypeId, AllocError>;
+
+    fn of<T: HasIdentity>(self) -> Result<TypeId, AllocError> {
+        T::Identity::type_id(self.alloc)
+    }
+}
+
+/// Makes the description of a standard type with a name.
+#[derive(Drop)]
+struct DescriptionOf {
+    alloc: Global,
+}
+
+impl Described for DescriptionOf {
+    type Returned = Result<Type, Fail>;
+
+    fn of<T: TypeInfo>(self) -> Result<Type, Fail> {
+        Ok(T::type_info(self.alloc)?)
+    }
 }
 
 /// What the type of this name is described as.
 pub fn description_named(alloc: Global, name: &str) -> Result<Type, Fail> {
+    match own_description(alloc, name)? {
+        Some(description) => Ok(description),
+        None => found(for_type(DescriptionOf { alloc }, name)),
+    }
+}
+
+/// What the program's own type of this name is described as; None of another type.
+fn own_description(alloc: Global, name: &str) -> Result<Option<Type>, AllocError> {
     let description = match name {
-        "u32" => <u32>::type_info(alloc),
-        "Vec<u32>" => <Vec<u32>>::type_info(alloc),
-        "[u8; 32]" => <[u8; 32]>::type_info(alloc),
-        "(u32, bool)" => <Pair>::type_info(alloc),
-        "Option<(u32, bool)>" => <Option<Pair>>::type_info(alloc),
-        "Compact<u32>" => <Compact<u32>>::type_info(alloc),
-        "Range<u8>" => <Range<u8>>::type_info(alloc),
-        "Box<Box<u8>>" => <Boxes>::type_info(alloc),
-        _ => return own_description_named(alloc, name),
+        "Recursive" => recursive(alloc)?,
+        "Bits" => bits(alloc)?,
+        "Mapping" => mapping(alloc)?,
+        "Referring" => composite_of_two::<u32, Missing>(alloc)?,
+        "Wide" => wide(alloc)?,
+        _ => return described(alloc, name),
     };
-    Ok(description?)
+    Ok(Some(description))
 }
 
 /// A map from `u32` to `bool`.
@@ -124,11 +152,6 @@ fn composite(alloc: Global, fields: Vec<Field>) -> Type {
     Type::from_def(alloc, TypeDefComposite::from(fields).into())
 }
 
-/// A composite of one field of this type.
-fn composite_of<T: HasIdentity>(alloc: Global) -> Result<Type, AllocError> {
-    Ok(composite(alloc, list_of(alloc, unnamed_field::<T>(alloc)?)?))
-}
-
 /// A composite of two fields, of these types.
 fn composite_of_two<T: HasIdentity, U: HasIdentity>(alloc: Global) -> Result<Type, AllocError> {
     let first = list_of(alloc, unnamed_field::<T>(alloc)?);
@@ -142,20 +165,6 @@ fn wide(alloc: Global) -> Result<Type, AllocError> {
         fields.push(unnamed_field::<u32>(alloc)?)?;
     }
     Ok(composite(alloc, fields))
-}
-
-/// A composite of `u8` and `bool`, with parameters.
-fn with_parameters(alloc: Global) -> Result<Type, AllocError> {
-    let first = list_of(alloc, unnamed_field::<u8>(alloc)?);
-    let fields = with(first, unnamed_field::<bool>(alloc))?;
-    let path = Path::from_segments_unchecked(alloc, list_of(alloc, "P")?)?;
-    Type::new(
-        alloc,
-        path,
-        parameters(alloc)?,
-        TypeDef::from(TypeDefComposite::from(fields)),
-        Vec::new(alloc),
-    )
 }
 
 /// A field with a name, a name of its type, and docs.
@@ -201,40 +210,62 @@ fn recursive(alloc: Global) -> Result<Type, AllocError> {
     )
 }
 
-/// What the program's own type of this name is described as.
-fn own_description_named(alloc: Global, name: &str) -> Result<Type, Fail> {
-    let description = match name {
-        "Recursive" => recursive(alloc),
-        "Bits" => bits(alloc),
-        "Mapping" => mapping(alloc),
-        "Referring" => composite_of_two::<u32, Missing>(alloc),
-        _ => return Err(Fail::new("no type has this name")),
-    };
-    Ok(description?)
+/// The types that [`catalogue`] describes.
+const ALL: &str = "\
+bool | char | u8 | u16 | u32 | u64 | u128 | i8 | i16 | i32 | i64 | i128 | U256 | I256 | String \
+| Vec<u32> | [u8; 32] | [u32; 16] | (u32, bool) | (u32, [u8; 32], bool) | (u64, PhantomData<u8>) \
+| Option<(u32, bool)> | Compact<u32> | Range<u8> | Duration | Box<Box<u8>> | Recursive | Bits \
+| Mapping | Referring | A | B | C | D | P | Wide | EnumOfItself | References | Documented \
+| Fielded | Choice";
+
+/// Adds a standard type with a name.
+#[derive(Drop)]
+struct AddTo<'a> {
+    known: &'a mut Catalogue,
 }
 
-/// Adds the types that others refer to.
-fn add_plain(catalogue: &mut Catalogue) -> Result<(), CatalogueError> {
-    catalogue.add::<bool>()?;
-    catalogue.add::<u8>()?;
-    catalogue.add::<u32>()?;
-    catalogue.add::<u64>()?;
-    catalogue.add::<String>()?;
+impl Described for AddTo<'_> {
+    type Returned = Result<bool, CatalogueError>;
+
+    fn of<T: TypeInfo>(self) -> Result<bool, CatalogueError> {
+        self.known.add::<T>()
+    }
+}
+
+/// Adds what the program's own type of this name is described as.
+fn add_own_type(
+    alloc: Global,
+    known: &mut Catalogue,
+    name: &str,
+    description: Type,
+) -> Result<bool, CatalogueError> {
+    match for_known_type(IdentityOf { alloc }, name) {
+        Some(id) => known.add_described(id?, description),
+        None => Ok(false),
+    }
+}
+
+/// Adds the type of this name; nothing, if no type has it.
+fn add_named(alloc: Global, known: &mut Catalogue, name: &str) -> Result<bool, CatalogueError> {
+    match own_description(alloc, name)? {
+        Some(description) => add_own_type(alloc, known, name, description),
+        None => for_type(AddTo { known }, name).unwrap_or(Ok(false)),
+    }
+}
+
+/// Adds the types of these names, with ` | ` between two.
+pub fn add_all(alloc: Global, known: &mut Catalogue, names: &str) -> Result<(), CatalogueError> {
+    for name in names.split(" | ") {
+        add_named(alloc, known, name)?;
+    }
     Ok(())
 }
 
-/// Adds standard types with arguments.
-fn add_generic(catalogue: &mut Catalogue) -> Result<(), CatalogueError> {
-    catalogue.add::<Vec<u32>>()?;
-    catalogue.add::<[u8; 32]>()?;
-    catalogue.add::<Pair>()?;
-    catalogue.add::<Triple>()?;
-    catalogue.add::<Marked>()?;
-    catalogue.add::<Option<Pair>>()?;
-    catalogue.add::<Compact<u32>>()?;
-    catalogue.add::<Range<u8>>()?;
-    catalogue.add::<Boxes>()?;
-    Ok(())
+/// The catalogue of the types of these names.
+pub fn catalogue_of(alloc: Global, names: &str) -> Result<Catalogue, CatalogueError> {
+    let mut known = Catalogue::new(alloc);
+    add_all(alloc, &mut known, names)?;
+    Ok(known)
 }
 
 /// Adds arrays of a type, and their tuple.
@@ -262,47 +293,9 @@ fn add_many(catalogue: &mut Catalogue) -> Result<(), CatalogueError> {
     Ok(())
 }
 
-/// Adds the program's own types.
-fn add_own_types(alloc: Global, catalogue: &mut Catalogue) -> Result<(), CatalogueError> {
-    add_own(catalogue, Recursive::type_id(alloc)?, recursive(alloc))?;
-    add_own(catalogue, Bits::type_id(alloc)?, bits(alloc))?;
-    add_own(catalogue, Mapping::type_id(alloc)?, mapping(alloc))?;
-    let referring = composite_of_two::<u32, Missing>(alloc);
-    add_own(catalogue, Referring::type_id(alloc)?, referring)?;
-    Ok(())
-}
-
-/// Adds composites of one another, one with parameters and one of many fields.
-fn add_composites(alloc: Global, catalogue: &mut Catalogue) -> Result<(), CatalogueError> {
-    add_own(
-        catalogue,
-        A::type_id(alloc)?,
-        composite_of_two::<B, C>(alloc),
-    )?;
-    add_own(catalogue, B::type_id(alloc)?, composite_of::<D>(alloc))?;
-    add_own(
-        catalogue,
-        C::type_id(alloc)?,
-        Ok(composite(alloc, Vec::new(alloc))),
-    )?;
-    add_own(catalogue, D::type_id(alloc)?, composite_of::<A>(alloc))?;
-    add_own(catalogue, P::type_id(alloc)?, with_parameters(alloc))?;
-    add_own(catalogue, Wide::type_id(alloc)?, wide(alloc))?;
-    Ok(())
-}
-
-/// Adds all types here.
-fn add_all(alloc: Global, catalogue: &mut Catalogue) -> Result<(), CatalogueError> {
-    add_plain(catalogue)?;
-    add_generic(catalogue)?;
-    add_many(catalogue)?;
-    add_own_types(alloc, catalogue)?;
-    add_composites(alloc, catalogue)
-}
-
 /// The catalogue of all types here.
 pub fn catalogue(alloc: Global) -> Result<Catalogue, CatalogueError> {
-    let mut all = Catalogue::new(alloc);
-    add_all(alloc, &mut all)?;
-    Ok(all)
+    let mut known = catalogue_of(alloc, ALL)?;
+    add_many(&mut known)?;
+    Ok(known)
 }

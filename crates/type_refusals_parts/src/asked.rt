@@ -1,5 +1,5 @@
 //! Values that are asked for their parts between marks.
-use std::fmt::Debug;
+use std::alloc::AllocError;
 use std::test::Fail;
 use type_refusals_common::answers::done;
 use type_refusals_common::marks::{begin, end};
@@ -7,18 +7,17 @@ use type_refusals_common::outcomes::Outcome;
 
 /// A value that is asked for its parts, which does not allocate.
 pub trait Asked {
-    /// The parts.
-    type Parts: Debug + Drop;
-
-    /// Asks.
-    fn parts(&self) -> Self::Parts;
+    /// Appends the parts to a text that has room for them.
+    fn push_parts(&self, text: &mut String) -> Result<(), AllocError>;
 }
 
 /// Asks a value that is made for it.
 pub fn ask<T: Asked + Drop>(rt: &HostRuntime, made: Result<T, Fail>) -> Result<Outcome, Fail> {
     let value = made?;
+    let mut text = String::with_capacity(rt.alloc(), 1000)?;
     begin(rt);
-    let parts = value.parts();
+    let returned = value.push_parts(&mut text);
     end(rt);
-    Outcome::of(done(format!(in rt.alloc(); "{parts:?}")))
+    returned?;
+    Outcome::of(done(Ok(text)))
 }

@@ -1,30 +1,10 @@
 //! The calls of this library, by their names.
-use crate::{catalogues, copies, identities, interners, looks, moves};
+use crate::{copies, interners, lists, looks, moves, orders};
 use std::test::Fail;
 use type_refusals_common::outcomes::Outcome;
 
 /// Makes the call of this name; None if there is none.
 pub fn call(rt: &HostRuntime, name: &str, input: &str) -> Option<Result<Outcome, Fail>> {
-    let outcome = match name {
-        "type_id" => identities::type_id(rt, input),
-        "type_info" => identities::type_info(rt, input),
-        "MetaType::new" => identities::new(rt, input),
-        "meta_type" => identities::meta_type_of(rt, input),
-        "TypeDefSequence::of" => identities::sequence_of(rt, input),
-        "Catalogue::add" => catalogues::add(rt, input),
-        "add_described_otherwise" => catalogues::add_described_otherwise(rt),
-        "add_described" => catalogues::add_described(rt, input),
-        "add_first_described" => catalogues::add_first_described(rt, input),
-        "add_described_again" => catalogues::add_described_after(rt, input, input),
-        "add_another_described" => catalogues::add_described_after(rt, "u32", input),
-        "look_at_catalogue" => catalogues::look(rt, input),
-        _ => return call_of_copies(rt, name, input),
-    };
-    Some(outcome)
-}
-
-/// Makes the call of this name that copies; None if there is none.
-fn call_of_copies(rt: &HostRuntime, name: &str, input: &str) -> Option<Result<Outcome, Fail>> {
     let outcome = match name {
         "try_clone_portable" => copies::portable_part(rt, input),
         "try_clone_meta" => copies::meta_part(rt, input),
@@ -36,40 +16,41 @@ fn call_of_copies(rt: &HostRuntime, name: &str, input: &str) -> Option<Result<Ou
         "try_clone_definition" => copies::definition(rt, input),
         "Items::try_clone" => copies::list(rt, input),
         "Form::copy" => copies::by_form(rt, input),
+        _ => return call_of_lists(rt, name, input),
+    };
+    Some(outcome)
+}
+
+/// Makes the call of this name on an interner or a list; None if there is none.
+fn call_of_lists(rt: &HostRuntime, name: &str, input: &str) -> Option<Result<Outcome, Fail>> {
+    let outcome = match name {
+        "intern_or_get" | "intern_or_get_known" => interners::intern_or_get(rt, input),
+        "intern" => interners::intern(rt, input),
+        "look_at_interner" => interners::look(rt, input),
+        "compare_interners" => interners::compare(rt, input),
+        "truncate_interner" => interners::truncate(rt, input),
+        "Items::push" => lists::push(rt, input),
+        "Items::push_towards" => lists::push_towards(rt, input),
+        "Items::with_capacity" => lists::with_capacity(rt),
         _ => return call_of_looks(rt, name, input),
     };
     Some(outcome)
 }
 
-/// Makes the call of this name on an interner, or that does not allocate; None if there is none.
+/// Makes the call of this name that does not allocate; None if there is none.
 fn call_of_looks(rt: &HostRuntime, name: &str, input: &str) -> Option<Result<Outcome, Fail>> {
     let outcome = match name {
-        "intern_or_get" => interners::intern_or_get(rt, input),
-        "intern_or_get_known" => interners::intern_or_get(rt, input),
-        "look_at_interner" => interners::look(rt, input),
-        "truncate_interner" => interners::truncate(rt),
         "look_at_description" => looks::description(rt, input),
         "compare_descriptions" => looks::compare(rt, input),
         "compare_types" => looks::types(rt, input),
         "is_rust_identifier" => looks::identifier(rt, input),
         "look_at_definition" => looks::definition(rt, input),
-        "look_at" => look_at(rt, input),
+        "look_at" => looks::part(rt, input),
+        "order" => orders::order(rt, input),
         "move_into" => move_into(rt, input),
         _ => return None,
     };
     Some(outcome)
-}
-
-/// Asks a part of a description for its parts.
-fn look_at(rt: &HostRuntime, kind: &str) -> Result<Outcome, Fail> {
-    match kind {
-        "field" => looks::field(rt),
-        "variant" => looks::variant(rt),
-        "path" => looks::path(rt),
-        "parameter" => looks::parameter(rt),
-        "entry" => looks::entry(rt),
-        _ => Err(Fail::new("no kind has this name")),
-    }
 }
 
 /// Makes a value of this kind.

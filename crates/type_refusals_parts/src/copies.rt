@@ -59,6 +59,7 @@ pub fn portable_part(rt: &HostRuntime, kind: &str) -> Result<Outcome, Fail> {
         "given parameter" => copy(rt, parts::parameter(alloc, "T", Some(7))),
         "skipped parameter" => copy(rt, parts::parameter(alloc, "S", None)),
         "text" => copy(rt, parts::text(alloc, "a text")),
+        "letter" => copy(rt, parts::text(alloc, "Ä")),
         "symbol" => copy(rt, Ok(parts::id(7))),
         _ => Err(Fail::new("no kind has this name")),
     }

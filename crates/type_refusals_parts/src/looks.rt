@@ -2,110 +2,105 @@
 use crate::asked::{Asked, ask};
 use scale_info::form::PortableForm;
 use scale_info::utils::is_rust_identifier;
-use scale_info::{Field, Path, PortableType, Scale, Type, TypeDef, TypeParameter, Variant};
-use std::alloc::Global;
+use scale_info::{Field, Path, PortableType, Scale, Text, Type, TypeDef, TypeParameter, Variant};
+use std::alloc::{AllocError, Global};
 use std::hash::{FoldHasher, Hash, Hasher};
 use std::test::Fail;
 use type_refusals_common::answers::done;
 use type_refusals_common::marks::{begin, end};
 use type_refusals_common::outcomes::Outcome;
+use type_refusals_common::texts::bracketed;
 use type_refusals_common::types::{description_named, type_named};
 use type_vectors_common::parts;
 use type_vectors_common::rows::row_named;
 
 impl Asked for Field<PortableForm> {
-    type Parts = (bool, bool, u32, usize);
-
-    fn parts(&self) -> (bool, bool, u32, usize) {
-        let (is_named, has_type_name) = (self.name().is_some(), self.type_name().is_some());
-        (is_named, has_type_name, self.ty().id(), self.docs().len())
+    fn push_parts(&self, text: &mut String) -> Result<(), AllocError> {
+        let (name, type_name) = (self.name(), self.type_name());
+        let (ty, docs) = (self.ty().id(), self.docs());
+        write!(text, "{name:?} {ty} {type_name:?} {docs:?}")
     }
 }
 
 impl Asked for Variant<PortableForm> {
-    type Parts = (usize, u8, usize, usize);
-
-    fn parts(&self) -> (usize, u8, usize, usize) {
-        let (name, fields) = (self.name().len(), self.fields().len());
-        (name, self.index(), fields, self.docs().len())
+    fn push_parts(&self, text: &mut String) -> Result<(), AllocError> {
+        let (name, index) = (self.name(), self.index());
+        let (fields, docs) = (self.fields().len(), self.docs());
+        write!(text, "{name:?} {fields} {index} {docs:?}")
     }
 }
 
 impl Asked for Path<PortableForm> {
-    type Parts = (usize, usize, bool);
-
-    fn parts(&self) -> (usize, usize, bool) {
-        let (segments, modules) = (self.segments().len(), self.namespace().len());
-        (segments, modules, self.is_empty())
+    fn push_parts(&self, text: &mut String) -> Result<(), AllocError> {
+        let (segments, modules) = (self.segments(), self.namespace());
+        let is_empty = self.is_empty();
+        write!(
+            text,
+            "{segments:?} {modules:?} {is_empty} {self} {self:*>40} {self:5.2}"
+        )
     }
 }
 
 impl Asked for TypeParameter<PortableForm> {
-    type Parts = (usize, Option<u32>);
-
-    fn parts(&self) -> (usize, Option<u32>) {
-        (self.name().len(), self.ty().map(|ty| ty.id()))
+    fn push_parts(&self, text: &mut String) -> Result<(), AllocError> {
+        let (name, ty) = (self.name(), self.ty().map(|ty| ty.id()));
+        write!(text, "{name:?} {ty:?}")
     }
 }
 
 impl Asked for PortableType {
-    type Parts = (u32, bool);
-
-    fn parts(&self) -> (u32, bool) {
-        (self.id(), self.ty().path().is_empty())
+    fn push_parts(&self, text: &mut String) -> Result<(), AllocError> {
+        let id = self.id();
+        write!(text, "{id}: ")?;
+        self.ty().push_parts(text)
     }
 }
 
-impl Asked for TypeDef<PortableForm> {
-    type Parts = (usize, usize);
+/// The numbers that a definition holds, or how many parts it has.
+fn numbers(definition: &TypeDef<PortableForm>) -> (usize, usize) {
+    let (first, second) = match definition {
+        TypeDef::Composite(it) => return (it.fields().len(), 0),
+        TypeDef::Variant(it) => return (it.variants().len(), 0),
+        TypeDef::Tuple(it) => return (it.fields().len(), 0),
+        TypeDef::Primitive(_) => (0, 0),
+        TypeDef::Sequence(it) => (it.type_param().id(), 0),
+        TypeDef::Compact(it) => (it.type_param().id(), 0),
+        TypeDef::Array(it) => (it.len(), it.type_param().id()),
+        TypeDef::BitSequence(it) => (it.bit_store_type().id(), it.bit_order_type().id()),
+        TypeDef::Map(it) => (it.key().id(), it.value().id()),
+    };
+    (first as usize, second as usize)
+}
 
-    fn parts(&self) -> (usize, usize) {
-        let (first, second) = match self {
-            TypeDef::Composite(it) => return (it.fields().len(), 0),
-            TypeDef::Variant(it) => return (it.variants().len(), 0),
-            TypeDef::Tuple(it) => return (it.fields().len(), 0),
-            TypeDef::Primitive(_) => (0, 0),
-            TypeDef::Sequence(it) => (it.type_param().id(), 0),
-            TypeDef::Compact(it) => (it.type_param().id(), 0),
-            TypeDef::Array(it) => (it.len(), it.type_param().id()),
-            TypeDef::BitSequence(it) => (it.bit_store_type().id(), it.bit_order_type().id()),
-            TypeDef::Map(it) => (it.key().id(), it.value().id()),
-        };
-        (first as usize, second as usize)
+impl Asked for TypeDef<PortableForm> {
+    fn push_parts(&self, text: &mut String) -> Result<(), AllocError> {
+        let (first, second) = numbers(self);
+        write!(text, "{first} {second}")
+    }
+}
+
+impl Asked for Type<PortableForm> {
+    fn push_parts(&self, text: &mut String) -> Result<(), AllocError> {
+        let (segments, docs) = (self.path().segments(), self.docs());
+        let params = self.type_params().len();
+        write!(text, "{segments:?} {params} {docs:?} ")?;
+        self.type_def().push_parts(text)
     }
 }
 
 impl Asked for Type {
-    type Parts = (bool, usize, usize);
-
-    fn parts(&self) -> (bool, usize, usize) {
-        let (is_empty, params) = (self.path().is_empty(), self.type_params().len());
-        (is_empty, params, self.docs().len())
+    fn push_parts(&self, text: &mut String) -> Result<(), AllocError> {
+        let (segments, docs) = (self.path().segments(), self.docs());
+        let params = self.type_params().len();
+        write!(text, "{segments:?} {params} {docs:?}")
     }
 }
 
-/// Asks a field for its parts.
-pub fn field(rt: &HostRuntime) -> Result<Outcome, Fail> {
-    ask(
-        rt,
-        Ok(parts::field(rt.alloc(), Some("n"), 3, Some("N"), &["d", ""])?),
-    )
-}
-
-/// Asks a variant for its parts.
-pub fn variant(rt: &HostRuntime) -> Result<Outcome, Fail> {
-    ask(
-        rt,
-        Ok(parts::variant(rt.alloc(), "V", &[1, 2], 255, &["v"])?),
-    )
-}
-
-/// Asks a path for its parts.
-pub fn path(rt: &HostRuntime) -> Result<Outcome, Fail> {
-    ask(
-        rt,
-        Ok(parts::path(rt.alloc(), &["hello", "world", "Planet"])?),
-    )
+impl Asked for Text {
+    fn push_parts(&self, text: &mut String) -> Result<(), AllocError> {
+        let (len, is_empty) = (self.len(), self.is_empty());
+        write!(text, "{len} {is_empty} {self} {self:?}")
+    }
 }
 
 /// Asks the description of this name for its parts.
@@ -113,15 +108,46 @@ pub fn description(rt: &HostRuntime, name: &str) -> Result<Outcome, Fail> {
     ask(rt, description_named(rt.alloc(), name))
 }
 
-/// Asks a parameter for its parts.
-pub fn parameter(rt: &HostRuntime) -> Result<Outcome, Fail> {
-    ask(rt, Ok(parts::parameter(rt.alloc(), "T", Some(7))?))
+/// The path of the texts between brackets.
+fn path(alloc: Global, row: &str) -> Result<Path<PortableForm>, AllocError> {
+    parts::path(alloc, bracketed(alloc, row)?.as_slice())
 }
 
-/// Asks an entry for its parts.
-pub fn entry(rt: &HostRuntime) -> Result<Outcome, Fail> {
-    let ty = Type::from_def(rt.alloc(), parts::sequence(2));
-    ask(rt, Ok(PortableType::new(9, ty)))
+/// A description with a path, a parameter and docs.
+fn described_in_full(alloc: Global) -> Result<Type<PortableForm>, AllocError> {
+    let definition = parts::sequence(2);
+    parts::description(alloc, &["p", "q"], &["S"], definition, &["d", "", "e"])
+}
+
+/// The value that a value of parts is.
+fn made<T>(value: Result<T, AllocError>) -> Result<T, Fail> {
+    Ok(value?)
+}
+
+/// Asks a part of this kind for its parts: the texts of a path, of a parameter and of a text come
+/// after the kind.
+pub fn part(rt: &HostRuntime, input: &str) -> Result<Outcome, Fail> {
+    let alloc = rt.alloc();
+    let (kind, given) = input.split_once(' ').unwrap_or((input, ""));
+    match kind {
+        "field" => ask(
+            rt,
+            made(parts::field(alloc, Some("n"), 3, Some("N"), &["d", ""])),
+        ),
+        "unnamed_field" => ask(rt, made(parts::field(alloc, None, 3, None, &[]))),
+        "variant" => ask(rt, made(parts::variant(alloc, "V", &[1, 2], 255, &["v"]))),
+        "path" => ask(rt, made(path(alloc, given))),
+        "skipped_parameter" => ask(rt, made(parts::parameter(alloc, given, None))),
+        "parameter" => ask(rt, made(parts::parameter(alloc, given, Some(7)))),
+        "entry" => ask(
+            rt,
+            Ok(PortableType::new(9, Type::from_def(alloc, parts::sequence(2)))),
+        ),
+        "text" => ask(rt, made(parts::text(alloc, given))),
+        "description" => ask(rt, made(described_in_full(alloc))),
+        "definition_alone" => ask(rt, Ok(Type::from_def(alloc, parts::sequence(2)))),
+        _ => Err(Fail::new("no kind has this name")),
+    }
 }
 
 /// The definition of each kind: a row is a name, a colon and the encoding.

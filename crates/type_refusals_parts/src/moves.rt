@@ -68,7 +68,7 @@ fn six_definitions() -> [TypeDef<PortableForm>; 6] {
         TypeDef::from(TypeDefMap::new(parts::id(1), parts::id(2))),
         TypeDef::from(TypeDefPrimitive::U8),
         TypeDef::from(TypeDefSequence::new(UntrackedSymbol::from(1))),
-        TypeDef::from(TypeDefBitSequence::new_portable(parts::id(3), parts::id(4))),
+        TypeDef::from(TypeDefBitSequence::new_portable(parts::id(1), parts::id(2))),
     ]
 }
 
@@ -94,7 +94,7 @@ pub fn definitions(rt: &HostRuntime) -> Result<Outcome, Fail> {
 
 /// Makes the definitions that hold lists.
 pub fn definitions_of_lists(rt: &HostRuntime) -> Result<Outcome, Fail> {
-    let one = parts::variant(rt.alloc(), "V", &[], 7, &[]);
+    let one = parts::variant(rt.alloc(), "W", &[1], 2, &[]);
     let variants = with(Ok(Vec::new(rt.alloc())), one);
     let lists = both(parts::unnamed_fields(rt.alloc(), &[1, 2]), variants);
     let members = TypeDefTuple::new_portable(rt.alloc(), [parts::id(3), parts::id(0)]);
@@ -132,8 +132,8 @@ pub fn lists(rt: &HostRuntime) -> Result<Outcome, Fail> {
         String::from_str(rt.alloc(), "a text")?,
     );
     begin(rt);
-    let list = Items::from(list).into_vec();
-    let text = Text::from(text).into_string();
+    let list = Vec::from(Items::from(Items::from(list).into_vec()));
+    let text = String::from(Text::from(Text::from(text).into_string()));
     end(rt);
     Outcome::of(done(format!(in rt.alloc(); "{list:?} {text}")))
 }

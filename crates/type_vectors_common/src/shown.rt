@@ -5,9 +5,9 @@
 //! and each line of docs after `//`. A field is `name:type:type name`, each that is missing empty.
 use scale_info::form::Form;
 use scale_info::impls::meta_type;
+use scale_info::meta_type::InfoError;
 use scale_info::{Field, MetaType, Type, TypeDef, TypeId, TypeInfo, TypeParameter, Variant};
 use std::alloc::{AllocError, Global};
-use std::test::Fail;
 
 /// How deep an identity is shown.
 const DEPTH: u32 = 8;
@@ -282,7 +282,7 @@ fn identities<T: TypeInfo>(alloc: Global) -> Result<String, AllocError> {
 
 /// What a type is: its own identity, after `by` the one that it is known by where that is another,
 /// and its description after `is`.
-pub fn shown<T: TypeInfo>(alloc: Global) -> Result<String, Fail> {
+pub fn shown<T: TypeInfo>(alloc: Global) -> Result<String, InfoError> {
     let mut text = identities::<T>(alloc)?;
     text.push_str(" is ")?;
     Ok(with(text, T::type_info(alloc)?)?)

@@ -1,0 +1,12 @@
+//! Calls over types of a program: identities, descriptions, catalogues and registrations; the texts
+//! of errors, and the public items. Each call is made once between marks.
+#![tactic(auto)]
+
+pub mod calls;
+pub mod catalogues;
+pub mod conversions;
+pub mod errors;
+pub mod identities;
+pub mod nested;
+pub mod registrations;
+pub mod surface;
