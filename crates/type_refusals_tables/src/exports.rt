@@ -86,14 +86,15 @@ pub fn export_types(rt: &HostRuntime, row: &str) -> Result<Outcome, Fail> {
     let mut out = output(rt.alloc())?;
     let before = hex::encode(rt.alloc(), out.as_slice());
     let mut asked = 0u32;
+    let noted = &mut asked;
     begin(rt);
     let returned = export(
         rt.alloc(),
         &known,
         &types,
-        |_| {
-            let id = asked;
-            asked = asked.saturating_add(1);
+        move |_| {
+            let id = *noted;
+            *noted = id.saturating_add(1);
             ids.contains(&id)
         },
         &mut out,

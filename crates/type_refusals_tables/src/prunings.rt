@@ -55,10 +55,11 @@ pub fn retain(rt: &HostRuntime, row: &str) -> Result<Outcome, Fail> {
     let mut table = table_of(rt.alloc(), name)?;
     let before = digits(rt.alloc(), &table);
     let mut asked = 0u32;
+    let noted = &mut asked;
     begin(rt);
-    let returned = table.retain(rt.alloc(), |_| {
-        let id = asked;
-        asked = asked.saturating_add(1);
+    let returned = table.retain(rt.alloc(), move |_| {
+        let id = *noted;
+        *noted = id.saturating_add(1);
         ids.contains(&id)
     });
     end(rt);

@@ -157,9 +157,10 @@ fn leads_nowhere(rt: &impl Abort, alloc: Global, id: u32, root: u32) -> Result<(
 fn is_left(rt: &impl Abort, alloc: Global, id: u32, root: u32) -> Result<(), Fail> {
     let mut table = chain(alloc, 100000, sequence(id))?;
     let mut asked = 0u32;
-    let error = table.retain(alloc, |_| {
-        let next = asked;
-        asked = asked.saturating_add(1);
+    let noted = &mut asked;
+    let error = table.retain(alloc, move |_| {
+        let next = *noted;
+        *noted = next.saturating_add(1);
         next == root
     });
     is(
