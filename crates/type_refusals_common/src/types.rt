@@ -216,7 +216,7 @@ bool | char | u8 | u16 | u32 | u64 | u128 | i8 | i16 | i32 | i64 | i128 | U256 |
 | Vec<u32> | [u8; 32] | [u32; 16] | (u32, bool) | (u32, [u8; 32], bool) | (u64, PhantomData<u8>) \
 | Option<(u32, bool)> | Compact<u32> | Range<u8> | Duration | Box<Box<u8>> | Recursive | Bits \
 | Mapping | Referring | A | B | C | D | P | Wide | EnumOfItself | References | Documented \
-| Fielded | Choice";
+| Fielded | Choice | Many";
 
 /// Adds a standard type with a name.
 #[derive(Drop)]
@@ -283,14 +283,12 @@ fn add_arrays<T: TypeInfo>(catalogue: &mut Catalogue) -> Result<(), CatalogueErr
     Ok(())
 }
 
-/// Adds many types.
+/// Adds the types that [`Many`] holds.
 fn add_many(catalogue: &mut Catalogue) -> Result<(), CatalogueError> {
     add_arrays::<u8>(catalogue)?;
     add_arrays::<bool>(catalogue)?;
     add_arrays::<u32>(catalogue)?;
-    add_arrays::<u64>(catalogue)?;
-    catalogue.add::<Many>()?;
-    Ok(())
+    add_arrays::<u64>(catalogue)
 }
 
 /// The catalogue of all types here.
