@@ -72,12 +72,12 @@ fn six_definitions() -> [TypeDef<PortableForm>; 6] {
     ]
 }
 
-/// The encodings of definitions, in order, with a space between two.
+/// The encodings of definitions, in order, with a comma between two.
 fn all_digits(alloc: Global, definitions: &[TypeDef<PortableForm>]) -> Result<String, AllocError> {
     let mut text = String::new(alloc);
     for definition in definitions {
         if !text.is_empty() {
-            text.push_str(" ")?;
+            text.push_str(", ")?;
         }
         text.push_str(digits(alloc, definition)?.as_str())?;
     }
