@@ -8,9 +8,9 @@ pub use scale_info_export::laws::{
     equal_export_errors, equal_exported, headline, registered_tables,
 };
 pub use scale_info_identities::laws::{
-    equal_intern_errors, equal_type_ids, hashed_type_ids, ordered_type_ids, symbols_by_number,
-    tracked_symbols_by_number,
+    equal_type_ids, hashed_type_ids, ordered_type_ids, symbols_by_number,
 };
+pub use scale_info_interner::laws::{equal_intern_errors, tracked_symbols_by_number};
 pub use scale_info_json::laws::{equal_json_errors, one_meaning};
 pub use scale_info_laws::equalities::{
     equal_codec_errors, equal_definition_parts, equal_fields, equal_parameters, equal_paths,

@@ -1,9 +1,33 @@
-//! Compact numbers as bytes.
+//! Numbers as bytes: of one byte, of four, and compact ones.
 ghost use Rattle.std.specs.Prelude.{◌≡◌, ◌%◌, ◌∷◌, IfSome, IfNone, OnOk, OnErr};
 ghost use Rattle.scale_info_bytes.specs.Encodings.{AppendsEncoding, HasPrefix, HasNoPrefix};
-ghost use Rattle.scale_info_bytes.specs.Numbers.{EncodesCompact};
+ghost use Rattle.scale_info_bytes.specs.Numbers.{EncodesCompact, EncodesU8, EncodesU32};
 
 use std::alloc::AllocError;
+
+/// The byte at the start of the input, and the rest; None, if there is none.
+#[inline]
+pub fn decode_u8(input: &[u8]) -> Option<(u8, &[u8])>
+    ensures some { IfSome result (λ found. HasPrefix (EncodesU8 found.0) input.now found.1.now) }
+    ensures none { IfNone result (HasNoPrefix EncodesU8 input.now) }
+{
+    match input {
+        [] => None,
+        [byte, rest @ ..] => Some((*byte, rest)),
+    }
+}
+
+/// The number in four bytes at the start of the input, and the rest; None, if there are fewer.
+#[inline]
+pub fn decode_u32(input: &[u8]) -> Option<(u32, &[u8])>
+    ensures some { IfSome result (λ found. HasPrefix (EncodesU32 found.0) input.now found.1.now) }
+    ensures none { IfNone result (HasNoPrefix EncodesU32 input.now) }
+{
+    match input {
+        [a, b, c, d, rest @ ..] => Some((u32::from_le_bytes([*a, *b, *c, *d]), rest)),
+        _ => None,
+    }
+}
 
 /// Two bytes, of which the first is there.
 fn compact_of_two(first: u8, rest: &[u8]) -> Option<(u32, &[u8])>

@@ -1,11 +1,11 @@
 //! Ids of types as bytes.
-ghost use Rattle.scale_info_codec.specs.Ty.{EncodesId};
-ghost use Rattle.scale_info_codec.specs.TyLaws.{id_law};
+ghost use Rattle.scale_info_grammar.specs.Ty.{EncodesId};
+ghost use Rattle.scale_info_grammar.specs.TyLaws.{id_law};
 
 use crate::scale::Scale;
 use scale_info_bytes::error::{DecodeError, EncodeError};
 use scale_info_bytes::number::{decode_compact, encode_compact};
-use scale_info_identities::interner::UntrackedSymbol;
+use scale_info_identities::symbol::UntrackedSymbol;
 use scale_info_identities::type_id::TypeId;
 use std::alloc::Global;
 

@@ -1,23 +1,23 @@
 //! Descriptions as bytes.
-ghost use Rattle.std.specs.Prelude.{IfOk, IfErr, IfSome, IfNone};
+ghost use Rattle.std.specs.Prelude.{IfOk, IfErr};
 ghost use Rattle.scale_info_primitives.specs.declared.primitive.TypeDefPrimitive.{TypeDefPrimitive};
 ghost use Rattle.scale_info_bytes.specs.Encodings.{HasPrefix, HasNoPrefix, IfMalformed};
-ghost use Rattle.scale_info_bytes.specs.Parts.{EncodesPair, EncodesList};
-ghost use Rattle.scale_info_bytes.specs.Numbers.{EncodesU32};
-ghost use Rattle.scale_info_bytes.specs.NumberLaws.{u32_law};
-ghost use Rattle.scale_info_bytes.specs.PartLaws.{through_law, pair_law, list_law};
-ghost use Rattle.scale_info_codec.specs.Ty.{EncodesId, EncodesParameter, IsPrimitiveByte};
-ghost use Rattle.scale_info_codec.specs.Ty.{EncodesPrimitive, EncodesTypeDefWithIndex};
-ghost use Rattle.scale_info_codec.specs.Ty.{EncodesTypeDef, EncodesDescription};
-ghost use Rattle.scale_info_codec.specs.Ty.{EncodesPortableType, array_parts, bit_sequence_parts};
-ghost use Rattle.scale_info_codec.specs.Ty.{map_parts};
-ghost use Rattle.scale_info_codec.specs.TyLaws.{id_law, parameter_law, primitive_law, type_def_law};
-ghost use Rattle.scale_info_codec.specs.TyLaws.{description_law, portable_type_law};
+ghost use Rattle.scale_info_grammar.specs.Ty.{EncodesArray, EncodesBitSequence};
+ghost use Rattle.scale_info_grammar.specs.Ty.{EncodesCompactType, EncodesDescription, EncodesMap};
+ghost use Rattle.scale_info_grammar.specs.Ty.{EncodesParameter, EncodesPortableType};
+ghost use Rattle.scale_info_grammar.specs.Ty.{EncodesPrimitive, EncodesSequence, EncodesTuple};
+ghost use Rattle.scale_info_grammar.specs.Ty.{EncodesTypeDef, EncodesTypeDefWithIndex};
+ghost use Rattle.scale_info_grammar.specs.Ty.{IsPrimitiveByte};
+ghost use Rattle.scale_info_grammar.specs.TyLaws.{array_law, bit_sequence_law, compact_type_law};
+ghost use Rattle.scale_info_grammar.specs.TyLaws.{description_law, map_law, parameter_law};
+ghost use Rattle.scale_info_grammar.specs.TyLaws.{portable_type_law, primitive_law, sequence_law};
+ghost use Rattle.scale_info_grammar.specs.TyLaws.{tuple_law, type_def_law};
 
 use crate::scale::Scale;
 use crate::tuple::{encode_four, encode_two, encode_with_index};
 use scale_info_bytes::error::{DecodeError, EncodeError};
 use scale_info_collections::items::Items;
+use scale_info_grammar::decode_primitive;
 use scale_info_type_ids::impls::Compact;
 use scale_info_types::form::PortableForm;
 use scale_info_types::ty::composite::TypeDefComposite;
@@ -82,7 +82,7 @@ impl Scale for TypeParameter<PortableForm> {
 }
 
 impl Scale for TypeDefSequence<PortableForm> {
-    ghost encodes = { λ v b. EncodesId v.type_param b };
+    ghost encodes = { EncodesSequence };
 
     fn encode_to(&self, out: &mut Vec<u8>) -> Result<(), EncodeError> {
         self.type_param.encode_to(out)
@@ -96,12 +96,11 @@ impl Scale for TypeDefSequence<PortableForm> {
         Ok((TypeDefSequence::new(type_param), rest))
     }
 
-    ghost law = { through_law (λ v. v.type_param)
-        (λ v w e i. record { type_param = e i; form = tt }) id_law };
+    ghost law = { sequence_law };
 }
 
 impl Scale for TypeDefArray<PortableForm> {
-    ghost encodes = { λ v b. EncodesPair EncodesU32 EncodesId (array_parts v) b };
+    ghost encodes = { EncodesArray };
 
     fn encode_to(&self, out: &mut Vec<u8>) -> Result<(), EncodeError> {
         encode_two(&self.len, &self.type_param, out)
@@ -115,13 +114,11 @@ impl Scale for TypeDefArray<PortableForm> {
         Ok((TypeDefArray::new(len, type_param), rest))
     }
 
-    ghost law = { through_law array_parts
-        (λ v w e i. record { len = (e i).0; type_param = (e i).1; form = tt })
-        (pair_law u32_law id_law) };
+    ghost law = { array_law };
 }
 
 impl Scale for TypeDefTuple<PortableForm> {
-    ghost encodes = { λ v b. EncodesList EncodesId v.fields b };
+    ghost encodes = { EncodesTuple };
 
     fn encode_to(&self, out: &mut Vec<u8>) -> Result<(), EncodeError> {
         self.fields.encode_to(out)
@@ -135,12 +132,11 @@ impl Scale for TypeDefTuple<PortableForm> {
         Ok((TypeDefTuple::from(fields), rest))
     }
 
-    ghost law = { through_law (λ v. v.fields) (λ v w e i. record { fields = e i; form = tt })
-        (list_law id_law) };
+    ghost law = { tuple_law };
 }
 
 /// The byte of a primitive.
-#[tactic(auto, using(crate::specs::Ty::primitive_bytes))]
+#[tactic(auto, using(scale_info_grammar::specs::Ty::primitive_bytes))]
 fn byte_of(primitive: TypeDefPrimitive) -> u8
     ensures { IsPrimitiveByte result primitive }
 {
@@ -163,33 +159,6 @@ fn byte_of(primitive: TypeDefPrimitive) -> u8
     }
 }
 
-/// The primitive of a byte.
-#[tactic(auto, using(crate::specs::Ty::primitive_bytes))]
-pub fn primitive_of(byte: u8) -> Option<TypeDefPrimitive>
-    ensures some { IfSome result (λ primitive. IsPrimitiveByte byte primitive) }
-    ensures none { IfNone result
-        ((primitive : TypeDefPrimitive) → IsPrimitiveByte byte primitive → ⊥) }
-{
-    match byte {
-        0 => Some(TypeDefPrimitive::Bool),
-        1 => Some(TypeDefPrimitive::Char),
-        2 => Some(TypeDefPrimitive::Str),
-        3 => Some(TypeDefPrimitive::U8),
-        4 => Some(TypeDefPrimitive::U16),
-        5 => Some(TypeDefPrimitive::U32),
-        6 => Some(TypeDefPrimitive::U64),
-        7 => Some(TypeDefPrimitive::U128),
-        8 => Some(TypeDefPrimitive::U256),
-        9 => Some(TypeDefPrimitive::I8),
-        10 => Some(TypeDefPrimitive::I16),
-        11 => Some(TypeDefPrimitive::I32),
-        12 => Some(TypeDefPrimitive::I64),
-        13 => Some(TypeDefPrimitive::I128),
-        14 => Some(TypeDefPrimitive::I256),
-        _ => None,
-    }
-}
-
 impl Scale for TypeDefPrimitive {
     ghost encodes = { EncodesPrimitive };
 
@@ -199,12 +168,9 @@ impl Scale for TypeDefPrimitive {
     }
 
     fn decode_from(_alloc: Global, input: &[u8]) -> Result<(TypeDefPrimitive, &[u8]), DecodeError> {
-        match input {
-            [] => Err(DecodeError::Malformed),
-            [byte, rest @ ..] => match primitive_of(*byte) {
-                Some(primitive) => Ok((primitive, rest)),
-                None => Err(DecodeError::Malformed),
-            },
+        match decode_primitive(input) {
+            Some(found) => Ok(found),
+            None => Err(DecodeError::Malformed),
         }
     }
 
@@ -212,7 +178,7 @@ impl Scale for TypeDefPrimitive {
 }
 
 impl Scale for TypeDefCompact<PortableForm> {
-    ghost encodes = { λ v b. EncodesId v.type_param b };
+    ghost encodes = { EncodesCompactType };
 
     fn encode_to(&self, out: &mut Vec<u8>) -> Result<(), EncodeError> {
         self.type_param.encode_to(out)
@@ -226,12 +192,11 @@ impl Scale for TypeDefCompact<PortableForm> {
         Ok((TypeDefCompact::new(type_param), rest))
     }
 
-    ghost law = { through_law (λ v. v.type_param)
-        (λ v w e i. record { type_param = e i; form = tt }) id_law };
+    ghost law = { compact_type_law };
 }
 
 impl Scale for TypeDefBitSequence<PortableForm> {
-    ghost encodes = { λ v b. EncodesPair EncodesId EncodesId (bit_sequence_parts v) b };
+    ghost encodes = { EncodesBitSequence };
 
     fn encode_to(&self, out: &mut Vec<u8>) -> Result<(), EncodeError> {
         encode_two(&self.bit_store_type, &self.bit_order_type, out)
@@ -245,13 +210,11 @@ impl Scale for TypeDefBitSequence<PortableForm> {
         Ok((TypeDefBitSequence::new_portable(store, order), rest))
     }
 
-    ghost law = { through_law bit_sequence_parts
-        (λ v w e i. record { bit_store_type = (e i).0; bit_order_type = (e i).1; form = tt })
-        (pair_law id_law id_law) };
+    ghost law = { bit_sequence_law };
 }
 
 impl Scale for TypeDefMap<PortableForm> {
-    ghost encodes = { λ v b. EncodesPair EncodesId EncodesId (map_parts v) b };
+    ghost encodes = { EncodesMap };
 
     fn encode_to(&self, out: &mut Vec<u8>) -> Result<(), EncodeError> {
         encode_two(&self.key, &self.value, out)
@@ -265,9 +228,7 @@ impl Scale for TypeDefMap<PortableForm> {
         Ok((TypeDefMap::new(key, value), rest))
     }
 
-    ghost law = { through_law map_parts
-        (λ v w e i. record { key = (e i).0; value = (e i).1; form = tt })
-        (pair_law id_law id_law) };
+    ghost law = { map_law };
 }
 
 /// Reads the parts of the definition with this index.

@@ -8,7 +8,7 @@ use Rattle.std.specs.List.{AllZip}
 use Rattle.scale_info_numberings.specs.Systems.{IsReachedPast}
 use Rattle.scale_info_numberings.specs.Numberings.{AreDistinct}
 use Rattle.scale_info_numberings.specs.Extensions.{IsExtension}
-use Rattle.scale_info_identities.specs.Interned.{IsKnown, IsNew}
+use Rattle.scale_info_interner.specs.Interned.{IsKnown, IsNew}
 use Rattle.scale_info_types.specs.References.{references}
 use Rattle.scale_info_identities.specs.TypeIds.{Term, term_of}
 use Rattle.scale_info_types.specs.declared.meta_type.MetaType.{MetaType}

@@ -2,7 +2,7 @@
 use Rattle.std.proofs.Common.{◌≡◌, ◌↔◌, ℕ, zero, suc, List, [], ◌∷◌, Some, slice_get, length, Contains}
 use Rattle.std.proofs.Common.{refl, sym, ◌∙◌, ap, arith}
 use Rattle.std.proofs.lemmas.Option.{same_Some, none-some}
-use Rattle.scale_info_identities.specs.Interned.{AreDistinctBy, IsIndexOf, IsKnown}
+use Rattle.scale_info_interner.specs.Interned.{AreDistinctBy, IsIndexOf, IsKnown}
 use Rattle.scale_info_identities.specs.TypeIdLaws.{same_type_ids}
 use Rattle.scale_info_identities.specs.TypeIds.{Term, term_of}
 use Rattle.scale_info_identities.specs.contracts.type_id.TypeIdPartialEq.TheImpl.{ghosts as equals}

@@ -3,7 +3,7 @@ use Rattle.std.specs.Prelude.{◌≡◌, ◌<◌, ◌++◌, ◌∷◌, [], List,
 use Rattle.std.specs.Prelude.{map, length, reverse, All, Contains, ◌⊎◌, ⊤}
 use Rattle.std.specs.Borrow.{Bor}
 use Rattle.std.specs.List.{AllZip}
-use Rattle.scale_info_identities.specs.Interned.{IsKnown, IsNew}
+use Rattle.scale_info_interner.specs.Interned.{IsKnown, IsNew}
 use Rattle.scale_info_identities.specs.TypeIds.{Term, term_of}
 use Rattle.scale_info_identities.specs.contracts.type_id.TypeIdPartialEq.TheImpl.{ghosts as equals}
 use Rattle.scale_info_identities.specs.declared.type_id.TypeId.{TypeId}

@@ -3,7 +3,7 @@ ghost use Rattle.std.specs.Option.{option_copied};
 ghost use Rattle.std.specs.Prelude.{◌≡◌, ◌++◌, ◌∷◌, [], List, OnErr, OnOk, IfErr, IfOk, IfSome};
 ghost use Rattle.std.specs.Prelude.{◌↔◌, IsSome};
 ghost use Rattle.std.specs.Prelude.{reverse};
-ghost use Rattle.scale_info_identities.specs.Interned.{IsIndexOf, IsKnown};
+ghost use Rattle.scale_info_interner.specs.Interned.{IsIndexOf, IsKnown};
 ghost use Rattle.scale_info_identities.specs.declared.type_id.TypeId.{TypeId};
 ghost use Rattle.scale_info_numberings.specs.Extensions.{IsExtension};
 ghost use Rattle.scale_info_discovery.specs.CatalogueSystems.{catalogue_system};
@@ -14,8 +14,8 @@ ghost use Rattle.scale_info_discovery.specs.declared.discovery.RegisterError.The
 use crate::number_cache::NumberCache;
 use scale_info_catalogue::catalogue::Catalogue;
 use scale_info_collections::try_clone::TryClone;
-use scale_info_identities::interner::{InternError, Interner};
 use scale_info_identities::type_id::TypeId;
+use scale_info_interner::interner::{InternError, Interner};
 use scale_info_references::references::references_of;
 use scale_info_types::meta_type::MetaType;
 use scale_info_types::ty::Type;

@@ -5,11 +5,11 @@
 //! to a number, which is then confirmed by the one identity that has it.
 ghost use Rattle.std.specs.Prelude.{◌≡◌, ◌≢◌, ◌⊎◌, [], ℕ, Some, Contains, IfNone, IfSome};
 ghost use Rattle.std.specs.Prelude.{bit_xor, slice_get, slice_set};
-ghost use Rattle.scale_info_identities.specs.Interned.{IsIndexOf};
+ghost use Rattle.scale_info_interner.specs.Interned.{IsIndexOf};
 ghost use Rattle.scale_info_discovery.specs.NumberCaches.{slot_of};
 
-use scale_info_identities::interner::Interner;
 use scale_info_identities::type_id::TypeId;
+use scale_info_interner::interner::Interner;
 use std::alloc::Global;
 use std::marker::Model;
 

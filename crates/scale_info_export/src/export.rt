@@ -6,7 +6,7 @@ ghost use Rattle.scale_info_export.specs.Exports.{IsRegisteredTable, of_encode, 
 ghost use Rattle.scale_info_export.specs.Exports.{of_retain};
 ghost use Rattle.scale_info_export.specs.declared.export.ExportError.TheVariants as export_error;
 ghost use Rattle.scale_info_discovery.specs.CatalogueSystems.{catalogue_system};
-ghost use Rattle.scale_info_identities.specs.declared.interner.UntrackedSymbol as tracked;
+ghost use Rattle.scale_info_identities.specs.declared.symbol.UntrackedSymbol as tracked;
 ghost use Rattle.scale_info_identities.specs.declared.type_id.TypeId.{TypeId};
 ghost use Rattle.scale_info_discovery.specs.Discoveries.{roots_of};
 ghost use Rattle.scale_info_tables.specs.TableEncoding.{EncodesRegistry};
@@ -15,7 +15,7 @@ ghost use Rattle.scale_info_tables.specs.declared.portable.PortableRegistry as t
 use crate::laws::registered_tables;
 use scale_info_bytes::error::EncodeError;
 use scale_info_catalogue::catalogue::Catalogue;
-use scale_info_identities::interner::UntrackedSymbol;
+use scale_info_identities::symbol::UntrackedSymbol;
 use scale_info_identities::type_id::TypeId;
 use scale_info_registry::registry::{RegisterError, Registry};
 use scale_info_tables::portable::PortableRegistry;

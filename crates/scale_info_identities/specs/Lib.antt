@@ -1,5 +1,2 @@
-pub mod Identifiers
-pub mod Interned
-pub mod Orders
 pub mod TypeIds
 pub mod TypeIdLaws

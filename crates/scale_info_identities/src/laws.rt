@@ -1,13 +1,12 @@
-//! Laws of identities. Nothing here does any work when it runs.
+//! Laws of identities and symbols. Nothing here does any work when it runs.
 ghost use Rattle.std.specs.Prelude.{◌≡◌, ◌↔◌, IsTrue};
 ghost use Rattle.std.specs.Cmp.Lexicographic.{slice_cmp};
 ghost use Rattle.std.specs.Ordering.{nat_cmp, ordering_then};
 ghost use Rattle.scale_info_identities.specs.TypeIds.{term_of};
+ghost use Rattle.scale_info_identities.specs.declared.symbol.UntrackedSymbol as untracked;
 ghost use Rattle.scale_info_identities.specs.declared.type_id.TypeId.{TypeId, out-TypeId};
 
-mod symbols;
-
-pub use symbols::{equal_intern_errors, symbols_by_number, tracked_symbols_by_number};
+use crate::symbol::UntrackedSymbol;
 
 /// Two identities are equal exactly where their terms are: heads by their bytes, numbers and
 /// arguments.
@@ -32,4 +31,14 @@ pub fn hashed_type_ids()
     ensures { (a b : TypeId) → IsTrue (⟦<crate::type_id::TypeId as PartialEq>⟧.eq a b)
         → ⟦<crate::type_id::TypeId as std::hash::Hash>⟧.hash_input a
         ≡ ⟦<crate::type_id::TypeId as std::hash::Hash>⟧.hash_input b }
+{}
+
+/// Symbols are equal, and ordered, by their numbers.
+///
+/// So the symbol with the number 2 comes before the one with the number 10.
+pub fn symbols_by_number<T>()
+    ensures equal { (a b : untracked.UntrackedSymbol T)
+        → IsTrue (⟦<UntrackedSymbol<T> as PartialEq>⟧.eq a b) ↔ (a.id ≡ b.id) }
+    ensures ordered { (a b : untracked.UntrackedSymbol T)
+        → ⟦<UntrackedSymbol<T> as Ord>⟧.cmp a b ≡ nat_cmp a.id b.id }
 {}

@@ -1,10 +1,6 @@
-//! Identities of types, lists of distinct values, and questions about texts.
+//! Identities of types, and the symbols that stand for them in a table.
 #![tactic(auto)]
 
-mod bounds;
-pub mod interner;
 pub mod laws;
-mod order;
-mod rooms;
+pub mod symbol;
 pub mod type_id;
-pub mod utils;

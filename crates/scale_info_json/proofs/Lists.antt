@@ -9,8 +9,8 @@ use Rattle.serde_json.specs.Find.{as_array}
 use Rattle.serde_json.specs.View.{items_of, items_view, view}
 use Rattle.serde_json.specs.Written.{items_outline}
 use Rattle.serde_json.specs.declared.value.Value.{Value}
-use Rattle.scale_info_json.specs.Meaning.{MeansEach, MeansList, IsMeaningless}
-use Rattle.scale_info_json.specs.Steps.{tokens_of}
+use Rattle.scale_info_json_trees.specs.Meaning.{MeansEach, MeansList, IsMeaningless}
+use Rattle.scale_info_json_trees.specs.Steps.{tokens_of}
 use Rattle.scale_info_json.specs.Laws.{same_array}
 
 -- ---- one more value

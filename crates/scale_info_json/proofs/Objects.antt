@@ -1,45 +1,25 @@
 -- Objects, member by member.
-use Rattle.std.proofs.Common.{◌≡◌, ℕ, List, [], ◌∷◌, ◌++◌, true, false, Option, Some, None}
+use Rattle.std.proofs.Common.{◌≡◌, ℕ, List, [], ◌∷◌, true, false, Option, Some, None}
 use Rattle.std.proofs.Common.{Ordering, Less, Equal, Greater, sym, ◌∙◌, ap, subst, refl}
-use Rattle.std.proofs.Common.{append_assoc, rules}
+use Rattle.std.proofs.Common.{rules}
 use Rattle.std.proofs.lemmas.Bool.{and_parts}
 use Rattle.std.specs.Ordering.{nat_cmp, match_ordering}
 use Rattle.std.specs.Cmp.Lexicographic.{slice_cmp}
-use Rattle.json.specs.Token.{Token, key, begin_object, end_object}
-use Rattle.json.specs.Tree.{members_tokens}
 use Rattle.serde_json.specs.Data.{Data, null, Members, no_members, member, put}
 use Rattle.serde_json.specs.Find.{get_member}
 use Rattle.serde_json.specs.View.{view}
-use Rattle.serde_json.specs.Written.{members_outline}
 use Rattle.serde_json.specs.declared.value.Value.{Null, the_lemmas}
 use Rattle.std.specs.Prelude.{option_map, IfSome}
-use Rattle.scale_info_json.specs.Meaning.{HasValue, MeansRequired, MeansOrEmpty, MeansOrNone}
-use Rattle.scale_info_json.specs.Meaning.{HasList, HasOption, MeansList}
-use Rattle.scale_info_json.specs.Written.{Row, members_of, object_tree, list_tree, unless_empty}
-use Rattle.scale_info_json.specs.Written.{or_null}
-use Rattle.scale_info_json.specs.Steps.{after_rows, put_row, append_row, tokens_of, is_above}
-use Rattle.scale_info_json.specs.Steps.{are_above, in_order}
+use Rattle.scale_info_json_trees.specs.Meaning.{HasValue, MeansRequired, MeansOrEmpty, MeansOrNone}
+use Rattle.scale_info_json_trees.specs.Meaning.{HasList, HasOption, MeansList}
+use Rattle.scale_info_json_trees.specs.Written.{Row, members_of, object_tree, list_tree}
+use Rattle.scale_info_json_trees.specs.Written.{unless_empty}
+use Rattle.scale_info_json_trees.specs.Written.{or_null}
+use Rattle.scale_info_json_trees.specs.Steps.{after_rows, put_row, is_above}
+use Rattle.scale_info_json_trees.specs.Steps.{are_above, in_order}
 
 pub view-Null : view Null ≡ null
 view-Null = search (rules, the_lemmas)
-
--- ---- texts
-
--- rows written one after another append the tokens of their members
-pub text_rows :
-    (rows : List Row) (s : List ℕ × List Token)
-    → (after_rows append_row rows s).1 ++ end_object ∷ [] ≡ s.1 ++ members_tokens (members_outline (members_of rows))
-text_rows [] s = refl
-text_rows ((k, None) ∷ rows) s = text_rows rows s
-text_rows ((k, Some d) ∷ rows) s =
-    text_rows rows (s.0, s.1 ++ key k ∷ tokens_of d) ∙ append_assoc s.1 (key k ∷ tokens_of d) _
-
--- rows written one after another keep the bytes before
-pub text_before :
-    (rows : List Row) (s : List ℕ × List Token) → (after_rows append_row rows s).0 ≡ s.0
-text_before [] s = refl
-text_before ((k, None) ∷ rows) s = text_before rows s
-text_before ((k, Some d) ∷ rows) s = text_before rows (s.0, s.1 ++ key k ∷ tokens_of d)
 
 -- ---- trees
 
@@ -198,12 +178,3 @@ pub nullable_row :
     → HasOption k M (object_tree rows) v
 nullable_row M W k rows v e m =
     subst (λ o. MeansOrNone M o v) (sym (found k rows ∙ e)) (nullable_row_on M W v m)
-
--- the tokens of an object are those of its rows between the brackets
-pub object_text :
-    (rows : List Row) (old begun new : List Token) (b : List ℕ) (given : List ℕ × List Token)
-    → begun ≡ old ++ begin_object ∷ [] → given ≡ after_rows append_row rows (b, begun)
-    → new ≡ given.1 ++ end_object ∷ []
-    → new ≡ old ++ begin_object ∷ members_tokens (members_outline (members_of rows))
-object_text rows old begun new b given p q e =
-    e ∙ ap (λ s. s.1 ++ end_object ∷ []) q ∙ text_rows rows (b, begun) ∙ ap (λ ts. ts ++ members_tokens (members_outline (members_of rows))) p ∙ append_assoc old (begin_object ∷ []) _

@@ -4,8 +4,8 @@ use Rattle.std.proofs.Common.{◌⊎◌, inl, inr, sym, subst, refl, ap}
 use Rattle.std.specs.Prelude.{is_some, if◌then◌else◌}
 use Rattle.serde_json.specs.Data.{Data, null, boolean, number, string, array, object}
 use Rattle.serde_json.specs.Find.{get, as_null}
-use Rattle.scale_info_json.specs.Meaning.{IsMeaningless, MeansList, MeansOrEmpty, MeansOrNull}
-use Rattle.scale_info_json.specs.Meaning.{MeansOrNone, HasList, HasOption, unless_null}
+use Rattle.scale_info_json_trees.specs.Meaning.{IsMeaningless, MeansList, MeansOrEmpty, MeansOrNull}
+use Rattle.scale_info_json_trees.specs.Meaning.{MeansOrNone, HasList, HasOption, unless_null}
 
 -- a tree that is read as null is null
 pub null_of : (d : Data) → is_some (as_null d) ≡ true → d ≡ null

@@ -7,16 +7,17 @@ use Rattle.scale_info_types.specs.declared.ty.TypeDef.TheVariants as def
 use Rattle.scale_info_primitives.specs.declared.primitive.TypeDefPrimitive.{TypeDefPrimitive}
 use Rattle.scale_info_primitives.specs.declared.primitive.TypeDefPrimitive.TheVariants as kind
 use Rattle.scale_info_primitives.specs.Primitives.{primitive_name}
-use Rattle.scale_info_json.specs.Meaning.{IsMeaning, MeansNumber}
+use Rattle.scale_info_json_trees.specs.Meaning.{IsMeaning, MeansNumber}
 use Rattle.scale_info_json.specs.Laws.{number_law, list_law, value_unique, list_at_unique}
 use Rattle.scale_info_json.specs.Laws.{no_object}
-use Rattle.scale_info_json.specs.Described.{MeansId, MeansField, MeansVariant}
+use Rattle.scale_info_json_trees.specs.Described.{MeansId, MeansField, MeansVariant}
 use Rattle.scale_info_json.specs.DescribedLaws.{id_law, field_law, variant_law}
-use Rattle.scale_info_json.specs.Definitions.{MeansComposite, MeansVariantType, MeansSequence}
-use Rattle.scale_info_json.specs.Definitions.{MeansArray, MeansCompact, MeansBitSequence, MeansMap}
-use Rattle.scale_info_json.specs.Definitions.{MeansPrimitive, MeansUnder, composite, variant}
-use Rattle.scale_info_json.specs.Definitions.{sequence, array, tuple, primitive, compact}
-use Rattle.scale_info_json.specs.Definitions.{bit_sequence, map, MeansTypeDef}
+use Rattle.scale_info_json_trees.specs.Definitions.{MeansComposite, MeansVariantType, MeansSequence}
+use Rattle.scale_info_json_trees.specs.Definitions.{MeansArray, MeansCompact, MeansBitSequence}
+use Rattle.scale_info_json_trees.specs.Definitions.{MeansMap}
+use Rattle.scale_info_json_trees.specs.Definitions.{MeansPrimitive, MeansUnder, composite, variant}
+use Rattle.scale_info_json_trees.specs.Definitions.{sequence, array, tuple, primitive, compact}
+use Rattle.scale_info_json_trees.specs.Definitions.{bit_sequence, map, MeansTypeDef}
 
 -- a tree means at most one composite
 pub composite_law : IsMeaning MeansComposite

@@ -4,9 +4,10 @@ use Rattle.std.proofs.Common.{sym, ◌∙◌, ap, ap₂, subst, Option, Some, No
 use Rattle.serde_json.specs.Data.{Data, null, number, unsigned, string, array}
 use Rattle.serde_json.specs.Find.{get}
 use Rattle.serde_json.specs.View.{items_of}
-use Rattle.scale_info_json.specs.Meaning.{IsMeaning, MeansNumber, MeansText, MeansEach, MeansList}
-use Rattle.scale_info_json.specs.Meaning.{IsObject, MeansRequired, HasValue, MeansOrEmpty}
-use Rattle.scale_info_json.specs.Meaning.{MeansOrNull, MeansOrNone, HasList, HasOption}
+use Rattle.scale_info_json_trees.specs.Meaning.{IsMeaning, MeansNumber, MeansText, MeansEach}
+use Rattle.scale_info_json_trees.specs.Meaning.{MeansList}
+use Rattle.scale_info_json_trees.specs.Meaning.{IsObject, MeansRequired, HasValue, MeansOrEmpty}
+use Rattle.scale_info_json_trees.specs.Meaning.{MeansOrNull, MeansOrNone, HasList, HasOption}
 
 -- a tree means at most one number
 pub number_law : (limit : ℕ) → IsMeaning (MeansNumber limit)

@@ -1,11 +1,12 @@
-pub mod Meaning
-pub mod Written
-pub mod Steps
+pub mod Errors
 pub mod Laws
-pub mod Described
 pub mod DescribedLaws
-pub mod Definitions
 pub mod DefinitionLaws
 pub mod Tables
 pub mod TableLaws
 pub mod Examples
+pub use Rattle.scale_info_json_trees.specs.Meaning
+pub use Rattle.scale_info_json_trees.specs.Written
+pub use Rattle.scale_info_json_trees.specs.Described
+pub use Rattle.scale_info_json_trees.specs.Definitions
+pub use Rattle.scale_info_json_trees.specs.Entries

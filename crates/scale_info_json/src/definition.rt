@@ -3,15 +3,17 @@ ghost use Rattle.std.specs.Prelude.{◌≡◌, refl, List, ℕ, IfSome, IfNone, 
 ghost use Rattle.serde_json.specs.Data.{Data};
 ghost use Rattle.serde_json.specs.View.{view};
 ghost use Rattle.scale_info_primitives.specs.Primitives.{primitive_name};
-ghost use Rattle.scale_info_json.specs.Meaning.{IsMeaningless, IfShape};
-ghost use Rattle.scale_info_json.specs.Definitions.{composite_rows, MeansComposite};
-ghost use Rattle.scale_info_json.specs.Definitions.{variant_type_rows, MeansVariantType};
-ghost use Rattle.scale_info_json.specs.Definitions.{sequence_rows, MeansSequence, array_rows};
-ghost use Rattle.scale_info_json.specs.Definitions.{MeansArray, compact_rows, MeansCompact};
-ghost use Rattle.scale_info_json.specs.Definitions.{bit_sequence_rows, MeansBitSequence, map_rows};
-ghost use Rattle.scale_info_json.specs.Definitions.{MeansMap, primitive_tree, MeansPrimitive};
-ghost use Rattle.scale_info_json.specs.Definitions.{type_def_rows, HasOnly, MeansUnder};
-ghost use Rattle.scale_info_json.specs.Definitions.{MeansTypeDef};
+ghost use Rattle.scale_info_json.specs.Errors.{IfShape};
+ghost use Rattle.scale_info_json_trees.specs.Meaning.{IsMeaningless};
+ghost use Rattle.scale_info_json_trees.specs.Definitions.{composite_rows, MeansComposite};
+ghost use Rattle.scale_info_json_trees.specs.Definitions.{variant_type_rows, MeansVariantType};
+ghost use Rattle.scale_info_json_trees.specs.Definitions.{sequence_rows, MeansSequence, array_rows};
+ghost use Rattle.scale_info_json_trees.specs.Definitions.{MeansArray, compact_rows, MeansCompact};
+ghost use Rattle.scale_info_json_trees.specs.Definitions.{bit_sequence_rows, MeansBitSequence};
+ghost use Rattle.scale_info_json_trees.specs.Definitions.{map_rows};
+ghost use Rattle.scale_info_json_trees.specs.Definitions.{MeansMap, primitive_tree, MeansPrimitive};
+ghost use Rattle.scale_info_json_trees.specs.Definitions.{type_def_rows, HasOnly, MeansUnder};
+ghost use Rattle.scale_info_json_trees.specs.Definitions.{MeansTypeDef};
 ghost use Rattle.scale_info_json.specs.DefinitionLaws.{composite_law, variant_type_law};
 ghost use Rattle.scale_info_json.specs.DefinitionLaws.{sequence_law, array_law, compact_law};
 ghost use Rattle.scale_info_json.specs.DefinitionLaws.{bit_sequence_law, map_law, primitive_law};
@@ -262,7 +264,7 @@ fn only_member(tree: &Value) -> Option<(&str, &Value)>
 /// The definition that a key and its tree mean.
 ///
 /// Errors: `Shape`, where they mean none; `Memory`, if an allocation failed.
-#[tactic(auto, using(crate::specs::Definitions::definitions))]
+#[tactic(auto, using(scale_info_json_trees::specs::Definitions::definitions))]
 fn definition_under(
     alloc: Global,
     key: &str,
@@ -294,7 +296,7 @@ impl Object for TypeDef<PortableForm> {
 
     ghost meant = { MeansTypeDef };
 
-    #[tactic(auto, using(crate::specs::Definitions::definitions))]
+    #[tactic(auto, using(scale_info_json_trees::specs::Definitions::definitions))]
     fn write_members<W: ObjectWriter>(&self, out: &mut W) -> Result<(), AllocError> {
         match self {
             TypeDef::Composite(def) => out.write_member("composite", def),

@@ -1,9 +1,10 @@
 //! Parts of descriptions as trees.
 ghost use Rattle.std.specs.Prelude.{refl};
 ghost use Rattle.serde_json.specs.Data.{number, unsigned};
-ghost use Rattle.scale_info_json.specs.Described.{id_tree, MeansId, field_rows, MeansField};
-ghost use Rattle.scale_info_json.specs.Described.{parameter_rows, MeansParameter, variant_rows};
-ghost use Rattle.scale_info_json.specs.Described.{MeansVariant};
+ghost use Rattle.scale_info_json_trees.specs.Described.{id_tree, MeansId, field_rows, MeansField};
+ghost use Rattle.scale_info_json_trees.specs.Described.{parameter_rows, MeansParameter};
+ghost use Rattle.scale_info_json_trees.specs.Described.{variant_rows};
+ghost use Rattle.scale_info_json_trees.specs.Described.{MeansVariant};
 ghost use Rattle.scale_info_json.specs.DescribedLaws.{id_law, field_law, parameter_law};
 ghost use Rattle.scale_info_json.specs.DescribedLaws.{variant_law};
 
@@ -12,7 +13,7 @@ use crate::members::{Object, ObjectWriter, write_or_null, write_unless_empty, wr
 use crate::reading::{list_or_empty, require_object, required, value_or_none};
 use crate::tree::Json;
 use json::Writer;
-use scale_info_identities::interner::UntrackedSymbol;
+use scale_info_identities::symbol::UntrackedSymbol;
 use scale_info_identities::type_id::TypeId;
 use scale_info_types::form::PortableForm;
 use scale_info_types::ty::TypeParameter;

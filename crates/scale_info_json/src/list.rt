@@ -1,8 +1,8 @@
 //! Lists as trees.
 ghost use Rattle.std.specs.Prelude.{◌≡◌, ◌++◌, ◌∷◌, [], IfOk, OnOk, map};
 ghost use Rattle.serde_json.specs.View.{view};
-ghost use Rattle.scale_info_json.specs.Meaning.{MeansEach, MeansList};
-ghost use Rattle.scale_info_json.specs.Written.{list_tree};
+ghost use Rattle.scale_info_json_trees.specs.Meaning.{MeansEach, MeansList};
+ghost use Rattle.scale_info_json_trees.specs.Written.{list_tree};
 ghost use Rattle.scale_info_json.specs.Laws.{list_law};
 
 use crate::error::JsonError;

@@ -2,9 +2,10 @@
 ghost use Rattle.std.specs.Prelude.{◌≡◌, IfOk, IfErr, option_map};
 ghost use Rattle.serde_json.specs.Find.{get};
 ghost use Rattle.serde_json.specs.View.{view};
-ghost use Rattle.scale_info_json.specs.Meaning.{IsObject, HasValue, HasList, HasOption};
-ghost use Rattle.scale_info_json.specs.Meaning.{unless_null};
-ghost use Rattle.scale_info_json.specs.Meaning.{IsMeaningless, IfShape};
+ghost use Rattle.scale_info_json_trees.specs.Meaning.{IsObject, HasValue, HasList, HasOption};
+ghost use Rattle.scale_info_json_trees.specs.Meaning.{unless_null};
+ghost use Rattle.scale_info_json.specs.Errors.{IfShape};
+ghost use Rattle.scale_info_json_trees.specs.Meaning.{IsMeaningless};
 
 use crate::error::JsonError;
 use crate::tree::Json;

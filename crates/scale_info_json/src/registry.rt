@@ -2,7 +2,8 @@
 ghost use Rattle.std.specs.Prelude.{◌≡◌, ◌++◌, refl, IfOk, IfErr};
 ghost use Rattle.serde_json.specs.View.{view};
 ghost use Rattle.serde_json.specs.Written.{compact_text};
-ghost use Rattle.scale_info_json.specs.Meaning.{IsMeaningless, IfShape};
+ghost use Rattle.scale_info_json.specs.Errors.{IfShape};
+ghost use Rattle.scale_info_json_trees.specs.Meaning.{IsMeaningless};
 ghost use Rattle.scale_info_json.specs.Tables.{table_rows, table_tree, MeansTable};
 ghost use Rattle.scale_info_json.specs.TableLaws.{table_law};
 

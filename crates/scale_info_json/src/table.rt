@@ -1,7 +1,8 @@
 //! Descriptions and entries of a table as trees.
 ghost use Rattle.std.specs.Prelude.{refl};
-ghost use Rattle.scale_info_json.specs.Tables.{description_rows, MeansDescription, entry_rows};
-ghost use Rattle.scale_info_json.specs.Tables.{MeansEntry};
+ghost use Rattle.scale_info_json_trees.specs.Entries.{description_rows, MeansDescription};
+ghost use Rattle.scale_info_json_trees.specs.Entries.{entry_rows};
+ghost use Rattle.scale_info_json_trees.specs.Entries.{MeansEntry};
 ghost use Rattle.scale_info_json.specs.TableLaws.{description_law, entry_law};
 
 use crate::error::JsonError;

@@ -1,6 +1,6 @@
 //! Texts as trees.
 ghost use Rattle.serde_json.specs.Data.{string};
-ghost use Rattle.scale_info_json.specs.Meaning.{MeansText};
+ghost use Rattle.scale_info_json_trees.specs.Meaning.{MeansText};
 ghost use Rattle.scale_info_json.specs.Laws.{text_law};
 
 use crate::error::JsonError;

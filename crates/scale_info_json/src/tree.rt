@@ -2,8 +2,9 @@
 ghost use Rattle.std.specs.Prelude.{◌≡◌, ◌++◌, IfOk, IfErr, OnOk};
 ghost use Rattle.serde_json.specs.Data.{Data};
 ghost use Rattle.serde_json.specs.View.{view};
-ghost use Rattle.scale_info_json.specs.Meaning.{IsMeaning, IsMeaningless, IfShape};
-ghost use Rattle.scale_info_json.specs.Steps.{tokens_of};
+ghost use Rattle.scale_info_json.specs.Errors.{IfShape};
+ghost use Rattle.scale_info_json_trees.specs.Meaning.{IsMeaning, IsMeaningless};
+ghost use Rattle.scale_info_json_trees.specs.Steps.{tokens_of};
 
 use crate::error::JsonError;
 use json::Writer;

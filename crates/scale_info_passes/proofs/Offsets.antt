@@ -16,8 +16,8 @@ use Rattle.scale_info_type_ids.specs.declared.impls.Compact.{Compact}
 use Rattle.scale_info_bytes.specs.Encodings.{HasPrefix, HasNoPrefix, IsEncoding, AppendsEncoding}
 use Rattle.scale_info_bytes.specs.Numbers.{EncodesCompact}
 use Rattle.scale_info_bytes.specs.Parts.{EncodesItems}
-use Rattle.scale_info_codec.specs.Ty.{EncodesDescription, EncodesPortableType, portable_type_parts}
-use Rattle.scale_info_codec.specs.TyLaws.{portable_type_law, description_law}
+use Rattle.scale_info_grammar.specs.Ty.{EncodesDescription, EncodesPortableType, portable_type_parts}
+use Rattle.scale_info_grammar.specs.TyLaws.{portable_type_law, description_law}
 use Rattle.scale_info_bytes.specs.CompactLaws.{compact_law}
 use Rattle.scale_info_bytes.specs.PartLaws.{through_law}
 use Rattle.scale_info_passes.specs.Pieces.{HasSomePrefix}

@@ -1,7 +1,7 @@
 -- Passes over the parts of a value.
 use Rattle.std.proofs.Common.{◌≡◌, ℕ, ◌+◌, List, [], ◌∷◌, ◌++◌, length, map, Option, Some, None}
 use Rattle.std.proofs.Common.{refl, sym, ap, subst, ◌∙◌, arith, length-append}
-use Rattle.std.specs.Prelude.{option_map, option_to_list, IfSome, IfNone, IsSome}
+use Rattle.std.specs.Prelude.{option_map, option_to_list, IfNone, IsSome}
 use Rattle.std.specs.List.{flat_map}
 use Rattle.std.proofs.lemmas.Grind.{flat_map-append}
 use Rattle.std.proofs.lemmas.List.{append-nil, map-append, length-map}
@@ -14,8 +14,8 @@ use Rattle.scale_info_passes.specs.Pieces.{Piece, verbatim, reference, reference
 use Rattle.scale_info_passes.specs.Pieces.{HasVisitedSome, HasVisitedItems}
 use Rattle.scale_info_bytes.proofs.Steps.{prefix_both, prefix_pair, prefix_item, items_on}
 use Rattle.scale_info_types.specs.Portable as portable
-use Rattle.scale_info_codec.specs.Ty.{EncodesTypeDefWithIndex, EncodesTypeDef}
-use Rattle.scale_info_codec.proofs.Definitions.{prefix_definition}
+use Rattle.scale_info_grammar.specs.Ty.{EncodesTypeDefWithIndex, EncodesTypeDef}
+use Rattle.scale_info_grammar.proofs.Definitions.{prefix_definition}
 use Rattle.scale_info_bytes.proofs.Index.{BeginsWith, prefix_from_index, after}
 
 -- ---- the pieces of values

@@ -7,7 +7,7 @@ use Rattle.scale_info_types.specs.References.{references}
 use Rattle.scale_info_types.specs.declared.ty.PortableType.{PortableType}
 use Rattle.scale_info_bytes.specs.Encodings.{HasPrefix, AppendsEncoding}
 use Rattle.scale_info_bytes.specs.Parts.{EncodesItems}
-use Rattle.scale_info_codec.specs.Ty.{EncodesDescription, EncodesPortableType}
+use Rattle.scale_info_grammar.specs.Ty.{EncodesDescription, EncodesPortableType}
 use Rattle.scale_info_passes.specs.Visits.{ids_of}
 
 -- from this offset the input begins with the entry's description

@@ -3,7 +3,7 @@ ghost use Rattle.std.specs.Prelude.{◌≡◌, ◌<◌, ◌≤◌, List, length,
 ghost use Rattle.std.specs.List.{All};
 ghost use Rattle.scale_info_types.specs.declared.ty.PortableType.{PortableType};
 ghost use Rattle.scale_info_bytes.specs.Encodings.{IsPrefix};
-ghost use Rattle.scale_info_codec.specs.Ty.{EncodesPortableType};
+ghost use Rattle.scale_info_grammar.specs.Ty.{EncodesPortableType};
 ghost use Rattle.scale_info_bytes.specs.Parts.{HasNoItems};
 ghost use Rattle.scale_info_passes.specs.Entries.{AreAtOffsets, HasEntriesAt, IsEntryIndex};
 ghost use Rattle.scale_info_passes.specs.Entries.{AppendsKeptEntry, AppendsKeptEntries};

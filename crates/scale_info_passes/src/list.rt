@@ -2,7 +2,8 @@
 ghost use Rattle.std.specs.Prelude.{map, IfSome, IfNone};
 ghost use Rattle.std.specs.List.{flat_map};
 ghost use Rattle.scale_info_passes.specs.Pieces.{HasVisitedItems};
-ghost use Rattle.scale_info_bytes.specs.Parts.{HasNoItems};
+ghost use Rattle.scale_info_bytes.specs.PartLaws.{list_law};
+ghost use Rattle.scale_info_bytes.specs.Parts.{EncodesList, HasNoItems};
 
 use crate::pass::{Pass, Visitor, visit_verbatim};
 use scale_info_bytes::number::decode_compact;
@@ -27,6 +28,8 @@ fn pass_items<'a, T: Pass, V: Visitor>(
 }
 
 impl<T: Pass> Pass for Items<T> {
+    ghost encodes = { EncodesList T.encodes };
+
     ghost references_of = { λ v. flat_map T.references_of v };
 
     ghost map_references = { λ f v. map (T.map_references f) v };
@@ -36,4 +39,6 @@ impl<T: Pass> Pass for Items<T> {
         visit_verbatim(input, rest, visitor);
         pass_items::<T, V>(count, rest, visitor)
     }
+
+    ghost law = { list_law T.law };
 }

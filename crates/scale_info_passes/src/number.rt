@@ -1,35 +1,17 @@
 //! Passes over numbers.
-ghost use Rattle.std.specs.Prelude.{[], IfSome, IfNone};
-ghost use Rattle.scale_info_bytes.specs.Encodings.{HasPrefix, HasNoPrefix};
-ghost use Rattle.scale_info_bytes.specs.Numbers.{EncodesU8, EncodesU32};
+ghost use Rattle.std.specs.Prelude.{[]};
+ghost use Rattle.scale_info_bytes.specs.CompactLaws.{compact_law};
+ghost use Rattle.scale_info_bytes.specs.NumberLaws.{u8_law, u32_law};
+ghost use Rattle.scale_info_bytes.specs.Numbers.{EncodesCompact, EncodesU8, EncodesU32};
+ghost use Rattle.scale_info_bytes.specs.PartLaws.{through_law};
 
 use crate::pass::{Pass, Visitor, visit_verbatim};
-use scale_info_bytes::number::decode_compact;
+use scale_info_bytes::number::{decode_compact, decode_u8, decode_u32};
 use scale_info_type_ids::impls::Compact;
 
-/// The byte at the start of the input, and the rest.
-fn decode_u8(input: &[u8]) -> Option<(u8, &[u8])>
-    ensures some { IfSome result (λ found. HasPrefix (EncodesU8 found.0) input.now found.1.now) }
-    ensures none { IfNone result (HasNoPrefix EncodesU8 input.now) }
-{
-    match input {
-        [] => None,
-        [byte, rest @ ..] => Some((*byte, rest)),
-    }
-}
-
-/// The number in four bytes at the start of the input, and the rest.
-fn decode_u32(input: &[u8]) -> Option<(u32, &[u8])>
-    ensures some { IfSome result (λ found. HasPrefix (EncodesU32 found.0) input.now found.1.now) }
-    ensures none { IfNone result (HasNoPrefix EncodesU32 input.now) }
-{
-    match input {
-        [a, b, c, d, rest @ ..] => Some((u32::from_le_bytes([*a, *b, *c, *d]), rest)),
-        _ => None,
-    }
-}
-
 impl Pass for u8 {
+    ghost encodes = { EncodesU8 };
+
     ghost references_of = { λ _. [] };
 
     ghost map_references = { λ _ v. v };
@@ -39,9 +21,13 @@ impl Pass for u8 {
         visit_verbatim(input, rest, visitor);
         Some(rest)
     }
+
+    ghost law = { u8_law };
 }
 
 impl Pass for u32 {
+    ghost encodes = { EncodesU32 };
+
     ghost references_of = { λ _. [] };
 
     ghost map_references = { λ _ v. v };
@@ -51,9 +37,13 @@ impl Pass for u32 {
         visit_verbatim(input, rest, visitor);
         Some(rest)
     }
+
+    ghost law = { u32_law };
 }
 
 impl Pass for Compact<u32> {
+    ghost encodes = { λ v b. EncodesCompact v.0 b };
+
     ghost references_of = { λ _. [] };
 
     ghost map_references = { λ _ v. v };
@@ -63,4 +53,6 @@ impl Pass for Compact<u32> {
         visit_verbatim(input, rest, visitor);
         Some(rest)
     }
+
+    ghost law = { through_law (λ v. v.0) (λ v w e i. record { 0 = e i }) compact_law };
 }

@@ -1,11 +1,10 @@
 //! The trait of a pass, and that of a visitor.
 ghost use Rattle.std.specs.Prelude.{◌≡◌, ◌∷◌, ◌++◌, [], List, ℕ, IfSome, IfNone};
 ghost use Rattle.scale_info_types.specs.Portable.{Id};
-ghost use Rattle.scale_info_bytes.specs.Encodings.{HasNoPrefix};
+ghost use Rattle.scale_info_bytes.specs.Encodings.{HasNoPrefix, IsEncoding};
 ghost use Rattle.scale_info_passes.specs.Pieces.{Piece, verbatim, reference, HasVisitedSome};
 
-use scale_info_codec::Scale;
-use scale_info_identities::interner::UntrackedSymbol;
+use scale_info_identities::symbol::UntrackedSymbol;
 use scale_info_identities::type_id::TypeId;
 
 /// What visits the pieces of an encoding, one after another.
@@ -35,9 +34,12 @@ pub trait Visitor {
 
 /// A value over whose encoding a visitor can be led, with no value made.
 ///
-/// Any type that implements `Scale` may implement it. An implementor states the references of a
-/// value and the value with other references, and owes the contract of `pass`.
-pub trait Pass: Scale {
+/// Any type may implement it. An implementor states what encodes a value, the references of a value
+/// and the value with other references, and owes the contract of `pass` and a proof of `law`.
+pub trait Pass {
+    /// The whole list of bytes encodes the value.
+    ghost encodes: { Self → List ℕ → Type 0 };
+
     /// The references of the value, in the order of its encoding.
     ghost references_of: { Self → List Id };
 
@@ -49,9 +51,13 @@ pub trait Pass: Scale {
     /// None, if no prefix of the input encodes a value. The visitor may then have visited pieces.
     fn pass<'a, V: Visitor>(input: &'a [u8], visitor: &mut V) -> Option<&'a [u8]>
         ensures some { IfSome result (λ rest.
-            HasVisitedSome Self.encodes references_of map_references V.visited
+            HasVisitedSome encodes references_of map_references V.visited
             input.now rest.now visitor.old visitor.new) }
-        ensures none { IfNone result (HasNoPrefix Self.encodes input.now) };
+        ensures none { IfNone result (HasNoPrefix encodes input.now) };
+
+    /// A value has one encoding at most, no encoding is a proper prefix of another, and an encoding
+    /// is made of bytes.
+    ghost law: { IsEncoding encodes };
 }
 
 /// Shows the visitor the bytes of the input up to the rest.

@@ -1,6 +1,7 @@
 //! Passes over strings.
 ghost use Rattle.std.specs.Prelude.{[], IfSome, IfNone};
 ghost use Rattle.scale_info_bytes.specs.Encodings.{HasNoPrefix};
+ghost use Rattle.scale_info_bytes.specs.StringLaws.{text_law};
 ghost use Rattle.scale_info_bytes.specs.Strings.{EncodesText};
 ghost use Rattle.scale_info_passes.specs.Pieces.{HasSomePrefix};
 
@@ -20,6 +21,8 @@ fn skip_text(input: &[u8]) -> Option<&[u8]>
 }
 
 impl Pass for Text {
+    ghost encodes = { EncodesText };
+
     ghost references_of = { λ _. [] };
 
     ghost map_references = { λ _ v. v };
@@ -29,4 +32,6 @@ impl Pass for Text {
         visit_verbatim(input, rest, visitor);
         Some(rest)
     }
+
+    ghost law = { text_law };
 }

@@ -4,15 +4,21 @@ ghost use Rattle.scale_info_types.specs.Shapes.{map_path, map_parameter, map_fie
 ghost use Rattle.scale_info_types.specs.Shapes.{map_definition, map_description};
 ghost use Rattle.scale_info_types.specs.References.{references, definition_references};
 ghost use Rattle.scale_info_types.specs.References.{field_references};
-ghost use Rattle.scale_info_bytes.specs.Encodings.{HasPrefix, HasNoPrefix};
-ghost use Rattle.scale_info_codec.specs.Ty.{EncodesTypeDefWithIndex, EncodesPrimitive};
+ghost use Rattle.scale_info_bytes.specs.Encodings.{HasNoPrefix};
+ghost use Rattle.scale_info_grammar.specs.Ty.{EncodesDescription, EncodesField, EncodesParameter};
+ghost use Rattle.scale_info_grammar.specs.Ty.{EncodesPath, EncodesPortableType, EncodesPrimitive};
+ghost use Rattle.scale_info_grammar.specs.Ty.{EncodesTypeDef, EncodesTypeDefWithIndex};
+ghost use Rattle.scale_info_grammar.specs.Ty.{EncodesVariant};
+ghost use Rattle.scale_info_grammar.specs.TyLaws.{description_law, field_law, parameter_law};
+ghost use Rattle.scale_info_grammar.specs.TyLaws.{path_law, portable_type_law, primitive_law};
+ghost use Rattle.scale_info_grammar.specs.TyLaws.{type_def_law, variant_law};
 ghost use Rattle.scale_info_passes.specs.Pieces.{HasVisitedSome};
 
 use crate::pass::{Pass, Visitor, visit_verbatim};
-use scale_info_codec::primitive_of;
 use scale_info_collections::items::Items;
 use scale_info_collections::text::Text;
-use scale_info_identities::interner::UntrackedSymbol;
+use scale_info_grammar::decode_primitive;
+use scale_info_identities::symbol::UntrackedSymbol;
 use scale_info_identities::type_id::TypeId;
 use scale_info_type_ids::impls::Compact;
 use scale_info_types::form::PortableForm;
@@ -24,6 +30,8 @@ use scale_info_types::ty::{Description, PortableType, TypeDef, TypeDefPrimitive,
 type Id = UntrackedSymbol<TypeId>;
 
 impl Pass for Path<PortableForm> {
+    ghost encodes = { EncodesPath };
+
     ghost references_of = { λ _. [] };
 
     ghost map_references = { λ f v. map_path f (λ s. s) v };
@@ -31,9 +39,13 @@ impl Pass for Path<PortableForm> {
     fn pass<'a, V: Visitor>(input: &'a [u8], visitor: &mut V) -> Option<&'a [u8]> {
         Items::<Text>::pass(input, visitor)
     }
+
+    ghost law = { path_law };
 }
 
 impl Pass for TypeParameter<PortableForm> {
+    ghost encodes = { EncodesParameter };
+
     ghost references_of = { λ v. option_to_list v.ty };
 
     ghost map_references = { λ f v. map_parameter f (λ s. s) v };
@@ -41,9 +53,13 @@ impl Pass for TypeParameter<PortableForm> {
     fn pass<'a, V: Visitor>(input: &'a [u8], visitor: &mut V) -> Option<&'a [u8]> {
         <(Text, Option<Id>)>::pass(input, visitor)
     }
+
+    ghost law = { parameter_law };
 }
 
 impl Pass for Field<PortableForm> {
+    ghost encodes = { EncodesField };
+
     ghost references_of = { λ v. v.ty ∷ [] };
 
     ghost map_references = { λ f v. map_field f (λ s. s) v };
@@ -51,9 +67,13 @@ impl Pass for Field<PortableForm> {
     fn pass<'a, V: Visitor>(input: &'a [u8], visitor: &mut V) -> Option<&'a [u8]> {
         <(Option<Text>, (Id, (Option<Text>, Items<Text>)))>::pass(input, visitor)
     }
+
+    ghost law = { field_law };
 }
 
 impl Pass for Variant<PortableForm> {
+    ghost encodes = { EncodesVariant };
+
     ghost references_of = { λ v. field_references v.fields };
 
     ghost map_references = { λ f v. map_variant f (λ s. s) v };
@@ -61,24 +81,13 @@ impl Pass for Variant<PortableForm> {
     fn pass<'a, V: Visitor>(input: &'a [u8], visitor: &mut V) -> Option<&'a [u8]> {
         <(Text, (Items<Field<PortableForm>>, (u8, Items<Text>)))>::pass(input, visitor)
     }
-}
 
-/// The primitive at the start of the input, and the rest.
-fn decode_primitive(input: &[u8]) -> Option<(TypeDefPrimitive, &[u8])>
-    ensures some { IfSome result (λ found.
-        HasPrefix (EncodesPrimitive found.0) input.now found.1.now) }
-    ensures none { IfNone result (HasNoPrefix EncodesPrimitive input.now) }
-{
-    match input {
-        [] => None,
-        [byte, rest @ ..] => match primitive_of(*byte) {
-            Some(primitive) => Some((primitive, rest)),
-            None => None,
-        },
-    }
+    ghost law = { variant_law };
 }
 
 impl Pass for TypeDefPrimitive {
+    ghost encodes = { EncodesPrimitive };
+
     ghost references_of = { λ _. [] };
 
     ghost map_references = { λ _ v. v };
@@ -88,6 +97,8 @@ impl Pass for TypeDefPrimitive {
         visit_verbatim(input, rest, visitor);
         Some(rest)
     }
+
+    ghost law = { primitive_law };
 }
 
 /// Goes over the parts of the definition with this index.
@@ -113,6 +124,8 @@ fn pass_parts<'a, V: Visitor>(index: u8, input: &'a [u8], visitor: &mut V) -> Op
 }
 
 impl Pass for TypeDef<PortableForm> {
+    ghost encodes = { EncodesTypeDef };
+
     ghost references_of = { definition_references };
 
     ghost map_references = { λ f v. map_definition f (λ s. s) v };
@@ -126,9 +139,13 @@ impl Pass for TypeDef<PortableForm> {
             }
         }
     }
+
+    ghost law = { type_def_law };
 }
 
 impl Pass for Description<PortableForm> {
+    ghost encodes = { EncodesDescription };
+
     ghost references_of = { references };
 
     ghost map_references = { λ f v. map_description f (λ s. s) v };
@@ -142,9 +159,13 @@ impl Pass for Description<PortableForm> {
             ),
         )>::pass(input, visitor)
     }
+
+    ghost law = { description_law };
 }
 
 impl Pass for PortableType {
+    ghost encodes = { EncodesPortableType };
+
     ghost references_of = { λ v. references v.ty };
 
     ghost map_references = { λ f v. record { id = v.id; ty = map_description f (λ s. s) v.ty } };
@@ -152,4 +173,6 @@ impl Pass for PortableType {
     fn pass<'a, V: Visitor>(input: &'a [u8], visitor: &mut V) -> Option<&'a [u8]> {
         <(Compact<u32>, Description<PortableForm>)>::pass(input, visitor)
     }
+
+    ghost law = { portable_type_law };
 }

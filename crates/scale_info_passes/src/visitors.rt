@@ -10,7 +10,7 @@ ghost use Rattle.scale_info_passes.specs.VisitLaws.{gathers_none, gathers_append
 
 use crate::pass::{Pass, Visitor};
 use scale_info_bytes::number::encode_compact;
-use scale_info_identities::interner::UntrackedSymbol;
+use scale_info_identities::symbol::UntrackedSymbol;
 use scale_info_identities::type_id::TypeId;
 use std::alloc::{AllocError, Global};
 

@@ -8,7 +8,7 @@ use Rattle.scale_info_bytes.proofs.Lists.{prefix_list}
 use Rattle.scale_info_bytes.proofs.Steps.{appends_both}
 use Rattle.scale_info_bytes.specs.Encodings.{AppendsEncoding, HasPrefix}
 use Rattle.scale_info_bytes.specs.Numbers.{EncodesCompact}
-use Rattle.scale_info_codec.specs.Ty.{EncodesPortableType}
+use Rattle.scale_info_grammar.specs.Ty.{EncodesPortableType}
 use Rattle.scale_info_passes.specs.Entries.{AreKeptEntries, AppendsKeptEntries, IsEntryIndex}
 use Rattle.scale_info_passes.specs.Visits.{renumbered}
 use Rattle.scale_info_types.specs.Entries.{kept_entry}
@@ -16,7 +16,8 @@ use Rattle.scale_info_types.specs.Portable.{Id}
 use Rattle.scale_info_types.specs.declared.ty.PortableType.{PortableType}
 use Rattle.scale_info_walk.proofs.KeptEntries.{Agrees}
 use Rattle.scale_info_walk.specs.Kept.{AreKept}
-use Rattle.scale_info_prune.specs.TableIndexes.{AppendsKeptTable, EncodesTypes, HasTrailing, IsTableIndex}
+use Rattle.scale_info_grammar.specs.Ty.{EncodesTypes}
+use Rattle.scale_info_prune.specs.TableIndexes.{AppendsKeptTable, HasTrailing, IsTableIndex}
 
 -- the count and the entries are a table
 table_prefix :

@@ -2,3 +2,4 @@ pub mod ByteIndexes
 pub mod Prunes
 pub mod Roots
 pub mod TableIndexes
+pub use Rattle.scale_info_grammar.specs.Ty

@@ -13,7 +13,8 @@ use Rattle.scale_info_walk.specs.declared.walk.RetainError.TheVariants as retain
 use Rattle.scale_info_walk.specs.Walks.{AreNumbers}
 use Rattle.scale_info_prune.specs.ByteIndexes.{index_system}
 use Rattle.scale_info_prune.specs.Roots.{AreRoots, IsNoSuchType}
-use Rattle.scale_info_prune.specs.TableIndexes.{EncodesTypes, HasTrailing}
+use Rattle.scale_info_grammar.specs.Ty.{EncodesTypes}
+use Rattle.scale_info_prune.specs.TableIndexes.{HasTrailing}
 use Rattle.scale_info_prune.specs.declared.prune.PruneError.{PruneError}
 use Rattle.scale_info_prune.specs.declared.prune.PruneError.TheVariants.{Decode, Trailing}
 use Rattle.scale_info_prune.specs.declared.prune.PruneError.TheVariants.{NoSuchType, Retain}

@@ -1,15 +1,10 @@
 -- Indexes of whole tables, and tables that are kept.
 use Rattle.std.specs.Prelude.{◌≡◌, ◌≢◌, ℕ, List, [], length, flat_map}
 use Rattle.scale_info_bytes.specs.Encodings.{AppendsEncoding, HasPrefix}
-use Rattle.scale_info_bytes.specs.Parts.{EncodesList}
-use Rattle.scale_info_codec.specs.Ty.{EncodesPortableType}
+use Rattle.scale_info_grammar.specs.Ty.{EncodesTypes}
 use Rattle.scale_info_passes.specs.Entries.{AreAtOffsets, AreKeptEntries, AreStarts, reference_ids}
 use Rattle.scale_info_types.specs.Portable.{Id}
 use Rattle.scale_info_types.specs.declared.ty.PortableType.{PortableType}
-
--- a table as the list of its entries
-abbrev pub EncodesTypes : List PortableType → List ℕ → Type 0
-EncodesTypes types bytes = EncodesList EncodesPortableType types bytes
 
 -- the input encodes a table of so many entries, with nothing after it; in its body, which is what
 -- comes after the count, the descriptions are at these offsets; and the references of each entry

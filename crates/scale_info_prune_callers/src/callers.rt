@@ -10,7 +10,7 @@ ghost use Rattle.scale_info_numberings.specs.Systems.{System};
 ghost use Rattle.scale_info_numberings.specs.Tables.{IsTable};
 ghost use Rattle.scale_info_prune.specs.Prunes.{HasNewIds};
 ghost use Rattle.scale_info_prune.specs.Roots.{AreRoots};
-ghost use Rattle.scale_info_prune.specs.TableIndexes.{EncodesTypes};
+ghost use Rattle.scale_info_prune.specs.Ty.{EncodesTypes};
 ghost use Rattle.scale_info_types.specs.Shapes.{Shape};
 ghost use Rattle.scale_info_types.specs.declared.ty.PortableType.{PortableType};
 ghost use Rattle.scale_info_walk.specs.Pruned.{IsChosen, IsRetainError};

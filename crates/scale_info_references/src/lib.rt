@@ -1,8 +1,7 @@
-//! References of descriptions: gathered in order, and replaced by ids of a table.
+//! References of descriptions: gathered in order, and renumbered in place.
 #![tactic(auto)]
 
 pub mod closed;
-pub mod conversion;
 pub mod laws;
 pub mod references;
 pub mod renumbering;

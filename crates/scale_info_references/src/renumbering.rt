@@ -8,7 +8,7 @@ ghost use Rattle.scale_info_types.specs.Shapes.{map_definition};
 ghost use Rattle.scale_info_references.specs.Conversions.{number_of, symbol, with_ids};
 
 use scale_info_collections::items::Items;
-use scale_info_identities::interner::UntrackedSymbol;
+use scale_info_identities::symbol::UntrackedSymbol;
 use scale_info_identities::type_id::TypeId;
 use scale_info_types::form::PortableForm;
 use scale_info_types::ty::variant::Variant;

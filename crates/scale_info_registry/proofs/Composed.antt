@@ -33,7 +33,7 @@ use Rattle.scale_info_discovery.specs.Discoveries.{IsCause}
 use Rattle.scale_info_registry.specs.Registrations.{IsRegistration, IsConverted}
 use Rattle.scale_info_types.specs.MetaDescriptions.{type_term}
 use Rattle.scale_info_discovery.proofs.Terms.{length_nodes}
-use Rattle.scale_info_identities.specs.Interned as interned
+use Rattle.scale_info_interner.specs.Interned as interned
 use Rattle.scale_info_identities.specs.contracts.type_id.TypeIdPartialEq.TheImpl.{ghosts as equals}
 use Rattle.scale_info_registry.proofs.Registered.{registers_known, registers_nothing}
 

@@ -4,12 +4,12 @@ use Rattle.std.proofs.Common.{refl, ap, sym, ◌∙◌, subst, Option, Some, Non
 use Rattle.std.specs.Option.{unwrap_or}
 use Rattle.std.proofs.lemmas.Bool.{false≢true}
 use Rattle.std.proofs.lemmas.Option.{same_Some, none-some}
-use Rattle.scale_info_identities.specs.Interned.{IsIndexOf, IsKnown}
+use Rattle.scale_info_interner.specs.Interned.{IsIndexOf, IsKnown}
 use Rattle.scale_info_identities.specs.declared.type_id.TypeId.{TypeId}
 use Rattle.scale_info_identities.specs.contracts.type_id.TypeIdPartialEq.TheImpl.{ghosts as equals}
 use Rattle.scale_info_identities.specs.TypeIds.{term_of}
 use Rattle.scale_info_identities.specs.TypeIdLaws.{same_type_ids}
-use Rattle.scale_info_identities.specs.Interned as interned
+use Rattle.scale_info_interner.specs.Interned as interned
 use Rattle.scale_info_registry.specs.Registrations.{index_in}
 use Rattle.scale_info_discovery.proofs.Terms.{at_node, known_by_term}
 

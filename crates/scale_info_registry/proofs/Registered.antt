@@ -10,7 +10,7 @@ use Rattle.std.proofs.lemmas.Bool.{cases_lt}
 use Rattle.std.proofs.lemmas.List.{length_push}
 use Rattle.std.proofs.lemmas.Option.{same_Some, none-some, slice_get_within}
 use Rattle.scale_info_types.specs.Portable as portable
-use Rattle.scale_info_identities.specs.Interned as interned
+use Rattle.scale_info_interner.specs.Interned as interned
 use Rattle.scale_info_types.specs.References.{references}
 use Rattle.scale_info_types.specs.Shapes.{Shape}
 use Rattle.scale_info_identities.specs.TypeIds.{Term, term_of}

@@ -26,7 +26,7 @@ ghost use Rattle.std.specs.Prelude.{
   ◌+◌,
 };
 ghost use Rattle.scale_info_identities.specs.TypeIds.{term_of};
-ghost use Rattle.scale_info_identities.specs.declared.interner.UntrackedSymbol.{UntrackedSymbol};
+ghost use Rattle.scale_info_identities.specs.declared.symbol.UntrackedSymbol.{UntrackedSymbol};
 ghost use Rattle.scale_info_identities.specs.declared.type_id.TypeId.{TypeId};
 ghost use Rattle.scale_info_numberings.specs.Tables.{ArePlaces};
 ghost use Rattle.scale_info_types.specs.Iterators.{GivesAll};
@@ -57,9 +57,9 @@ use conversion::{HasTypes, Identities, alone};
 use scale_info_catalogue::catalogue::Catalogue;
 use scale_info_discovery::discovery::{discover, number_of, stack_up};
 use scale_info_discovery::number_cache::NumberCache;
-use scale_info_identities::interner::{Interner, UntrackedSymbol};
+use scale_info_identities::symbol::UntrackedSymbol;
 use scale_info_identities::type_id::TypeId;
-use scale_info_references::conversion::{Numbers, convert};
+use scale_info_interner::interner::Interner;
 use scale_info_references::references::references_of_types;
 use scale_info_types::form::PortableForm;
 use scale_info_types::meta_type::MetaType;
@@ -499,7 +499,7 @@ fn describe<'a>(
         cache,
     };
     for described in found {
-        let ty = convert(alloc, &numbers, described);
+        let ty = described.with_ids(alloc, &numbers);
         push_made(types, ty)?;
     }
     Ok(())

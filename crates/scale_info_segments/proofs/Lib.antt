@@ -1,1 +1,2 @@
 pub mod TypePaths
+pub mod Identifiers

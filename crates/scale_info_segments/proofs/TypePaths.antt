@@ -11,7 +11,7 @@ use Rattle.std.proofs.lemmas.List.{map-append, map_push, map_more, length-map, l
 use Rattle.std.proofs.lemmas.List.{flat_map_more, take_more, take_at, append_cancel_left}
 use Rattle.std.proofs.lemmas.List.Elements.{All-same, All-push}
 use Rattle.std.specs.List.{All}
-use Rattle.scale_info_identities.specs.Identifiers.{IsIdentifier}
+use Rattle.scale_info_segments.specs.Identifiers.{IsIdentifier}
 use Rattle.scale_info_segments.specs.TypePaths.{AreDeclared, StaticTexts, HasNoSeparator}
 use Rattle.scale_info_segments.specs.TypePaths.{IsAroundFirstSeparator, IsFirstInvalidIndex, IsPieces}
 use Rattle.scale_info_segments.specs.TypePaths.{cut, joined, replaced, whole, separator, texts}

@@ -1,2 +1,2 @@
 pub mod TypePaths
-pub use Rattle.scale_info_identities.specs.Identifiers
+pub mod Identifiers

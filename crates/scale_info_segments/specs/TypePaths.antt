@@ -4,7 +4,7 @@ use Rattle.std.specs.Prelude.{◌≡◌, ◌≢◌, ◌≤◌, ℕ, List, [], �
 use Rattle.std.specs.Prelude.{unwrap_or}
 use Rattle.std.specs.List.{All, find, join_by}
 use Rattle.std.specs.Str.{bytes_eq}
-use Rattle.scale_info_identities.specs.Identifiers.{IsIdentifier}
+use Rattle.scale_info_segments.specs.Identifiers.{IsIdentifier}
 use denote.Ref.{Bor}
 
 -- texts that the program holds, each a `&'static str`

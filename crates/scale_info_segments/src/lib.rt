@@ -4,3 +4,4 @@
 
 pub mod laws;
 pub mod segments;
+pub mod utils;

@@ -2,7 +2,7 @@
 ghost use Rattle.std.specs.Prelude.{◌≡◌, ◌≢◌, ℕ, List, [], map};
 ghost use Rattle.std.specs.Prelude.{IfOk, IfSome, IsNone};
 ghost use Rattle.std.specs.List.{All};
-ghost use Rattle.scale_info_identities.specs.Identifiers.{IsIdentifier};
+ghost use Rattle.scale_info_segments.specs.Identifiers.{IsIdentifier};
 ghost use Rattle.scale_info_segments.specs.TypePaths.{AreDeclared, ArePathSegments};
 ghost use Rattle.scale_info_segments.specs.TypePaths.{IsFirstInvalidIndex, IsPieces, replaced};
 ghost use Rattle.scale_info_segments.specs.TypePaths.{text_pairs, texts};
@@ -10,7 +10,7 @@ ghost use Rattle.scale_info_segments.specs.declared.segments.PathError.TheVarian
   Memory as memory,
 };
 
-use scale_info_identities::utils::is_rust_identifier;
+use crate::utils::is_rust_identifier;
 use std::alloc::{AllocError, AllocFailed, Global};
 use thiserror::Error;
 

@@ -5,7 +5,7 @@ use Rattle.std.proofs.Common.{OnErr, ap, refl, sym, ◌∙◌, rules, arith}
 use Rattle.std.proofs.lemmas.Bool.{false≢true}
 use Rattle.std.proofs.lemmas.Grind.{common_steps}
 use Rattle.scale_info_types.specs.Portable.{Description}
-use Rattle.scale_info_identities.specs.Interned.{IsIndexOf, IsKnown, IsNew}
+use Rattle.scale_info_interner.specs.Interned.{IsIndexOf, IsKnown, IsNew}
 use Rattle.scale_info_tables.specs.BuiltTables.{IsRegistered, IsUnregistered, numbered_from}
 
 -- eq decides whether two values are one

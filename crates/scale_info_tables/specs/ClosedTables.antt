@@ -2,7 +2,7 @@
 use Rattle.std.specs.Prelude.{◌≡◌, ℕ, ◌<◌, List, length, All}
 use Rattle.std.specs.List.{enumerate_from}
 use Rattle.scale_info_identities.specs.declared.type_id.TypeId.{TypeId}
-use Rattle.scale_info_identities.specs.declared.interner.UntrackedSymbol.{UntrackedSymbol}
+use Rattle.scale_info_identities.specs.declared.symbol.UntrackedSymbol.{UntrackedSymbol}
 use Rattle.scale_info_types.specs.References.{references}
 use Rattle.scale_info_types.specs.declared.ty.PortableType.{PortableType}
 use Rattle.scale_info_tables.specs.declared.portable.PortableRegistry.{PortableRegistry}

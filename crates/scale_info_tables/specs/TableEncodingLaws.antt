@@ -1,7 +1,7 @@
 -- The law of encodings of tables.
 use Rattle.scale_info_bytes.specs.Encodings.{IsEncoding}
 use Rattle.scale_info_bytes.specs.PartLaws.{through_law, list_law}
-use Rattle.scale_info_codec.specs.TyLaws.{portable_type_law}
+use Rattle.scale_info_grammar.specs.TyLaws.{portable_type_law}
 use Rattle.scale_info_tables.specs.TableEncoding.{EncodesRegistry}
 
 -- a table has at most one encoding, and no encoding is a proper prefix of another

@@ -2,7 +2,7 @@
 ghost use Rattle.std.specs.Prelude.{◌≡◌, ◌↔◌, ◌≤◌, [], IsTrue, IfOk, IfErr, OnOk, OnErr, length};
 ghost use Rattle.std.specs.Prelude.{option_map, slice_get, take, List, ℕ};
 ghost use Rattle.std.specs.Option.{option_copied};
-ghost use Rattle.scale_info_codec.specs.Limits.{AreEntriesWithinLimits};
+ghost use Rattle.scale_info_grammar.specs.Limits.{AreEntriesWithinLimits};
 ghost use Rattle.scale_info_bytes.specs.Encodings.{AppendsEncoding, HasPrefix, HasNoPrefix};
 ghost use Rattle.scale_info_bytes.specs.Encodings.{HasNoEncoding, IfTooLong, IfMalformed};
 ghost use Rattle.scale_info_tables.specs.BuiltTables.{numbered_from};

@@ -11,10 +11,10 @@ use Rattle.scale_info_bytes.specs.Encodings.{HasPrefix}
 use Rattle.scale_info_bytes.specs.Numbers.{EncodesCompact}
 use Rattle.scale_info_bytes.specs.Parts.{EncodesList}
 use Rattle.scale_info_bytes.proofs.Lists.{prefix_list}
-use Rattle.scale_info_codec.proofs.Definitions.{prefix_map}
-use Rattle.scale_info_json.proofs.Objects.{object_text, text_before}
-use Rattle.scale_info_json.specs.Steps.{after_rows, append_row, tokens_of}
-use Rattle.scale_info_json.specs.Written.{Row, list_tree, object_tree, unless_empty}
+use Rattle.scale_info_grammar.proofs.Definitions.{prefix_map}
+use Rattle.scale_info_json_trees.proofs.Objects.{object_text, text_before}
+use Rattle.scale_info_json_trees.specs.Steps.{after_rows, append_row, tokens_of}
+use Rattle.scale_info_json_trees.specs.Written.{Row, list_tree, object_tree, unless_empty}
 use Rattle.scale_info_transcode.specs.Transcodings.{state_of, AppendsRow, WritesOne, WritesRow}
 
 -- a key and the tokens of a tree are a row
@@ -28,15 +28,6 @@ member_row k d {old} {keyed} {new} w b t =
     let tokens : new.tokens ≡ old.tokens ++ key k ∷ tokens_of d =
     t ∙ ap (λ ts. ts ++ tokens_of d) w.ok ∙ append_assoc old.tokens (key k ∷ []) (tokens_of d) in
     record { state = λ i. (before i, tokens i) }
-
--- a key and the tree of a value are a row, where the tree was written
-pub value_row :
-    {E F : Type 0} (k : List ℕ) (d : Data) (old keyed new : Written) (r : Result (Unit {0}) F)
-    → Writes {E = E} (Ok tt) old keyed (key k) → OnOk r (new.before ≡ keyed.before)
-    → OnOk r (new.tokens ≡ keyed.tokens ++ tokens_of d)
-    → OnOk r (AppendsRow (k, Some d) old new)
-value_row k d old keyed new (Ok u) w b t = member_row k d w b t
-value_row k d old keyed new (Err e) w b t = tt
 
 -- a key and a token that is a whole tree are a row, where the token was written
 pub token_row :

@@ -1,6 +1,6 @@
 -- What is said of a result that is returned as it is.
-use Rattle.std.proofs.Common.{Option, Some, None, Result, Ok, Err}
-use Rattle.std.specs.Prelude.{IfOk, IfErr, IfSome, IfNone}
+use Rattle.std.proofs.Common.{Result, Ok, Err}
+use Rattle.std.specs.Prelude.{IfOk, IfErr}
 use Rattle.scale_info_bytes.specs.declared.error.DecodeError.{DecodeError}
 use Rattle.scale_info_bytes.specs.Encodings.{IfMalformed}
 use Rattle.scale_info_bytes.proofs.Errors.{malformed_on}

@@ -11,8 +11,8 @@ use Rattle.scale_info_bytes.proofs.Lists.{prefix_list}
 use Rattle.scale_info_bytes.proofs.Steps.{prefix_item}
 use Rattle.scale_info_bytes.specs.Encodings.{HasPrefix}
 use Rattle.scale_info_bytes.specs.Numbers.{EncodesCompact}
-use Rattle.scale_info_json.specs.Steps.{tokens_of}
-use Rattle.scale_info_json.specs.Written.{list_tree}
+use Rattle.scale_info_json_trees.specs.Steps.{tokens_of}
+use Rattle.scale_info_json_trees.specs.Written.{list_tree}
 use Rattle.scale_info_transcode.specs.Transcodings.{tokens_of_each, WritesItems, WritesList}
 
 module _ {A : Type 0} (W : A → Data) where

@@ -6,11 +6,11 @@ use Rattle.serde_json.specs.Data.{Data}
 use Rattle.serde_json.specs.Written.{compact_text}
 use Rattle.scale_info_bytes.specs.Encodings.{HasPrefix}
 use Rattle.scale_info_bytes.specs.Parts.{EncodesItems, EncodesList}
-use Rattle.scale_info_json.specs.Steps.{append_row, tokens_of}
-use Rattle.scale_info_json.specs.Tables.{table_tree}
-use Rattle.scale_info_json.specs.Written.{list_tree, Row}
-use Rattle.scale_info_tables.specs.TableEncoding.{EncodesRegistry}
-use Rattle.scale_info_tables.specs.declared.portable.PortableRegistry.{PortableRegistry}
+use Rattle.scale_info_grammar.specs.Ty.{EncodesTypes}
+use Rattle.scale_info_json_trees.specs.Entries.{types_tree}
+use Rattle.scale_info_json_trees.specs.Steps.{append_row, tokens_of}
+use Rattle.scale_info_json_trees.specs.Written.{list_tree, Row}
+use Rattle.scale_info_types.specs.declared.ty.PortableType.{PortableType}
 
 -- the tokens of the values' trees, one tree after another
 abbrev pub tokens_of_each : {A : Type 0} → (A → Data) → List A → List Token
@@ -55,8 +55,9 @@ pub record WritesList {A : Type 0} (S : A → List ℕ → Type 0) (W : A → Da
   pub read : HasPrefix (EncodesList S values) input rest
   pub tokens : new ≡ old ++ tokens_of (list_tree W values)
 
--- the input begins with a table, this is the rest, and the text grew by that of the table's tree
+-- the input begins with a table of these entries, this is the rest, and the text grew by that of
+-- the table's tree
 pub record AppendsJson (input rest old new : List ℕ) : Type 0 where
-  pub table : PortableRegistry
-  pub read : HasPrefix (EncodesRegistry table) input rest
-  pub text : new ≡ old ++ compact_text (table_tree table)
+  pub types : List PortableType
+  pub read : HasPrefix (EncodesTypes types) input rest
+  pub text : new ≡ old ++ compact_text (types_tree types)

@@ -1,18 +1,20 @@
 //! Definitions as JSON text.
 ghost use Rattle.std.specs.Prelude.{IfOk, IfErr};
 ghost use Rattle.scale_info_bytes.specs.Encodings.{HasNoPrefix, IfMalformed};
-ghost use Rattle.scale_info_codec.specs.Ty.{EncodesTypeDefWithIndex};
-ghost use Rattle.scale_info_json.specs.Definitions.{composite_rows, definition_row};
-ghost use Rattle.scale_info_json.specs.Definitions.{type_def_rows, variant_type_rows};
-ghost use Rattle.scale_info_json.specs.Written.{object_tree};
+ghost use Rattle.scale_info_grammar.specs.Ty.{EncodesComposite, EncodesTypeDef};
+ghost use Rattle.scale_info_grammar.specs.Ty.{EncodesTypeDefWithIndex, EncodesVariants};
+ghost use Rattle.scale_info_grammar.specs.TyLaws.{composite_law, type_def_law, variants_law};
+ghost use Rattle.scale_info_json_trees.specs.Definitions.{composite_rows, definition_row};
+ghost use Rattle.scale_info_json_trees.specs.Definitions.{type_def_rows, variant_type_rows};
+ghost use Rattle.scale_info_json_trees.specs.Written.{object_tree};
 ghost use Rattle.scale_info_transcode.specs.Transcodings.{WritesRow};
 
 use crate::member_text::{transcode_member, transcode_unless_empty};
 use crate::transcode::Transcode;
 use json::Writer;
-use scale_info_codec::DecodeError;
+use scale_info_bytes::error::DecodeError;
 use scale_info_collections::items::Items;
-use scale_info_identities::interner::UntrackedSymbol;
+use scale_info_identities::symbol::UntrackedSymbol;
 use scale_info_identities::type_id::TypeId;
 use scale_info_types::form::PortableForm;
 use scale_info_types::ty::composite::TypeDefComposite;
@@ -24,7 +26,11 @@ use scale_info_types::ty::{
 };
 use std::alloc::Global;
 
+type Id = UntrackedSymbol<TypeId>;
+
 impl Transcode for TypeDefComposite<PortableForm> {
+    ghost encodes = { EncodesComposite };
+
     ghost written = { λ v. object_tree (composite_rows v) };
 
     fn transcode<'a>(
@@ -37,9 +43,13 @@ impl Transcode for TypeDefComposite<PortableForm> {
         out.end_object()?;
         Ok(rest)
     }
+
+    ghost law = { composite_law };
 }
 
 impl Transcode for TypeDefVariant<PortableForm> {
+    ghost encodes = { EncodesVariants };
+
     ghost written = { λ v. object_tree (variant_type_rows v) };
 
     fn transcode<'a>(
@@ -52,6 +62,8 @@ impl Transcode for TypeDefVariant<PortableForm> {
         out.end_object()?;
         Ok(rest)
     }
+
+    ghost law = { variants_law };
 }
 
 /// Writes the key of the definitions with this index, and the parts that the input begins with.
@@ -75,7 +87,7 @@ fn transcode_parts<'a>(
         1 => transcode_member::<TypeDefVariant<PortableForm>>(alloc, "variant", input, out),
         2 => transcode_member::<TypeDefSequence<PortableForm>>(alloc, "sequence", input, out),
         3 => transcode_member::<TypeDefArray<PortableForm>>(alloc, "array", input, out),
-        4 => transcode_member::<Items<UntrackedSymbol<TypeId>>>(alloc, "tuple", input, out),
+        4 => transcode_member::<Items<Id>>(alloc, "tuple", input, out),
         5 => transcode_member::<TypeDefPrimitive>(alloc, "primitive", input, out),
         6 => transcode_member::<TypeDefCompact<PortableForm>>(alloc, "compact", input, out),
         7 => transcode_member::<TypeDefBitSequence<PortableForm>>(alloc, "bitsequence", input, out),
@@ -85,6 +97,8 @@ fn transcode_parts<'a>(
 }
 
 impl Transcode for TypeDef<PortableForm> {
+    ghost encodes = { EncodesTypeDef };
+
     ghost written = { λ v. object_tree (type_def_rows v) };
 
     fn transcode<'a>(
@@ -102,4 +116,6 @@ impl Transcode for TypeDef<PortableForm> {
             }
         }
     }
+
+    ghost law = { type_def_law };
 }

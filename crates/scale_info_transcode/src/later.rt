@@ -4,7 +4,7 @@ ghost use Rattle.scale_info_bytes.specs.Encodings.{HasNoPrefix, IfMalformed};
 ghost use Rattle.scale_info_transcode.specs.Skips.{IsOnlyRest};
 
 use crate::skip::Skip;
-use scale_info_codec::DecodeError;
+use scale_info_bytes::error::DecodeError;
 
 /// What comes after the value, where the input begins with one. It does not allocate.
 ///

@@ -1,15 +1,16 @@
 //! Encoded lists as JSON text.
 ghost use Rattle.std.specs.Prelude.{◌≡◌, ◌++◌, List, ℕ, length, IfOk, IfErr, OnOk};
 ghost use Rattle.scale_info_bytes.specs.Encodings.{HasNoPrefix, HasPrefix, IfMalformed};
+ghost use Rattle.scale_info_bytes.specs.PartLaws.{list_law};
 ghost use Rattle.scale_info_bytes.specs.Parts.{EncodesItems, EncodesList};
-ghost use Rattle.scale_info_json.specs.Steps.{tokens_of};
-ghost use Rattle.scale_info_json.specs.Written.{list_tree};
+ghost use Rattle.scale_info_json_trees.specs.Steps.{tokens_of};
+ghost use Rattle.scale_info_json_trees.specs.Written.{list_tree};
 ghost use Rattle.scale_info_transcode.specs.Transcodings.{WritesItems, WritesList};
 
 use crate::transcode::Transcode;
 use json::Writer;
+use scale_info_bytes::error::DecodeError;
 use scale_info_bytes::number::decode_compact;
-use scale_info_codec::DecodeError;
 use scale_info_collections::items::Items;
 use std::alloc::Global;
 
@@ -63,6 +64,8 @@ pub fn transcode_list<'a, T: Transcode>(
 }
 
 impl<T: Transcode> Transcode for Items<T> {
+    ghost encodes = { EncodesList T.encodes };
+
     ghost written = { list_tree T.written };
 
     fn transcode<'a>(
@@ -73,4 +76,6 @@ impl<T: Transcode> Transcode for Items<T> {
         let rest = transcode_list::<T>(alloc, input, out)?;
         Ok(rest)
     }
+
+    ghost law = { list_law T.law };
 }

@@ -1,46 +1,55 @@
 //! Members of an object, each as its row says.
 ghost use Rattle.std.specs.Prelude.{option_map, Some, IfOk, IfErr, OnOk};
-ghost use Rattle.serde_json.specs.Data.{string};
+ghost use Rattle.serde_json.specs.Data.{number, string, unsigned};
 ghost use Rattle.scale_info_bytes.specs.Encodings.{HasNoPrefix, IfMalformed};
 ghost use Rattle.scale_info_bytes.specs.Parts.{EncodesList};
-ghost use Rattle.scale_info_json.specs.Written.{or_null, unless_empty};
+ghost use Rattle.scale_info_json_trees.specs.Described.{id_tree};
+ghost use Rattle.scale_info_json_trees.specs.Written.{or_null, unless_empty};
 ghost use Rattle.scale_info_transcode.specs.Transcodings.{AppendsRow, WritesRow};
 
 use crate::transcode::Transcode;
 use json::Writer;
+use scale_info_bytes::error::DecodeError;
 use scale_info_bytes::number::decode_compact;
-use scale_info_codec::DecodeError;
 use scale_info_collections::items::Items;
-use scale_info_json::Json;
+use scale_info_identities::symbol::UntrackedSymbol;
+use scale_info_identities::type_id::TypeId;
 use std::alloc::{AllocError, Global};
 
-/// Writes a key and the value's tree.
+type Id = UntrackedSymbol<TypeId>;
+
+/// Writes a key and a number.
 ///
 /// Errors: `AllocError`, if an allocation failed.
-pub fn write_member<T: Json>(key: &str, value: &T, out: &mut Writer) -> Result<(), AllocError>
-    ensures { OnOk result (AppendsRow (key.now, Some (T.written value.now)) out.old out.new) }
+pub fn write_number(key: &str, value: u32, out: &mut Writer) -> Result<(), AllocError>
+    ensures { OnOk result (AppendsRow (key.now, Some (number (unsigned value))) out.old out.new) }
 {
     out.key(key)?;
-    value.write_json(out)
+    out.u64(value as u64)
 }
 
-/// Writes a key and the value's tree, or null where there is no value.
+/// Writes a key and an id.
 ///
 /// Errors: `AllocError`, if an allocation failed.
-pub fn write_or_null<T: Json>(
-    key: &str,
-    value: &Option<T>,
-    out: &mut Writer,
-) -> Result<(), AllocError>
-    ensures { OnOk result
-        (AppendsRow (key.now, Some (or_null T.written value.now)) out.old out.new) }
+pub fn write_id(key: &str, id: &Id, out: &mut Writer) -> Result<(), AllocError>
+    ensures { OnOk result (AppendsRow (key.now, Some (id_tree id.now)) out.old out.new) }
 {
-    match value {
+    write_number(key, id.id, out)
+}
+
+/// Writes a key and an id, or null where there is no id.
+///
+/// Errors: `AllocError`, if an allocation failed.
+pub fn write_id_or_null(key: &str, id: &Option<Id>, out: &mut Writer) -> Result<(), AllocError>
+    ensures { OnOk result
+        (AppendsRow (key.now, Some (or_null id_tree id.now)) out.old out.new) }
+{
+    match id {
         None => {
             out.key(key)?;
             out.null()
         }
-        Some(value) => write_member(key, value, out),
+        Some(id) => write_id(key, id, out),
     }
 }
 

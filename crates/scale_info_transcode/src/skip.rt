@@ -1,33 +1,39 @@
 //! Values that are skipped by the counts in their encodings.
 //!
 //! What is skipped is read later, and its strings are tested then. So each string is tested once.
-ghost use Rattle.std.specs.Prelude.{IfSome, IfNone};
+ghost use Rattle.std.specs.Prelude.{List, ℕ, IfSome, IfNone};
 ghost use Rattle.scale_info_bytes.specs.Encodings.{HasNoPrefix};
 ghost use Rattle.scale_info_transcode.specs.Skips.{IsOnlyRest, IsOnlyRestOfItems};
-ghost use Rattle.scale_info_bytes.specs.Parts.{HasNoItems};
+ghost use Rattle.scale_info_bytes.specs.Parts.{EncodesList, EncodesOption, EncodesPair, HasNoItems};
+ghost use Rattle.scale_info_bytes.specs.Strings.{EncodesText};
+ghost use Rattle.scale_info_grammar.specs.Ty.{EncodesField, EncodesId, EncodesParameter};
 
 use scale_info_bytes::number::decode_compact;
-use scale_info_codec::Scale;
 use scale_info_collections::items::Items;
 use scale_info_collections::text::Text;
-use scale_info_identities::interner::UntrackedSymbol;
+use scale_info_identities::symbol::UntrackedSymbol;
 use scale_info_identities::type_id::TypeId;
 use scale_info_types::form::PortableForm;
 use scale_info_types::ty::TypeParameter;
 use scale_info_types::ty::fields::Field;
 
 /// A value that is skipped by the counts in its encoding.
-pub trait Skip: Scale {
+pub trait Skip {
+    /// The whole list of bytes encodes the value.
+    ghost encodes: { Self → List ℕ → Type 0 };
+
     /// What comes after the value, where the input begins with one. It does not allocate.
     ///
     /// None, if no prefix of the input encodes a value. The bytes of strings are not looked at, so
     /// a rest is also returned where one of them is no UTF-8.
     fn skip(input: &[u8]) -> Option<&[u8]>
-        ensures some { IfSome result (λ rest. IsOnlyRest Self.encodes input.now rest.now) }
-        ensures none { IfNone result (HasNoPrefix Self.encodes input.now) };
+        ensures some { IfSome result (λ rest. IsOnlyRest encodes input.now rest.now) }
+        ensures none { IfNone result (HasNoPrefix encodes input.now) };
 }
 
 impl Skip for Text {
+    ghost encodes = { EncodesText };
+
     fn skip(input: &[u8]) -> Option<&[u8]> {
         let (count, bytes) = decode_compact(input)?;
         let count = count as usize;
@@ -39,6 +45,8 @@ impl Skip for Text {
 }
 
 impl Skip for UntrackedSymbol<TypeId> {
+    ghost encodes = { EncodesId };
+
     fn skip(input: &[u8]) -> Option<&[u8]> {
         let (_, rest) = decode_compact(input)?;
         Some(rest)
@@ -46,6 +54,8 @@ impl Skip for UntrackedSymbol<TypeId> {
 }
 
 impl<T: Skip> Skip for Option<T> {
+    ghost encodes = { EncodesOption T.encodes };
+
     fn skip(input: &[u8]) -> Option<&[u8]> {
         match input {
             [0, rest @ ..] => Some(rest),
@@ -56,6 +66,8 @@ impl<T: Skip> Skip for Option<T> {
 }
 
 impl<A: Skip, B: Skip> Skip for (A, B) {
+    ghost encodes = { EncodesPair A.encodes B.encodes };
+
     fn skip(input: &[u8]) -> Option<&[u8]> {
         let rest = A::skip(input)?;
         B::skip(rest)
@@ -76,6 +88,8 @@ fn skip_items<T: Skip>(count: u32, input: &[u8]) -> Option<&[u8]>
 }
 
 impl<T: Skip> Skip for Items<T> {
+    ghost encodes = { EncodesList T.encodes };
+
     fn skip(input: &[u8]) -> Option<&[u8]> {
         let (count, items) = decode_compact(input)?;
         skip_items::<T>(count, items)
@@ -83,12 +97,16 @@ impl<T: Skip> Skip for Items<T> {
 }
 
 impl Skip for TypeParameter<PortableForm> {
+    ghost encodes = { EncodesParameter };
+
     fn skip(input: &[u8]) -> Option<&[u8]> {
         <(Text, Option<UntrackedSymbol<TypeId>>)>::skip(input)
     }
 }
 
 impl Skip for Field<PortableForm> {
+    ghost encodes = { EncodesField };
+
     fn skip(input: &[u8]) -> Option<&[u8]> {
         <(
             Option<Text>,

@@ -3,12 +3,13 @@ ghost use Rattle.std.specs.Prelude.{option_map, IfOk, IfErr};
 ghost use Rattle.serde_json.specs.Data.{string};
 ghost use Rattle.scale_info_bytes.specs.Encodings.{HasNoPrefix, HasPrefix, IfMalformed};
 ghost use Rattle.scale_info_bytes.specs.Parts.{EncodesOption};
+ghost use Rattle.scale_info_bytes.specs.StringLaws.{text_law};
 ghost use Rattle.scale_info_bytes.specs.Strings.{EncodesText};
 
 use crate::transcode::Transcode;
 use json::Writer;
+use scale_info_bytes::error::DecodeError;
 use scale_info_bytes::text;
-use scale_info_codec::DecodeError;
 use scale_info_collections::text::Text;
 use std::alloc::Global;
 
@@ -46,6 +47,8 @@ pub fn decode_optional_str(input: &[u8]) -> Result<(Option<&str>, &[u8]), Decode
 }
 
 impl Transcode for Text {
+    ghost encodes = { EncodesText };
+
     ghost written = { string };
 
     fn transcode<'a>(
@@ -57,4 +60,6 @@ impl Transcode for Text {
         out.string(text)?;
         Ok(rest)
     }
+
+    ghost law = { text_law };
 }

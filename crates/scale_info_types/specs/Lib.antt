@@ -7,5 +7,5 @@ pub mod Portable
 pub mod Phantoms
 pub mod References
 pub mod Shapes
-pub use Rattle.scale_info_identities.specs.Identifiers
+pub use Rattle.scale_info_segments.specs.Identifiers
 pub use Rattle.scale_info_identities.specs.TypeIds

@@ -2,7 +2,7 @@
 use Rattle.std.specs.Prelude.{ℕ, List}
 use Rattle.scale_info_types.specs.declared.form.PortableForm.{PortableForm}
 use Rattle.scale_info_identities.specs.declared.type_id.TypeId.{TypeId}
-use Rattle.scale_info_identities.specs.declared.interner.UntrackedSymbol.{UntrackedSymbol}
+use Rattle.scale_info_identities.specs.declared.symbol.UntrackedSymbol.{UntrackedSymbol}
 use Rattle.scale_info_types.specs.declared.ty.path.Path as paths
 use Rattle.scale_info_types.specs.declared.ty.TypeParameter as parameters
 use Rattle.scale_info_types.specs.declared.ty.fields.Field as fields

@@ -6,5 +6,3 @@ pub mod form;
 pub mod laws;
 pub mod meta_type;
 pub mod ty;
-
-pub use scale_info_identities::{interner, utils};

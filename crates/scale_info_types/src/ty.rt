@@ -13,7 +13,7 @@ use scale_info_collections::items::Items;
 use scale_info_collections::marker::Marker;
 use scale_info_collections::text::Text;
 use scale_info_collections::try_clone::TryClone;
-use scale_info_identities::interner::UntrackedSymbol;
+use scale_info_identities::symbol::UntrackedSymbol;
 use scale_info_identities::type_id::TypeId;
 use std::alloc::{AllocError, Global};
 

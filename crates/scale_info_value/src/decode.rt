@@ -17,7 +17,7 @@ use crate::value::{Dyn, ValueError};
 use scale_info_collections::items::Items;
 use scale_info_collections::text::Text;
 use scale_info_collections::try_clone::TryClone;
-use scale_info_identities::interner::UntrackedSymbol;
+use scale_info_identities::symbol::UntrackedSymbol;
 use scale_info_identities::type_id::TypeId;
 use scale_info_tables::portable::PortableRegistry;
 use scale_info_types::form::PortableForm;

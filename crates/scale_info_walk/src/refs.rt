@@ -6,7 +6,7 @@ ghost use Rattle.scale_info_types.specs.Portable.{Id};
 ghost use Rattle.scale_info_references.specs.Conversions.{ids_in};
 ghost use Rattle.scale_info_walk.specs.Walks.{IsNextOf};
 
-use scale_info_identities::interner::UntrackedSymbol;
+use scale_info_identities::symbol::UntrackedSymbol;
 use scale_info_identities::type_id::TypeId;
 use scale_info_references::references::references_of;
 use scale_info_types::form::PortableForm;

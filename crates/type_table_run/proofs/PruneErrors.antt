@@ -1,30 +1,18 @@
 -- Why a table is not pruned, as what the program says of it.
 use Rattle.std.proofs.Common.{ℕ, List}
-use Rattle.scale_info_bytes.specs.Encodings.{HasNoPrefix}
 use Rattle.scale_info_bytes.specs.declared.error.DecodeError.TheVariants as decode
 use Rattle.scale_info_prune.specs.Prunes.{IsPruneError}
-use Rattle.scale_info_prune.specs.TableIndexes.{EncodesTypes}
 use Rattle.scale_info_prune.specs.declared.prune.PruneError.{PruneError}
 use Rattle.scale_info_prune.specs.declared.prune.PruneError.TheVariants as prune
-use Rattle.scale_info_tables.specs.TableEncoding.{EncodesRegistry}
 use Rattle.scale_info_walk.specs.declared.walk.RetainError.TheVariants as retain
 use Rattle.type_table_run.specs.Errors.{error_of}
 use Rattle.type_table_run.specs.Refusals.{IsCommandError}
 
--- no prefix of the input is a table's list of entries, so none is a table
-no_table : (input : List ℕ) → HasNoPrefix EncodesTypes input → HasNoPrefix EncodesRegistry input
-no_table input h = record { none = λ table rest p. h.none table.types rest (record { encoding = p.encoding; encodes = p.encodes; parts = p.parts }) }
-
 -- why the input is not pruned to the given ids is why the program has no output for it
 pub prune_error : (given input : List ℕ) (e : PruneError) → IsPruneError input given e → IsCommandError given input (error_of e)
-prune_error given input (prune.Decode decode.Malformed) h = no_table input h
+prune_error given input (prune.Decode decode.Malformed) h = h
 prune_error given input (prune.Decode decode.Memory) h = tt
-prune_error given input prune.Trailing h = record {
-  table = record { types = h.types };
-  rest = h.rest;
-  prefix = record { encoding = h.prefix.encoding; encodes = h.prefix.encodes; parts = h.prefix.parts };
-  more = h.more;
-}
+prune_error given input prune.Trailing h = h
 prune_error given input (prune.NoSuchType id) h = h
 prune_error given input (prune.Retain (retain.Dangling id)) h = h
 prune_error given input (prune.Retain retain.TooManyTypes) h = tt

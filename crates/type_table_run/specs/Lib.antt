@@ -6,3 +6,7 @@ pub mod Tables
 pub mod Reports
 pub mod Outputs
 pub mod Refusals
+pub use Rattle.scale_info_grammar.specs.Ty
+pub use Rattle.scale_info_json_trees.specs.Entries
+pub use Rattle.scale_info_prune.specs.Prunes
+pub use Rattle.scale_info_prune.specs.TableIndexes

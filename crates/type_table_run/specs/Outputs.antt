@@ -3,11 +3,11 @@ use Rattle.std.specs.Prelude.{◌≡◌, ℕ, List, [], ◌++◌, codes}
 use Rattle.std.specs.declared.option.Option.{Option}
 use Rattle.std.specs.Io.KnownBytes.{Appends}
 use Rattle.serde_json.specs.Written.{compact_text}
-use Rattle.scale_info_json.specs.Tables.{table_tree}
 use Rattle.scale_info_bytes.specs.Encodings.{HasPrefix}
+use Rattle.scale_info_grammar.specs.Ty.{EncodesTypes}
+use Rattle.scale_info_json_trees.specs.Entries.{types_tree}
 use Rattle.scale_info_prune.specs.Prunes.{IsPrunedEncoding}
-use Rattle.scale_info_tables.specs.TableEncoding.{EncodesRegistry}
-use Rattle.scale_info_tables.specs.declared.portable.PortableRegistry.{PortableRegistry}
+use Rattle.scale_info_types.specs.declared.ty.PortableType.{PortableType}
 use Rattle.type_table_run.specs.Commands.{given_ids}
 use Rattle.type_table_run.specs.declared.command.Command.{Command}
 use Rattle.type_table_run.specs.declared.command.Command.TheVariants.{Check, Prune, Json}
@@ -20,21 +20,21 @@ pub record IsPrunedTo (given input output : List ℕ) : Type 0 where
   pub order : List ℕ
   pub pruned : IsPrunedEncoding input given order [] output
 
--- the compact text of the table's JSON tree, and a line feed
-abbrev pub json_line : PortableRegistry → List ℕ
-json_line table = compact_text (table_tree table) ++ codes "\n"
+-- the compact text of the JSON tree of the table of these entries, and a line feed
+abbrev pub json_line : List PortableType → List ℕ
+json_line types = compact_text (types_tree types) ++ codes "\n"
 
 -- the input begins with a table, this is the rest, and the line is the table's
 pub record BeginsWithJson (input rest line : List ℕ) : Type 0 where
-  pub table : PortableRegistry
-  pub read : HasPrefix (EncodesRegistry table) input rest
-  pub text : line ≡ json_line table
+  pub types : List PortableType
+  pub read : HasPrefix (EncodesTypes types) input rest
+  pub text : line ≡ json_line types
 
 -- the input is one table, and the output its JSON line
 pub record IsJsonOf (input output : List ℕ) : Type 0 where
-  pub table : PortableRegistry
-  pub encodes : EncodesRegistry table input
-  pub text : output ≡ json_line table
+  pub types : List PortableType
+  pub encodes : EncodesTypes types input
+  pub text : output ≡ json_line types
 
 -- for the whole input the command has this output
 abbrev pub Outputs : Command → List ℕ → List ℕ → Type 0

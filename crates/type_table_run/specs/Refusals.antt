@@ -3,8 +3,9 @@ use Rattle.std.specs.Prelude.{ℕ, List, IfSome}
 use Rattle.std.specs.declared.option.Option.{Option}
 use Rattle.std.specs.Io.KnownBytes.{Keeps}
 use Rattle.scale_info_bytes.specs.Encodings.{HasNoPrefix}
+use Rattle.scale_info_grammar.specs.Ty.{EncodesTypes}
 use Rattle.scale_info_prune.specs.Prunes.{HasDangling, HasNoSuchType}
-use Rattle.scale_info_tables.specs.TableEncoding.{EncodesRegistry}
+use Rattle.scale_info_prune.specs.TableIndexes.{HasTrailing}
 use Rattle.type_table_run.specs.Commands.{given_ids}
 use Rattle.type_table_run.specs.declared.command.Command.{Command}
 use Rattle.type_table_run.specs.declared.error.RunError.{RunError}
@@ -13,13 +14,12 @@ use Rattle.type_table_run.specs.declared.error.RunError.TheVariants.{NoSuchType,
 use Rattle.type_table_run.specs.declared.error.RunError.TheVariants.{Memory, Input, Output}
 use Rattle.type_table_run.specs.Lines.{HasSmallId, line_of}
 use Rattle.type_table_run.specs.Outputs.{WritesPrefix}
-use Rattle.type_table_run.specs.Tables.{HasTrailingBytes}
 use Rattle.type_table_run.specs.Reports.{AppendsPrefix}
 
 -- why there is no output for the input, where these ids are given
 abbrev pub IsCommandError : List ℕ → List ℕ → RunError → Type 0
-IsCommandError given input Malformed = HasNoPrefix EncodesRegistry input
-IsCommandError given input TrailingBytes = HasTrailingBytes input
+IsCommandError given input Malformed = HasNoPrefix EncodesTypes input
+IsCommandError given input TrailingBytes = HasTrailing input
 IsCommandError given input (NoSuchType id) = HasNoSuchType input given id
 IsCommandError given input (Dangling id) = HasDangling input given id
 IsCommandError given input Memory = Unit {0}
@@ -30,8 +30,8 @@ IsCommandError given input Output = ⊥
 -- after
 abbrev pub Explains : Command → (input old new : Option (List ℕ)) → RunError → Type 0
 Explains command input old new Malformed =
-    IfSome input (HasNoPrefix EncodesRegistry) × Keeps old new
-Explains command input old new TrailingBytes = IfSome input HasTrailingBytes × Keeps old new
+    IfSome input (HasNoPrefix EncodesTypes) × Keeps old new
+Explains command input old new TrailingBytes = IfSome input HasTrailing × Keeps old new
 Explains command input old new (NoSuchType id) =
     IfSome input (λ bytes. HasNoSuchType bytes (given_ids command) id) × Keeps old new
 Explains command input old new (Dangling id) =

@@ -1,19 +1,19 @@
 //! The JSON text of a table's bytes.
 ghost use Rattle.std.specs.Prelude.{IfErr, IfOk};
 ghost use Rattle.scale_info_bytes.specs.Encodings.{HasNoPrefix, IfMalformed};
-ghost use Rattle.scale_info_tables.specs.TableEncoding.{EncodesRegistry};
+ghost use Rattle.scale_info_grammar.specs.Ty.{EncodesTypes};
 ghost use Rattle.type_table_run.specs.Outputs.{BeginsWithJson, IsJsonOf};
 ghost use Rattle.type_table_run.specs.Tables.{IsCheckError};
 
 use crate::error::RunError;
-use scale_info_codec::DecodeError;
+use scale_info_bytes::error::DecodeError;
 use scale_info_transcode::append_json_of;
 use std::alloc::Global;
 
 /// The JSON text of the table that the input begins with, and a line feed; and the rest.
 fn json_line_of(alloc: Global, input: &[u8]) -> Result<(Vec<u8>, &[u8]), DecodeError>
     ensures ok { IfOk result (λ found. BeginsWithJson input.now found.1.now found.0.items) }
-    ensures malformed { IfErr result (IfMalformed (HasNoPrefix EncodesRegistry input.now)) }
+    ensures malformed { IfErr result (IfMalformed (HasNoPrefix EncodesTypes input.now)) }
 {
     // The text of a table is longer than its encoding, mostly by half or more.
     let text = Vec::with_capacity(alloc, input.len().saturating_mul(2))?;

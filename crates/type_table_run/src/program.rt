@@ -2,8 +2,9 @@
 ghost use Rattle.std.specs.Prelude.{◌≡◌, ◌≢◌, ◌≤◌, ℕ, IfSome, IfErr, OnOk, IsNone};
 ghost use Rattle.std.specs.Io.KnownBytes.{IsAtEnd, Keeps};
 ghost use Rattle.scale_info_bytes.specs.Encodings.{HasNoPrefix};
+ghost use Rattle.scale_info_grammar.specs.Ty.{EncodesTypes};
 ghost use Rattle.scale_info_prune.specs.Prunes.{HasDangling, HasNoSuchType};
-ghost use Rattle.scale_info_tables.specs.TableEncoding.{EncodesRegistry};
+ghost use Rattle.scale_info_prune.specs.TableIndexes.{HasTrailing};
 ghost use Rattle.type_table_run.specs.Commands.{HasCommand, HasIdTexts, IsCommand, given_ids};
 ghost use Rattle.type_table_run.specs.Lines.{kept_line, usage_line};
 ghost use Rattle.type_table_run.specs.Lines.{malformed_line, trailing_bytes_line};
@@ -12,7 +13,6 @@ ghost use Rattle.type_table_run.specs.Lines.{out_of_memory_line, input_failed_li
 ghost use Rattle.type_table_run.specs.Lines.{output_failed_line};
 ghost use Rattle.type_table_run.specs.Outputs.{Writes, WritesPrefix};
 ghost use Rattle.type_table_run.specs.Refusals.{Explains, Refuses, RefusesBy};
-ghost use Rattle.type_table_run.specs.Tables.{HasTrailingBytes};
 ghost use Rattle.type_table_run.specs.Reports.{AppendsPrefix, Reported};
 
 use crate::command::{Command, command_of};
@@ -188,11 +188,11 @@ pub fn run<R: Read, W: Write, F: Write>(
         (F.contents errors.old) (F.contents errors.new)) }
     ensures malformed { Reported (F.contents errors.old) (F.contents errors.new)
         malformed_line
-        → IfSome (R.remaining reader.old) (HasNoPrefix EncodesRegistry)
+        → IfSome (R.remaining reader.old) (HasNoPrefix EncodesTypes)
         × Keeps (W.contents output.old) (W.contents output.new) }
     ensures trailing_bytes { Reported (F.contents errors.old) (F.contents errors.new)
         trailing_bytes_line
-        → IfSome (R.remaining reader.old) HasTrailingBytes
+        → IfSome (R.remaining reader.old) HasTrailing
         × Keeps (W.contents output.old) (W.contents output.new) }
     ensures no_such_type { (id : ℕ) → id ≤ 4294967295
         → Reported (F.contents errors.old) (F.contents errors.new) (no_such_type_line id)

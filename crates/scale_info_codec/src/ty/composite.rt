@@ -1,8 +1,6 @@
 //! Composites as bytes.
-ghost use Rattle.scale_info_bytes.specs.Parts.{EncodesList};
-ghost use Rattle.scale_info_bytes.specs.PartLaws.{through_law, list_law};
-ghost use Rattle.scale_info_codec.specs.Ty.{EncodesField};
-ghost use Rattle.scale_info_codec.specs.TyLaws.{field_law};
+ghost use Rattle.scale_info_grammar.specs.Ty.{EncodesComposite};
+ghost use Rattle.scale_info_grammar.specs.TyLaws.{composite_law};
 
 use crate::scale::Scale;
 use scale_info_bytes::error::{DecodeError, EncodeError};
@@ -11,7 +9,7 @@ use scale_info_types::ty::composite::TypeDefComposite;
 use std::alloc::Global;
 
 impl Scale for TypeDefComposite<PortableForm> {
-    ghost encodes = { λ v b. EncodesList EncodesField v.fields b };
+    ghost encodes = { EncodesComposite };
 
     fn encode_to(&self, out: &mut Vec<u8>) -> Result<(), EncodeError> {
         let TypeDefComposite { fields } = self;
@@ -26,6 +24,5 @@ impl Scale for TypeDefComposite<PortableForm> {
         Ok((TypeDefComposite { fields }, rest))
     }
 
-    ghost law = { through_law (λ v. v.fields) (λ v w e i. record { fields = e i })
-        (list_law field_law) };
+    ghost law = { composite_law };
 }

@@ -1,6 +1,6 @@
 //! Fields as bytes.
-ghost use Rattle.scale_info_codec.specs.Ty.{EncodesField};
-ghost use Rattle.scale_info_codec.specs.TyLaws.{field_law};
+ghost use Rattle.scale_info_grammar.specs.Ty.{EncodesField};
+ghost use Rattle.scale_info_grammar.specs.TyLaws.{field_law};
 
 use crate::scale::Scale;
 use crate::tuple::encode_four;

@@ -1,6 +1,6 @@
 //! Paths as bytes.
-ghost use Rattle.scale_info_codec.specs.Ty.{EncodesPath};
-ghost use Rattle.scale_info_codec.specs.TyLaws.{path_law};
+ghost use Rattle.scale_info_grammar.specs.Ty.{EncodesPath};
+ghost use Rattle.scale_info_grammar.specs.TyLaws.{path_law};
 
 use crate::scale::Scale;
 use scale_info_bytes::error::{DecodeError, EncodeError};

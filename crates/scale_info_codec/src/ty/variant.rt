@@ -1,8 +1,6 @@
 //! Variants, and definitions by variants, as bytes.
-ghost use Rattle.scale_info_bytes.specs.Parts.{EncodesList};
-ghost use Rattle.scale_info_bytes.specs.PartLaws.{through_law, list_law};
-ghost use Rattle.scale_info_codec.specs.Ty.{EncodesVariant};
-ghost use Rattle.scale_info_codec.specs.TyLaws.{variant_law};
+ghost use Rattle.scale_info_grammar.specs.Ty.{EncodesVariant, EncodesVariants};
+ghost use Rattle.scale_info_grammar.specs.TyLaws.{variant_law, variants_law};
 
 use crate::scale::Scale;
 use crate::tuple::encode_four;
@@ -12,7 +10,7 @@ use scale_info_types::ty::variant::{TypeDefVariant, Variant};
 use std::alloc::Global;
 
 impl Scale for TypeDefVariant<PortableForm> {
-    ghost encodes = { λ v b. EncodesList EncodesVariant v.variants b };
+    ghost encodes = { EncodesVariants };
 
     fn encode_to(&self, out: &mut Vec<u8>) -> Result<(), EncodeError> {
         let TypeDefVariant { variants } = self;
@@ -27,8 +25,7 @@ impl Scale for TypeDefVariant<PortableForm> {
         Ok((TypeDefVariant { variants }, rest))
     }
 
-    ghost law = { through_law (λ v. v.variants) (λ v w e i. record { variants = e i })
-        (list_law variant_law) };
+    ghost law = { variants_law };
 }
 
 impl Scale for Variant<PortableForm> {

@@ -1,5 +1,5 @@
 //! Descriptions and their parts with ids in place of types.
-ghost use Rattle.std.specs.Prelude.{◌≡◌, ◌∷◌, [], ℕ, List, IfOk};
+ghost use Rattle.std.specs.Prelude.{◌≡◌, ◌∷◌, [], ℕ, List, IfOk, map, option_map};
 ghost use Rattle.scale_info_references.specs.Conversions.{symbol};
 ghost use Rattle.scale_info_references.specs.Gathered.{targets};
 ghost use Rattle.scale_info_types.specs.MetaDescriptions.{type_term};
@@ -29,21 +29,21 @@ use scale_info_collections::items::Items;
 use scale_info_collections::text::Text;
 use scale_info_discovery::discovery::number_of;
 use scale_info_discovery::number_cache::NumberCache;
-use scale_info_identities::interner::{Interner, UntrackedSymbol};
+use scale_info_identities::symbol::UntrackedSymbol;
 use scale_info_identities::type_id::TypeId;
-use scale_info_references::conversion::{
-    Numbers, convert, convert_definition, convert_field, convert_fields, convert_parameter,
-    convert_path, convert_types, convert_variant, convert_variants,
-};
+use scale_info_interner::interner::Interner;
 use scale_info_references::references::{
     references_of, references_of_definition, references_of_fields, references_of_types,
     references_of_variants,
 };
-use scale_info_types::form::{MetaForm, PortableForm};
+use scale_info_types::form::PortableForm;
 use scale_info_types::meta_type::MetaType;
 use scale_info_types::ty::path::Path;
 use scale_info_types::ty::variant::Variant;
-use scale_info_types::ty::{Field, Type, TypeDef, TypeDefComposite, TypeDefVariant, TypeParameter};
+use scale_info_types::ty::{
+    Field, Type, TypeDef, TypeDefArray, TypeDefBitSequence, TypeDefCompact, TypeDefComposite,
+    TypeDefMap, TypeDefSequence, TypeDefTuple, TypeDefVariant, TypeParameter,
+};
 use std::alloc::{AllocError, Global};
 
 /// The identities of a registry, which number the types of descriptions, with what saves searches.
@@ -53,20 +53,61 @@ pub(crate) struct Identities<'a> {
     pub(crate) cache: &'a NumberCache,
 }
 
-impl<'a> Numbers<MetaForm> for Identities<'a> {
-    ghost id_of = { λ ids ty. index_in ⟦<TypeId as PartialEq>⟧.eq ids.interner.now ty.identity };
-
-    fn id(&self, ty: &MetaType) -> UntrackedSymbol<TypeId> {
+impl<'a> Identities<'a> {
+    /// The id of a type: the index of its identity.
+    pub(crate) fn id(&self, ty: &MetaType) -> UntrackedSymbol<TypeId>
+        ensures { result.id
+            ≡ index_in ⟦<TypeId as PartialEq>⟧.eq self.now.interner.now ty.now.identity }
+    {
         let ids = self.interner.elements();
         let number = number_of(self.interner, self.cache, ty.type_id());
         UntrackedSymbol::from(number.unwrap_or(ids.len() as u32))
     }
+}
 
-    fn text(alloc: Global, source: &&'static str) -> Result<Text, AllocError>
-        ensures { IfOk result (λ copy. copy ≡ source.now.now) }
-    {
-        Ok(Text::from(String::from_str(alloc, source)?))
+/// A copy of a string.
+fn copy_of(alloc: Global, source: &&'static str) -> Result<Text, AllocError>
+    ensures { IfOk result (λ copy. copy ≡ source.now.now) }
+{
+    Ok(Text::from(String::from_str(alloc, source)?))
+}
+
+/// A copy of a string that may be missing.
+fn optional_copy(alloc: Global, source: &Option<&'static str>) -> Result<Option<Text>, AllocError>
+    ensures { IfOk result (λ copy. copy ≡ option_map (λ text. text.now) source.now) }
+{
+    match source {
+        None => Ok(None),
+        Some(source) => Ok(Some(copy_of(alloc, source)?)),
     }
+}
+
+/// Copies of strings, in order.
+fn copies_of(alloc: Global, sources: &Items<&'static str>) -> Result<Items<Text>, AllocError>
+    ensures { IfOk result (λ copies. copies ≡ map (λ text. text.now) sources.now) }
+{
+    let mut copies = Items::with_capacity(alloc, sources.len())?;
+    for source in sources.as_slice() {
+        copies.push(copy_of(alloc, source)?)?;
+    }
+    Ok(copies)
+}
+
+/// The parts with ids as their types, in order.
+fn all_with_ids<P: HasTypes>(
+    alloc: Global,
+    ids: &Identities<'_>,
+    parts: &Items<P>,
+) -> Result<Items<P::Output>, AllocError>
+    ensures { IfOk result (λ all. all ≡ map (P.with_ids
+        (λ ty. index_in ⟦<TypeId as PartialEq>⟧.eq ids.now.interner.now ty.identity))
+        parts.now) }
+{
+    let mut all = Items::with_capacity(alloc, parts.len())?;
+    for part in parts.as_slice() {
+        all.push(part.with_ids(alloc, ids)?)?;
+    }
+    Ok(all)
 }
 
 /// The list of one type.
@@ -80,7 +121,7 @@ pub(super) fn alone<'a>(alloc: Global, ty: &'a MetaType) -> Result<Vec<&'a MetaT
 }
 
 /// A description or a part of one, whose types can be listed, and replaced by ids.
-pub(crate) trait HasTypes {
+pub(crate) trait HasTypes: Sized {
     /// The portable form.
     type Output: Drop;
 
@@ -117,7 +158,12 @@ impl HasTypes for Type {
         alloc: Global,
         ids: &Identities<'_>,
     ) -> Result<Type<PortableForm>, AllocError> {
-        convert(alloc, ids, self)
+        Ok(Type {
+            path: self.path.with_ids(alloc, ids)?,
+            type_params: all_with_ids(alloc, ids, &self.type_params)?,
+            type_def: self.type_def.with_ids(alloc, ids)?,
+            docs: copies_of(alloc, &self.docs)?,
+        })
     }
 }
 
@@ -135,9 +181,9 @@ impl HasTypes for Path {
     fn with_ids(
         &self,
         alloc: Global,
-        ids: &Identities<'_>,
+        _ids: &Identities<'_>,
     ) -> Result<Path<PortableForm>, AllocError> {
-        convert_path(alloc, ids, self)
+        Ok(Path::from(copies_of(alloc, &self.segments)?))
     }
 }
 
@@ -160,7 +206,13 @@ impl HasTypes for TypeParameter {
         alloc: Global,
         ids: &Identities<'_>,
     ) -> Result<TypeParameter<PortableForm>, AllocError> {
-        convert_parameter(alloc, ids, self)
+        Ok(TypeParameter {
+            name: copy_of(alloc, &self.name)?,
+            ty: match &self.ty {
+                None => None,
+                Some(ty) => Some(ids.id(ty)),
+            },
+        })
     }
 }
 
@@ -180,7 +232,27 @@ impl HasTypes for TypeDef {
         alloc: Global,
         ids: &Identities<'_>,
     ) -> Result<TypeDef<PortableForm>, AllocError> {
-        convert_definition(alloc, ids, self)
+        match self {
+            TypeDef::Composite(d) => Ok(TypeDef::Composite(d.with_ids(alloc, ids)?)),
+            TypeDef::Variant(d) => Ok(TypeDef::Variant(d.with_ids(alloc, ids)?)),
+            TypeDef::Sequence(d) => Ok(TypeDef::Sequence(TypeDefSequence::new(ids.id(
+                &d.type_param,
+            )))),
+            TypeDef::Array(d) => Ok(TypeDef::Array(TypeDefArray::new(
+                d.len,
+                ids.id(&d.type_param),
+            ))),
+            TypeDef::Tuple(d) => Ok(TypeDef::Tuple(TypeDefTuple::from(
+                d.fields.with_ids(alloc, ids)?,
+            ))),
+            TypeDef::Primitive(d) => Ok(TypeDef::Primitive(*d)),
+            TypeDef::Compact(d) => Ok(TypeDef::Compact(TypeDefCompact::new(ids.id(&d.type_param)))),
+            TypeDef::BitSequence(d) => Ok(TypeDef::BitSequence(TypeDefBitSequence::new_portable(
+                ids.id(&d.bit_store_type),
+                ids.id(&d.bit_order_type),
+            ))),
+            TypeDef::Map(d) => Ok(TypeDef::Map(TypeDefMap::new(ids.id(&d.key), ids.id(&d.value)))),
+        }
     }
 }
 
@@ -200,7 +272,12 @@ impl HasTypes for Field {
         alloc: Global,
         ids: &Identities<'_>,
     ) -> Result<Field<PortableForm>, AllocError> {
-        convert_field(alloc, ids, self)
+        Ok(Field {
+            name: optional_copy(alloc, &self.name)?,
+            ty: ids.id(&self.ty),
+            type_name: optional_copy(alloc, &self.type_name)?,
+            docs: copies_of(alloc, &self.docs)?,
+        })
     }
 }
 
@@ -220,7 +297,12 @@ impl HasTypes for Variant {
         alloc: Global,
         ids: &Identities<'_>,
     ) -> Result<Variant<PortableForm>, AllocError> {
-        convert_variant(alloc, ids, self)
+        Ok(Variant {
+            name: copy_of(alloc, &self.name)?,
+            fields: all_with_ids(alloc, ids, &self.fields)?,
+            index: self.index,
+            docs: copies_of(alloc, &self.docs)?,
+        })
     }
 }
 
@@ -241,7 +323,7 @@ impl HasTypes for TypeDefComposite {
         ids: &Identities<'_>,
     ) -> Result<TypeDefComposite<PortableForm>, AllocError> {
         Ok(TypeDefComposite {
-            fields: convert_fields(alloc, ids, &self.fields)?,
+            fields: all_with_ids(alloc, ids, &self.fields)?,
         })
     }
 }
@@ -263,7 +345,7 @@ impl HasTypes for TypeDefVariant {
         ids: &Identities<'_>,
     ) -> Result<TypeDefVariant<PortableForm>, AllocError> {
         Ok(TypeDefVariant {
-            variants: convert_variants(alloc, ids, &self.variants)?,
+            variants: all_with_ids(alloc, ids, &self.variants)?,
         })
     }
 }
@@ -284,7 +366,11 @@ impl HasTypes for Items<MetaType> {
         alloc: Global,
         ids: &Identities<'_>,
     ) -> Result<Items<UntrackedSymbol<TypeId>>, AllocError> {
-        convert_types(alloc, ids, self)
+        let mut all = Items::with_capacity(alloc, self.len())?;
+        for ty in self.as_slice() {
+            all.push(ids.id(ty))?;
+        }
+        Ok(all)
     }
 }
 

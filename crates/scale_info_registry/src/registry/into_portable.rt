@@ -47,7 +47,7 @@ use super::conversion::TypePair;
 use scale_info_catalogue::catalogue::Catalogue;
 use scale_info_collections::text::Text;
 use scale_info_discovery::discovery::RegisterError;
-use scale_info_identities::interner::UntrackedSymbol;
+use scale_info_identities::symbol::UntrackedSymbol;
 use scale_info_identities::type_id::TypeId;
 use scale_info_types::form::PortableForm;
 use scale_info_types::meta_type::MetaType;

@@ -1,7 +1,7 @@
 //! The types of a registry, each with its id.
 ghost use Rattle.std.specs.Iterator.{YieldsFirstBy, item_count};
 
-use scale_info_identities::interner::UntrackedSymbol;
+use scale_info_identities::symbol::UntrackedSymbol;
 use scale_info_identities::type_id::TypeId;
 use scale_info_types::form::PortableForm;
 use scale_info_types::ty::Type;

@@ -2,7 +2,7 @@
 ghost use Rattle.scale_info_tables.specs.TableEncoding.{EncodesRegistry};
 ghost use Rattle.scale_info_tables.specs.TableEncoding.{EncodesRegistryWithoutMaps};
 ghost use Rattle.scale_info_tables.specs.declared.portable.PortableRegistry as tables;
-ghost use Rattle.scale_info_codec.specs.Limits.{AreEntriesWithinLimits};
+ghost use Rattle.scale_info_grammar.specs.Limits.{AreEntriesWithinLimits};
 ghost use Rattle.std.specs.Prelude.{◌≡◌, ◌↔◌, IsTrue, List, ℕ};
 
 use crate::portable::PortableRegistry;

@@ -2,14 +2,14 @@
 ghost use Rattle.std.specs.Prelude.{◌≡◌, ◌++◌, [], ◌∷◌, length, IfOk, OnErr, IsErrOf, slice_get};
 ghost use Rattle.std.specs.Prelude.{Some, Ok, OnOk, ◌↔◌, ◌≤◌};
 ghost use Rattle.std.specs.Option.{option_copied};
-ghost use Rattle.scale_info_identities.specs.Interned.{IsNew, IsIndexOf};
+ghost use Rattle.scale_info_interner.specs.Interned.{IsNew, IsIndexOf};
 ghost use Rattle.scale_info_numberings.specs.Numberings.{AreDistinct};
 ghost use Rattle.scale_info_tables.specs.BuiltTables.{IsUnregistered, numbered_from};
 
 use super::PortableRegistry;
 use super::entries::copies_of;
 use scale_info_collections::try_clone::TryClone;
-use scale_info_identities::interner::{InternError, Interner};
+use scale_info_interner::interner::{InternError, Interner};
 use scale_info_types::form::PortableForm;
 use scale_info_types::laws::equal_portable;
 use scale_info_types::ty::{PortableType, Type};

@@ -4,7 +4,7 @@ ghost use Rattle.scale_info_types.specs.References.{references, definition_refer
 ghost use Rattle.scale_info_tables.specs.ClosedTables.{AreBelow, HasIndicesAsIds};
 ghost use Rattle.scale_info_tables.specs.ClosedTables.{HasReferencesBelow};
 
-use scale_info_identities::interner::UntrackedSymbol;
+use scale_info_identities::symbol::UntrackedSymbol;
 use scale_info_identities::type_id::TypeId;
 use scale_info_types::form::PortableForm;
 use scale_info_types::ty::variant::Variant;

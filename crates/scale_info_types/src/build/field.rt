@@ -6,7 +6,7 @@ use crate::form::{Form, MetaForm, PortableForm};
 use crate::meta_type::MetaType;
 use crate::ty::Field;
 use scale_info_collections::items::Items;
-use scale_info_identities::interner::UntrackedSymbol;
+use scale_info_identities::symbol::UntrackedSymbol;
 use scale_info_identities::type_id::TypeId;
 use scale_info_type_ids::identified::HasIdentity;
 use std::alloc::{AllocError, Global};

@@ -1,6 +1,6 @@
 use Rattle.std.proofs.lemmas.Bool.{false≢true}
 use Rattle.std.proofs.Common.{rules, ◌≡◌, Some}
-use Rattle.scale_info_identities.specs.Interned.{IsNew}
+use Rattle.scale_info_interner.specs.Interned.{IsNew}
 use Rattle.scale_info_identities.specs.TypeIds.{term_of}
 use Rattle.scale_info_identities.specs.contracts.type_id.TypeIdPartialEq.TheImpl.{ghosts as equals}
 use Rattle.scale_info_catalogue.specs.Catalogues.{described}

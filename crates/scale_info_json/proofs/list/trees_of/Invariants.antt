@@ -1,6 +1,6 @@
 use Rattle.std.proofs.Common.{◌≡◌, map, take}
 use Rattle.serde_json.specs.View.{view}
-use Rattle.scale_info_json.specs.Meaning.{MeansEach}
+use Rattle.scale_info_json_trees.specs.Meaning.{MeansEach}
 use Rattle.scale_info_json.proofs.list.trees_of.Given as goal
 
 abbrev pub invariant-loop-value : goal.invariant-loop-value

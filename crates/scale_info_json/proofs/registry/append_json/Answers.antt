@@ -1,5 +1,5 @@
 use Rattle.scale_info_json.specs.Tables.{table_tree}
-use Rattle.scale_info_json.proofs.Texts.{whole_text}
+use Rattle.scale_info_json_trees.proofs.Texts.{whole_text}
 use Rattle.scale_info_json.proofs.registry.append_json.Goals as goal
 
 pub returns-clause-text : goal.returns-clause-text

@@ -11,7 +11,7 @@ pub returns-in_err-rest-clause-none : goal.returns-in_err-rest-clause-none
 returns-in_err-rest-clause-none g c =
     let p = c.loop.invariant in
     none_is c.from_residual.result
-    (record { none = no_next g.T.Scale.encodes g.met.T.Scale.law p.values c.args.input.now c.loop.rest.now c.args.count (omega (arith, p.count)) p.by.prefix c.in_err-rest.ensures.none })
+    (record { none = no_next g.T.Pass.encodes g.met.T.Pass.law p.values c.args.input.now c.loop.rest.now c.args.count (omega (arith, p.count)) p.by.prefix c.in_err-rest.ensures.none })
 
 pub loop-preserved : goal.loop-preserved
 loop-preserved g c =

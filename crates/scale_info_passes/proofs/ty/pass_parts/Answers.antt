@@ -1,13 +1,13 @@
 use Rattle.std.proofs.Common.{refl, arith}
 use Rattle.std.proofs.lemmas.List.Concat.{flat_map_single}
 use Rattle.scale_info_types.specs.declared.ty.TypeDef.TheVariants as def
-use Rattle.scale_info_codec.specs.Ty.{composite, variant, sequence, array, tuple, primitive}
-use Rattle.scale_info_codec.specs.Ty.{compact, bit_sequence, map, array_parts, bit_sequence_parts}
-use Rattle.scale_info_codec.specs.Ty.{map_parts}
+use Rattle.scale_info_grammar.specs.Ty.{composite, variant, sequence, array, tuple, primitive}
+use Rattle.scale_info_grammar.specs.Ty.{compact, bit_sequence, map, array_parts, bit_sequence_parts}
+use Rattle.scale_info_grammar.specs.Ty.{map_parts}
 use Rattle.scale_info_bytes.proofs.Steps.{no_prefix_through}
-use Rattle.scale_info_codec.proofs.Definitions.{no_prefix_at, no_prefix_map, at_composite}
-use Rattle.scale_info_codec.proofs.Definitions.{at_variant, at_sequence, at_array, at_tuple}
-use Rattle.scale_info_codec.proofs.Definitions.{at_primitive, at_compact, at_bit_sequence, at_map}
+use Rattle.scale_info_grammar.proofs.Definitions.{no_prefix_at, no_prefix_map, at_composite}
+use Rattle.scale_info_grammar.proofs.Definitions.{at_variant, at_sequence, at_array, at_tuple}
+use Rattle.scale_info_grammar.proofs.Definitions.{at_primitive, at_compact, at_bit_sequence, at_map}
 use Rattle.scale_info_passes.proofs.Passes.{visited_into, own_references}
 use Rattle.scale_info_bytes.proofs.Options.{some_on, none_on}
 use Rattle.scale_info_passes.proofs.Passes.{at_index}

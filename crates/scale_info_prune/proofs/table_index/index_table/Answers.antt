@@ -1,6 +1,6 @@
 use Rattle.std.proofs.Common.{rules, ◌≡◌, ◌==◌, length, false}
 use Rattle.scale_info_bytes.proofs.Lists.{no_count, no_items_after}
-use Rattle.scale_info_codec.specs.Ty.{EncodesPortableType}
+use Rattle.scale_info_grammar.specs.Ty.{EncodesPortableType}
 use Rattle.scale_info_prune.proofs.TableIndexes.{has_trailing, is_not_empty}
 use Rattle.scale_info_prune.proofs.table_index.index_table.Goals as goal
 

@@ -35,5 +35,5 @@ loop-described-preserved c =
           let place : slice_get ids (length types) ≡ Some pair.0 =
           sym (past_at ids first (length done) (length types) far) ∙ pair.1 in
           subst (λ (xs : List portable.Description). AreDescribed cat ids first xs) (sym pushed)
-          (described_more cat ids first types pair.0 d.now ty place pair.2 (IfOk-at_ok _ made c.convert-ty.ensures) (kept.2 cat all))),
+          (described_more cat ids first types pair.0 d.now ty place pair.2 (IfOk-at_ok _ made c.with_ids-ty.ensures) (kept.2 cat all))),
     )

@@ -1,5 +1,5 @@
 use Rattle.scale_info_segments.proofs.TypePaths.{bad_here, identifiers_all, identifiers_more}
-use Rattle.scale_info_identities.specs.Identifiers.{IsIdentifier}
+use Rattle.scale_info_segments.specs.Identifiers.{IsIdentifier}
 use Rattle.std.proofs.lemmas.List.Elements.{All-nil}
 use Rattle.scale_info_segments.proofs.segments.first_invalid_index.Goals as goal
 

@@ -1,6 +1,6 @@
 use Rattle.std.proofs.Common.{take}
 use Rattle.std.specs.List.{All}
-use Rattle.scale_info_identities.specs.Identifiers.{IsIdentifier}
+use Rattle.scale_info_segments.specs.Identifiers.{IsIdentifier}
 use Rattle.scale_info_segments.specs.TypePaths.{texts}
 use Rattle.scale_info_segments.proofs.segments.first_invalid_index.Given as goal
 

@@ -1,11 +1,11 @@
 use Rattle.std.proofs.Common.{◌≡◌, ℕ, List, arith, refl, sym, subst}
-use Rattle.scale_info_codec.proofs.Definitions.{no_prefix_at, no_prefix_map}
-use Rattle.scale_info_codec.proofs.Definitions.{at_composite, at_variant, at_sequence, at_array}
-use Rattle.scale_info_codec.proofs.Definitions.{at_tuple, at_primitive, at_compact, at_bit_sequence}
-use Rattle.scale_info_codec.proofs.Definitions.{at_map}
+use Rattle.scale_info_grammar.proofs.Definitions.{no_prefix_at, no_prefix_map}
+use Rattle.scale_info_grammar.proofs.Definitions.{at_composite, at_variant, at_sequence, at_array}
+use Rattle.scale_info_grammar.proofs.Definitions.{at_tuple, at_primitive, at_compact, at_bit_sequence}
+use Rattle.scale_info_grammar.proofs.Definitions.{at_map}
 use Rattle.scale_info_bytes.proofs.Steps.{no_prefix_through}
-use Rattle.scale_info_codec.specs.Ty.{composite, variant, sequence, array, tuple, primitive}
-use Rattle.scale_info_codec.specs.Ty.{compact, bit_sequence, map, EncodesTypeDefWithIndex}
+use Rattle.scale_info_grammar.specs.Ty.{composite, variant, sequence, array, tuple, primitive}
+use Rattle.scale_info_grammar.specs.Ty.{compact, bit_sequence, map, EncodesTypeDefWithIndex}
 use Rattle.scale_info_types.specs.Portable as portable
 use Rattle.scale_info_types.specs.declared.ty.TypeDef.TheVariants as def
 use Rattle.scale_info_transcode.proofs.Objects.{row_into}

@@ -9,7 +9,7 @@ returns-in_err-after-clause-malformed g c =
     let before = c.loop.invariant.items in
     passed_malformed c.from_residual.result c.in_err-after.field-0.0 c.from_residual.ensures.1
     (λ n.
-    no_next g.T.Scale.encodes g.met.T.Scale.law before.values c.args.input.now c.loop.rest.now
+    no_next g.T.Transcode.encodes g.met.T.Transcode.law before.values c.args.input.now c.loop.rest.now
     c.args.count (rw before.counted (omega arith)) before.read n)
     c.in_err-after.ensures.malformed
 
@@ -19,6 +19,6 @@ loop-preserved g c =
     record {
       before = c.in_ok-after.ensures.before ∙ c.loop.invariant.before;
       items =
-          next_item g.T.Scale.encodes g.T.Transcode.written c.loop.counter one.value _ _ _ _ _ _
+          next_item g.T.Transcode.encodes g.T.Transcode.written c.loop.counter one.value _ _ _ _ _ _
           c.loop.invariant.items one.read one.tokens;
     }

@@ -1,4 +1,4 @@
-use Rattle.scale_info_codec.specs.Ty.{description_parts}
+use Rattle.scale_info_grammar.specs.Ty.{description_parts}
 use Rattle.scale_info_bytes.proofs.Errors.{passed_malformed}
 use Rattle.scale_info_bytes.proofs.Steps.{no_prefix_through}
 use Rattle.scale_info_codec.proofs.ty.DescriptionPortableFormScale.decode_from.Goals as goal

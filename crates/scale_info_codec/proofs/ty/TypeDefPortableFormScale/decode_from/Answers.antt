@@ -1,7 +1,7 @@
 use Rattle.std.proofs.Common.{arith, refl}
 use Rattle.scale_info_bytes.proofs.Errors.{passed_malformed}
 use Rattle.scale_info_bytes.proofs.Index.{begins}
-use Rattle.scale_info_codec.proofs.Definitions.{prefix_definition, no_prefix_definition}
+use Rattle.scale_info_grammar.proofs.Definitions.{prefix_definition, no_prefix_definition}
 use Rattle.scale_info_codec.proofs.ty.TypeDefPortableFormScale.decode_from.Goals as goal
 
 pub returns-in_err-def-in-len1-up-clause-malformed :

@@ -1,9 +1,9 @@
-use Rattle.scale_info_codec.specs.Ty.{composite, variant, sequence, array, tuple, primitive}
-use Rattle.scale_info_codec.specs.Ty.{compact, bit_sequence, map}
-use Rattle.scale_info_codec.proofs.Definitions.{appends_definition, too_long_definition}
-use Rattle.scale_info_codec.proofs.Definitions.{inside_composite, inside_variant, inside_sequence}
-use Rattle.scale_info_codec.proofs.Definitions.{inside_array, inside_tuple, inside_primitive}
-use Rattle.scale_info_codec.proofs.Definitions.{inside_compact, inside_bit_sequence, inside_map}
+use Rattle.scale_info_grammar.specs.Ty.{composite, variant, sequence, array, tuple, primitive}
+use Rattle.scale_info_grammar.specs.Ty.{compact, bit_sequence, map}
+use Rattle.scale_info_grammar.proofs.Definitions.{appends_definition, too_long_definition}
+use Rattle.scale_info_grammar.proofs.Definitions.{inside_composite, inside_variant, inside_sequence}
+use Rattle.scale_info_grammar.proofs.Definitions.{inside_array, inside_tuple, inside_primitive}
+use Rattle.scale_info_grammar.proofs.Definitions.{inside_compact, inside_bit_sequence, inside_map}
 use Rattle.scale_info_codec.proofs.ty.TypeDefPortableFormScale.encode_to.Goals as goal
 
 pub returns-in-Composite-clause-ok : goal.returns-in-Composite-clause-ok

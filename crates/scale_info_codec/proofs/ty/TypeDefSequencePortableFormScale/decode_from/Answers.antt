@@ -2,7 +2,7 @@ use Rattle.std.proofs.Common.{sym, subst}
 use Rattle.scale_info_bytes.specs.Encodings.{HasPrefix}
 use Rattle.scale_info_bytes.proofs.Errors.{passed_malformed}
 use Rattle.scale_info_bytes.proofs.Steps.{no_prefix_through}
-use Rattle.scale_info_codec.specs.Ty.{EncodesId}
+use Rattle.scale_info_grammar.specs.Ty.{EncodesId}
 use Rattle.scale_info_codec.proofs.ty.TypeDefSequencePortableFormScale.decode_from.Goals as goal
 
 pub returns-in_err-type_param-clause-malformed : goal.returns-in_err-type_param-clause-malformed

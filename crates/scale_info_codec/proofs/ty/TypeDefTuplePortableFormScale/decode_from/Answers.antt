@@ -3,7 +3,7 @@ use Rattle.scale_info_bytes.specs.Encodings.{HasPrefix}
 use Rattle.scale_info_bytes.specs.Parts.{EncodesList}
 use Rattle.scale_info_bytes.proofs.Errors.{passed_malformed}
 use Rattle.scale_info_bytes.proofs.Steps.{no_prefix_through}
-use Rattle.scale_info_codec.specs.Ty.{EncodesId}
+use Rattle.scale_info_grammar.specs.Ty.{EncodesId}
 use Rattle.scale_info_codec.proofs.ty.TypeDefTuplePortableFormScale.decode_from.Goals as goal
 
 pub returns-in_err-fields-clause-malformed : goal.returns-in_err-fields-clause-malformed

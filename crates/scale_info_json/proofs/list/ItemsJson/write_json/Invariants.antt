@@ -2,9 +2,9 @@ use Rattle.std.proofs.Common.{◌≡◌, ◌++◌, map, take, drop}
 use Rattle.json.specs.Tree.{items_tokens}
 use Rattle.serde_json.specs.View.{items_of}
 use Rattle.serde_json.specs.Written.{items_outline}
-use Rattle.scale_info_json.specs.Meaning.{MeansEach}
-use Rattle.scale_info_json.specs.Written.{list_tree}
-use Rattle.scale_info_json.specs.Steps.{tokens_of}
+use Rattle.scale_info_json_trees.specs.Meaning.{MeansEach}
+use Rattle.scale_info_json_trees.specs.Written.{list_tree}
+use Rattle.scale_info_json_trees.specs.Steps.{tokens_of}
 use Rattle.scale_info_json.proofs.list.ItemsJson.write_json.Given as goal
 
 abbrev pub invariant-loop-value : goal.invariant-loop-value

@@ -1,6 +1,6 @@
 use Rattle.std.proofs.Common.{◌∙◌, ap}
 use Rattle.std.proofs.lemmas.Result.{on_ok_weaker}
-use Rattle.scale_info_json.proofs.Objects.{object_text, text_before}
+use Rattle.scale_info_json_trees.proofs.Objects.{object_text, text_before}
 use Rattle.scale_info_json.proofs.members.AnyJson.write_json.Goals as goal
 
 pub returns-clause-before : goal.returns-clause-before

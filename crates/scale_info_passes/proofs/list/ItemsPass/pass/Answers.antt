@@ -5,7 +5,7 @@ use Rattle.scale_info_passes.proofs.list.ItemsPass.pass.Goals as goal
 
 pub returns-in_err-count-clause-none : goal.returns-in_err-count-clause-none
 returns-in_err-count-clause-none g c =
-    none_is c.from_residual.result (no_count g.T.Scale.encodes _ c.in_err-count.ensures.none)
+    none_is c.from_residual.result (no_count g.T.Pass.encodes _ c.in_err-count.ensures.none)
 
 pub returns-clause-some : goal.returns-clause-some
 returns-clause-some g c =
@@ -15,4 +15,4 @@ returns-clause-some g c =
 pub returns-clause-none : goal.returns-clause-none
 returns-clause-none g c =
     none_on c.pass_items.result
-    (λ n. no_items_after g.T.Scale.encodes _ _ _ c.in_ok-count.ensures.some n.none) c.pass_items.ensures.none
+    (λ n. no_items_after g.T.Pass.encodes _ _ _ c.in_ok-count.ensures.some n.none) c.pass_items.ensures.none

@@ -15,4 +15,4 @@ returns-clause-some g c =
 pub returns-clause-none : goal.returns-clause-none
 returns-clause-none g c =
     none_on c.pass-2.result
-    (λ n. no_prefix_second g.met.A.Scale.law c.in_ok-rest.ensures.some.by.prefix n) c.pass-2.ensures.none
+    (λ n. no_prefix_second g.met.A.Pass.law c.in_ok-rest.ensures.some.by.prefix n) c.pass-2.ensures.none

@@ -1,6 +1,6 @@
 use Rattle.std.proofs.Common.{refl, ap, ◌++◌}
 use Rattle.std.proofs.lemmas.List.{append-nil}
-use Rattle.scale_info_codec.specs.Ty.{description_parts}
+use Rattle.scale_info_grammar.specs.Ty.{description_parts}
 use Rattle.scale_info_types.specs.References.{parameter_references}
 use Rattle.scale_info_bytes.proofs.Steps.{no_prefix_through}
 use Rattle.scale_info_passes.proofs.Passes.{visited_into, no_references}

@@ -1,5 +1,5 @@
 use Rattle.std.proofs.Common.{refl}
-use Rattle.scale_info_codec.specs.Ty.{portable_type_parts}
+use Rattle.scale_info_grammar.specs.Ty.{portable_type_parts}
 use Rattle.scale_info_bytes.proofs.Steps.{no_prefix_through}
 use Rattle.scale_info_passes.proofs.Passes.{visited_into}
 use Rattle.scale_info_bytes.proofs.Options.{some_on, none_on}

@@ -1,6 +1,6 @@
 use Rattle.std.proofs.Common.{arith, refl}
 use Rattle.scale_info_bytes.proofs.Index.{begins}
-use Rattle.scale_info_codec.proofs.Definitions.{no_prefix_definition}
+use Rattle.scale_info_grammar.proofs.Definitions.{no_prefix_definition}
 use Rattle.scale_info_passes.proofs.Passes.{visited_definition}
 use Rattle.scale_info_bytes.proofs.Options.{some_on, none_on}
 use Rattle.scale_info_passes.proofs.ty.TypeDefPortableFormPass.pass.Goals as goal

@@ -1,6 +1,6 @@
 use Rattle.std.proofs.Common.{refl}
 use Rattle.std.specs.Prelude.{option_to_list}
-use Rattle.scale_info_codec.specs.Ty.{parameter_parts}
+use Rattle.scale_info_grammar.specs.Ty.{parameter_parts}
 use Rattle.scale_info_bytes.proofs.Steps.{no_prefix_through}
 use Rattle.scale_info_passes.proofs.Passes.{visited_into, own_references}
 use Rattle.scale_info_bytes.proofs.Options.{some_on, none_on}

@@ -1,7 +1,7 @@
 use Rattle.std.proofs.Common.{refl, ◌∙◌}
 use Rattle.std.proofs.lemmas.List.{append-nil}
 use Rattle.std.proofs.lemmas.List.Concat.{flat_map_single}
-use Rattle.scale_info_codec.specs.Ty.{variant_parts}
+use Rattle.scale_info_grammar.specs.Ty.{variant_parts}
 use Rattle.scale_info_bytes.proofs.Steps.{no_prefix_through}
 use Rattle.scale_info_passes.proofs.Passes.{visited_into, no_references}
 use Rattle.scale_info_bytes.proofs.Options.{some_on, none_on}

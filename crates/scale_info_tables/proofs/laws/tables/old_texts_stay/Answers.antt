@@ -1,4 +1,4 @@
-use Rattle.scale_info_codec.proofs.WithoutMaps.{entries_stay}
+use Rattle.scale_info_grammar.proofs.WithoutMaps.{entries_stay}
 use Rattle.scale_info_tables.proofs.laws.tables.old_texts_stay.Goals as goal
 
 pub returns : goal.returns

@@ -1,4 +1,4 @@
-use Rattle.scale_info_codec.proofs.Limits.{has_entries}
+use Rattle.scale_info_grammar.proofs.Limits.{has_entries}
 use Rattle.scale_info_tables.proofs.laws.tables.spelled_within_limits.Goals as goal
 
 pub returns : goal.returns

@@ -3,7 +3,7 @@ use Rattle.std.specs.Prelude.{IfErr}
 use Rattle.scale_info_bytes.specs.declared.error.EncodeError.{EncodeError}
 use Rattle.scale_info_bytes.specs.Encodings.{IfTooLong}
 use Rattle.scale_info_bytes.proofs.Errors.{too_long_on}
-use Rattle.scale_info_codec.proofs.Limits.{has_entries}
+use Rattle.scale_info_grammar.proofs.Limits.{has_entries}
 use Rattle.scale_info_tables.proofs.portable.PortableRegistry.encode.Goals as goal
 
 weaken :

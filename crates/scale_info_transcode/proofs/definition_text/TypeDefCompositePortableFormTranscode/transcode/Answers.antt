@@ -1,8 +1,7 @@
 use Rattle.scale_info_bytes.proofs.Errors.{passed_malformed}
 use Rattle.scale_info_bytes.proofs.Steps.{no_prefix_through}
-use Rattle.scale_info_bytes.specs.Parts.{EncodesList}
-use Rattle.scale_info_codec.specs.Ty.{EncodesField}
-use Rattle.scale_info_json.specs.Definitions.{composite_rows}
+use Rattle.scale_info_grammar.specs.Ty.{EncodesComposite}
+use Rattle.scale_info_json_trees.specs.Definitions.{composite_rows}
 use Rattle.scale_info_transcode.proofs.Objects.{one_row, whole_object}
 use Rattle.scale_info_types.specs.Portable as portable
 use Rattle.scale_info_transcode.proofs.definition_text.TypeDefCompositePortableFormTranscode.transcode.Goals as goal
@@ -18,7 +17,7 @@ returns c =
     let fields = c.in_ok-rest.ensures.ok in
     let composite : portable.TypeDefComposite = record { fields = fields.value } in
     let object =
-    whole_object (λ v b. EncodesList EncodesField v.fields b) composite_rows composite
+    whole_object EncodesComposite composite_rows composite
     fields.read c.in_ok-begin_object.ensures (one_row fields.appends)
     c.in_ok-end_object.ensures in
     record { before = object.before; ok = object.ok; malformed = tt }

@@ -1,8 +1,7 @@
 use Rattle.scale_info_bytes.proofs.Errors.{passed_malformed}
 use Rattle.scale_info_bytes.proofs.Steps.{no_prefix_through}
-use Rattle.scale_info_bytes.specs.Parts.{EncodesList}
-use Rattle.scale_info_codec.specs.Ty.{EncodesVariant}
-use Rattle.scale_info_json.specs.Definitions.{variant_type_rows}
+use Rattle.scale_info_grammar.specs.Ty.{EncodesVariants}
+use Rattle.scale_info_json_trees.specs.Definitions.{variant_type_rows}
 use Rattle.scale_info_transcode.proofs.Objects.{one_row, whole_object}
 use Rattle.scale_info_types.specs.Portable as portable
 use Rattle.scale_info_transcode.proofs.definition_text.TypeDefVariantPortableFormTranscode.transcode.Goals as goal
@@ -18,7 +17,7 @@ returns c =
     let variants = c.in_ok-rest.ensures.ok in
     let definition : portable.TypeDefVariant = record { variants = variants.value } in
     let object =
-    whole_object (λ v b. EncodesList EncodesVariant v.variants b) variant_type_rows definition
+    whole_object EncodesVariants variant_type_rows definition
     variants.read c.in_ok-begin_object.ensures
     (one_row variants.appends) c.in_ok-end_object.ensures in
     record { before = object.before; ok = object.ok; malformed = tt }

@@ -3,10 +3,10 @@ use Rattle.scale_info_bytes.proofs.Errors.{passed_malformed}
 use Rattle.scale_info_bytes.proofs.Steps.{no_prefix_through}
 use Rattle.scale_info_bytes.specs.Parts.{EncodesList}
 use Rattle.scale_info_bytes.specs.Strings.{EncodesText}
-use Rattle.scale_info_codec.specs.Ty.{EncodesDescription, EncodesParameter, EncodesPath}
-use Rattle.scale_info_codec.specs.Ty.{EncodesTypeDef, description_parts}
-use Rattle.scale_info_codec.specs.TyLaws.{type_def_law}
-use Rattle.scale_info_json.specs.Tables.{description_rows}
+use Rattle.scale_info_grammar.specs.Ty.{EncodesDescription, EncodesParameter, EncodesPath}
+use Rattle.scale_info_grammar.specs.Ty.{EncodesTypeDef, description_parts}
+use Rattle.scale_info_grammar.specs.TyLaws.{type_def_law}
+use Rattle.scale_info_json_trees.specs.Entries.{description_rows}
 use Rattle.scale_info_transcode.proofs.Objects.{four_rows, whole_object}
 use Rattle.scale_info_transcode.proofs.Parts.{four_parts, no_first, no_second}
 use Rattle.scale_info_transcode.proofs.Parts.{no_third, no_fourth}

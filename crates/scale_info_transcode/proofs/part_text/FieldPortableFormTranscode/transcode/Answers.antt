@@ -4,9 +4,9 @@ use Rattle.scale_info_bytes.specs.PartLaws.{option_law}
 use Rattle.scale_info_bytes.specs.Parts.{EncodesList, EncodesOption}
 use Rattle.scale_info_bytes.specs.StringLaws.{text_law}
 use Rattle.scale_info_bytes.specs.Strings.{EncodesText}
-use Rattle.scale_info_codec.specs.Ty.{EncodesField, EncodesId, field_parts}
-use Rattle.scale_info_codec.specs.TyLaws.{id_law}
-use Rattle.scale_info_json.specs.Described.{field_rows}
+use Rattle.scale_info_grammar.specs.Ty.{EncodesField, EncodesId, field_parts}
+use Rattle.scale_info_grammar.specs.TyLaws.{id_law}
+use Rattle.scale_info_json_trees.specs.Described.{field_rows}
 use Rattle.scale_info_transcode.proofs.Objects.{four_rows, whole_object}
 use Rattle.scale_info_transcode.proofs.Parts.{four_parts, no_first, no_second, no_third, no_fourth}
 use Rattle.scale_info_transcode.proofs.Skips.{only_rest}
@@ -70,7 +70,7 @@ returns c =
     c.in_ok-ty.ensures.ok c.in_ok-type_name.ensures.ok docs.read in
     let rows =
     four_rows docs.appends c.in_ok-write_optional_str.ensures
-    c.in_ok-write_member.ensures c.in_ok-write_optional_str-2.ensures in
+    c.in_ok-write_id.ensures c.in_ok-write_optional_str-2.ensures in
     let object =
     whole_object EncodesField field_rows field read
     c.in_ok-begin_object.ensures rows

@@ -4,8 +4,8 @@ use Rattle.scale_info_bytes.proofs.Steps.{prefix_pair}
 use Rattle.scale_info_bytes.specs.Parts.{EncodesOption}
 use Rattle.scale_info_bytes.specs.StringLaws.{text_law}
 use Rattle.scale_info_bytes.specs.Strings.{EncodesText}
-use Rattle.scale_info_codec.specs.Ty.{EncodesId, EncodesParameter, parameter_parts}
-use Rattle.scale_info_json.specs.Described.{parameter_rows}
+use Rattle.scale_info_grammar.specs.Ty.{EncodesId, EncodesParameter, parameter_parts}
+use Rattle.scale_info_json_trees.specs.Described.{parameter_rows}
 use Rattle.scale_info_transcode.proofs.Objects.{two_rows, whole_object}
 use Rattle.scale_info_types.specs.Portable as portable
 use Rattle.scale_info_transcode.proofs.part_text.TypeParameterPortableFormTranscode.transcode.Goals as goal
@@ -33,7 +33,7 @@ returns c =
     let read =
     prefix_pair {S = EncodesText} {R = EncodesOption EncodesId} {v = parameter_parts parameter}
     name.read c.in_ok-ty.ensures.ok in
-    let rows = two_rows name.appends c.in_ok-write_or_null.ensures in
+    let rows = two_rows name.appends c.in_ok-write_id_or_null.ensures in
     let object =
     whole_object EncodesParameter parameter_rows parameter read
     c.in_ok-begin_object.ensures rows

@@ -5,8 +5,8 @@ use Rattle.scale_info_bytes.specs.Numbers.{EncodesU8}
 use Rattle.scale_info_bytes.specs.Parts.{EncodesList}
 use Rattle.scale_info_bytes.specs.StringLaws.{text_law}
 use Rattle.scale_info_bytes.specs.Strings.{EncodesText}
-use Rattle.scale_info_codec.specs.Ty.{EncodesField, EncodesVariant, variant_parts}
-use Rattle.scale_info_json.specs.Described.{variant_rows}
+use Rattle.scale_info_grammar.specs.Ty.{EncodesField, EncodesVariant, variant_parts}
+use Rattle.scale_info_json_trees.specs.Described.{variant_rows}
 use Rattle.scale_info_transcode.proofs.Objects.{four_rows, whole_object}
 use Rattle.scale_info_transcode.proofs.Parts.{four_parts, no_first, no_second}
 use Rattle.scale_info_transcode.proofs.Parts.{no_third, no_fourth}
@@ -83,7 +83,7 @@ returns c =
     (variant_parts variant) _ _ _ _ _ c.in_ok-name.ensures.ok read_fields c.in_ok-index.ensures.ok
     docs.read in
     let rows =
-    four_rows docs.appends fields.appends c.in_ok-write_member.ensures
+    four_rows docs.appends fields.appends c.in_ok-write_number.ensures
     c.in_ok-write_str.ensures in
     let object =
     whole_object EncodesVariant variant_rows variant read

@@ -1,5 +1,5 @@
 use Rattle.scale_info_bytes.proofs.Steps.{no_prefix_through}
-use Rattle.scale_info_codec.specs.Ty.{field_parts}
+use Rattle.scale_info_grammar.specs.Ty.{field_parts}
 use Rattle.scale_info_bytes.proofs.Options.{some_on, none_on}
 use Rattle.scale_info_transcode.proofs.Skips.{rest_through}
 use Rattle.scale_info_transcode.proofs.skip.FieldPortableFormSkip.skip.Goals as goal

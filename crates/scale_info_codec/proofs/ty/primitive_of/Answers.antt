@@ -1,5 +1,0 @@
-use Rattle.std.proofs.Common.{rules}
-use Rattle.scale_info_codec.proofs.ty.primitive_of.Goals as goal
-
-pub returns-in-14-clause-none : goal.returns-in-14-clause-none
-returns-in-14-clause-none c = search rules

@@ -1,0 +1,4 @@
+pub mod Ty
+pub mod TyLaws
+pub mod Limits
+pub mod WithoutMaps

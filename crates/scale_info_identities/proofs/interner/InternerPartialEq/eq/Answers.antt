@@ -1,5 +1,0 @@
-use Rattle.std.proofs.Common.{rules}
-use Rattle.scale_info_identities.proofs.interner.InternerPartialEq.eq.Goals as goal
-
-pub returns : goal.returns
-returns g c = search rules

@@ -1,0 +1,4 @@
+pub mod LastElement
+pub mod Ordered
+pub mod Orders
+pub mod Chunks

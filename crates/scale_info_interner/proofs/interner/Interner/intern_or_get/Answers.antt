@@ -1,0 +1,97 @@
+use Rattle.std.proofs.Common.{◌≡◌, ◌++◌, ◌∷◌, [], map, length, refl, sym, ap, subst, arith, ◌∙◌, ◌<◌}
+use Rattle.std.proofs.lemmas.List.{length-append}
+use Rattle.scale_info_interner.specs.Interned.{IsIndexOf, IsKnown}
+use Rattle.scale_info_interner.specs.Orders.{IsElementOrder, IsGapFor}
+use Rattle.scale_info_interner.proofs.Orders.{equal_index, one_index, gap_absent, last_index}
+use Rattle.scale_info_interner.proofs.Orders.{order_push}
+use Rattle.scale_info_interner.proofs.interner.Interner.intern_or_get.Given as given
+use Rattle.scale_info_interner.proofs.interner.Interner.intern_or_get.Goals as goal
+
+found :
+    (g : given.Over) (c : goal.After-drop-value g)
+    → IsIndexOf g.T.PartialEq.eq c.args.self.now c.args.value c.in-Ok.index
+found g c =
+    subst (λ xs. IsIndexOf g.T.PartialEq.eq xs c.args.value c.in-Ok.index)
+    (c.deref.ensures.value ∙ c.self.view_is)
+    (equal_index g.met.T.Ord.total g.T.PartialEq.eq g.met.T.Ord.matches_eq c.deref.result.now
+    c.args.value c.in-Ok.index c.in-Ok.ensures.found)
+
+pub returns-in-Ok-clause-known : goal.returns-in-Ok-clause-known
+returns-in-Ok-clause-known g c = λ i k.
+    let chunks = map (λ v. v.items) c.self.inside.chunks.items in
+    let order : IsElementOrder g.T.Ord.cmp c.args.self.now chunks =
+    subst (λ xs. IsElementOrder g.T.Ord.cmp xs chunks) c.self.view_is c.self.invariant.0 in
+    let same =
+    one_index g.met.T.Ord.total g.T.PartialEq.eq g.met.T.Ord.matches_eq c.args.self.now chunks
+    c.args.value c.in-Ok.index i order (found g c) k in
+    (refl, (refl, c.from.ensures ∙ same), refl)
+
+pub returns-in-Ok-clause-ok : goal.returns-in-Ok-clause-ok
+returns-in-Ok-clause-ok g c =
+    subst (λ j. IsIndexOf g.T.PartialEq.eq c.args.self.now c.args.value j) (sym c.from.ensures)
+    (found g c)
+
+full_absent :
+    (g : given.Over) (c : goal.After-drop-value-then-is_full g)
+    → IsKnown g.T.PartialEq.eq c.args.self.now c.args.value
+    → ⊥
+full_absent g c k =
+    gap_absent g.met.T.Ord.total g.T.PartialEq.eq g.met.T.Ord.matches_eq c.deref.result.now
+    c.self.inside.elements.items c.args.self.now (map (λ v. v.items) c.deref-2.result.now)
+    (map (λ v. v.items) c.self.inside.chunks.items) c.args.value c.in-Err.place.chunk
+    c.in-Err.place.at c.deref.ensures.value c.self.view_is
+    (ap (λ cs. map (λ v. v.items) cs) c.deref-2.ensures.value) c.self.invariant.0
+    c.in-Err.ensures.absent k
+
+pub returns-then-is_full-clause-known : goal.returns-then-is_full-clause-known
+returns-then-is_full-clause-known g c = λ i k. absurd (full_absent g c (i, k))
+
+pub returns-then-is_full-clause-full : goal.returns-then-is_full-clause-full
+returns-then-is_full-clause-full g c =
+    (λ _. (c.if-is_full.ensures.full.0 refl, λ k. full_absent g c k), λ _. refl)
+
+pub returns-in_err-symbol-clause-known : goal.returns-in_err-symbol-clause-known
+returns-in_err-symbol-clause-known g c = λ i k.
+    absurd
+    (gap_absent g.met.T.Ord.total g.T.PartialEq.eq g.met.T.Ord.matches_eq c.deref.result.now
+    c.self.inside.elements.items c.args.self.now (map (λ v. v.items) c.deref-2.result.now)
+    (map (λ v. v.items) c.self.inside.chunks.items) c.args.value c.in-Err.place.chunk
+    c.in-Err.place.at c.deref.ensures.value c.self.view_is
+    (ap (λ cs. map (λ v. v.items) cs) c.deref-2.ensures.value) c.self.invariant.0
+    c.in-Err.ensures.absent (i, k))
+
+pub invariant_of-self-2 : goal.invariant_of-self-2
+invariant_of-self-2 g c =
+    let xs = c.self.inside.elements.items in
+    let chunks = map (λ v. v.items) c.self.inside.chunks.items in
+    let made = map (λ v. v.items) c.push_new.new.chunks.items in
+    let place = c.in-Err.place in
+    let pushed : c.push_new.new.elements.items ≡ xs ++ c.args.value ∷ [] = c.in_ok-symbol.ensures.ok.1 in
+    let gap : IsGapFor g.T.Ord.cmp xs chunks c.args.value place.chunk place.at =
+    subst (λ v. IsGapFor g.T.Ord.cmp xs v c.args.value place.chunk place.at)
+    (ap (λ cs. map (λ v. v.items) cs) c.deref-2.ensures.value)
+    (subst (λ v. IsGapFor g.T.Ord.cmp v (map (λ v. v.items) c.deref-2.result.now) c.args.value place.chunk place.at)
+    c.deref.ensures.value c.in-Err.ensures.absent) in
+    let order =
+    order_push g.met.T.Ord.total xs c.args.value chunks made place.chunk place.at
+    c.self.invariant.0 gap (c.in_ok-symbol.ensures.filled c.self.invariant.0.filled) c.in_ok-symbol.ensures.order in
+    let room : length c.args.self.now < 4294967295 = c.if-is_full.ensures.room refl in
+    let few : length xs < 4294967295 = rw c.self.view_is room in
+    let long = length-append xs (c.args.value ∷ []) in
+    (rw pushed order, rw pushed (omega (arith, few, long)))
+
+pub returns-clause-known : goal.returns-clause-known
+returns-clause-known g c = λ i k.
+    absurd
+    (gap_absent g.met.T.Ord.total g.T.PartialEq.eq g.met.T.Ord.matches_eq c.deref.result.now
+    c.self.inside.elements.items c.args.self.now (map (λ v. v.items) c.deref-2.result.now)
+    (map (λ v. v.items) c.self.inside.chunks.items) c.args.value c.in-Err.place.chunk
+    c.in-Err.place.at c.deref.ensures.value c.self.view_is
+    (ap (λ cs. map (λ v. v.items) cs) c.deref-2.ensures.value) c.self.invariant.0
+    c.in-Err.ensures.absent (i, k))
+
+pub returns-clause-ok : goal.returns-clause-ok
+returns-clause-ok g c =
+    rw (c.in_ok-symbol.ensures.ok.1, c.in_ok-symbol.ensures.ok.0)
+    (last_index g.met.T.Ord.total g.T.PartialEq.eq g.met.T.Ord.matches_eq
+    c.self.inside.elements.items c.args.value)
