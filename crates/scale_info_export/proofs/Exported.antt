@@ -17,7 +17,7 @@ use Rattle.scale_info_numberings.proofs.Zip.{zip_right, zip_turned}
 use Rattle.scale_info_tables.specs.declared.portable.PortableRegistry.{PortableRegistry}
 use Rattle.scale_info_types.specs.Shapes.{Shape}
 use Rattle.scale_info_types.specs.declared.ty.PortableType.{PortableType}
-use Rattle.scale_info_walk.specs.Pruned.{IsChosen, IsPruned, IsRetainError}
+use Rattle.scale_info_tables.specs.Pruned.{IsChosen, IsPruned, IsRetainError}
 use Rattle.scale_info_walk.specs.declared.walk.RetainError.{RetainError}
 use Rattle.scale_info_walk.specs.declared.walk.RetainError.TheVariants as retain
 use Rattle.scale_info_walk.specs.TypeSystems.{entry_of, types_system}

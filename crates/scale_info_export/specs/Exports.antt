@@ -17,7 +17,7 @@ use Rattle.scale_info_tables.specs.TableEncoding.{EncodesRegistry}
 use Rattle.scale_info_tables.specs.declared.portable.PortableRegistry.{PortableRegistry}
 use Rattle.scale_info_types.specs.Shapes.{Shape}
 use Rattle.scale_info_types.specs.declared.ty.PortableType.{PortableType}
-use Rattle.scale_info_walk.specs.Pruned.{IsChosen}
+use Rattle.scale_info_tables.specs.Pruned.{IsChosen}
 use Rattle.scale_info_walk.specs.TypeSystems.{entry_of}
 use Rattle.scale_info_walk.specs.declared.walk.RetainError.{RetainError}
 use Rattle.scale_info_walk.specs.declared.walk.RetainError.TheVariants as retain

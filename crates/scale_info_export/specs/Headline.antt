@@ -13,7 +13,7 @@ use Rattle.scale_info_tables.specs.BuiltTables.{numbered_from}
 use Rattle.scale_info_tables.specs.TableEncoding.{EncodesRegistry}
 use Rattle.scale_info_tables.specs.declared.portable.PortableRegistry.{PortableRegistry}
 use Rattle.scale_info_types.specs.Shapes.{Shape}
-use Rattle.scale_info_walk.specs.Pruned.{IsPruned}
+use Rattle.scale_info_tables.specs.Pruned.{IsPruned}
 
 -- A table that was pruned, and the bytes of what was kept: the ids that were chosen, the map from
 -- old ids to new ones, the kept table and its encoding.

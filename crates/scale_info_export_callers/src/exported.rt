@@ -7,7 +7,7 @@ ghost use Rattle.scale_info_numberings.specs.Numberings.{IsNumbering};
 ghost use Rattle.scale_info_numberings.specs.Tables.{ArePlaces, IsTable};
 ghost use Rattle.scale_info_tables.specs.TableEncoding.{EncodesRegistry};
 ghost use Rattle.scale_info_tables.specs.declared.portable.PortableRegistry as tables;
-ghost use Rattle.scale_info_walk.specs.Pruned.{IsChosen};
+ghost use Rattle.scale_info_tables.specs.Pruned.{IsChosen};
 ghost use Rattle.scale_info_walk.specs.TypeSystems.{entry_of};
 ghost use Rattle.std.specs.BTreeMap.{get};
 ghost use Rattle.std.specs.Ordering.{nat_cmp};

@@ -9,7 +9,7 @@ use crate::roots::{RootsError, roots_of};
 use crate::table_index::{append_kept, index_table};
 use scale_info_bytes::error::{DecodeError, EncodeError};
 use scale_info_passes::entries::EntryIndex;
-use scale_info_walk::pruned::map_of_numbers;
+use scale_info_walk::numbers::map_of_numbers;
 use scale_info_walk::walk::{Renumbering, RetainError, number_references};
 use std::alloc::{AllocError, Global};
 use std::collections::BTreeMap;
@@ -50,7 +50,7 @@ impl From<AllocError> for PruneError {
 /// the new id of each old one that is kept. No description is made.
 ///
 /// The ids are taken in ascending order, each once; no ids give the empty table. Entries come in
-/// depth-first order of discovery, as [`retain`](scale_info_walk::pruned::retain_types) has them.
+/// depth-first order of discovery, as `retain` of a table has them.
 ///
 /// ```text
 /// prune(alloc, &[4, 0, 0, 0, 5, 0, 0], &[0], &mut out)?  // {0: 0}, and out grew by these bytes

@@ -15,7 +15,7 @@ use Rattle.scale_info_numberings.proofs.Pruned.{keep_all_is_identity, keep_all_t
 use Rattle.scale_info_numberings.proofs.Tables.{one_table}
 use Rattle.scale_info_types.specs.Shapes.{Shape}
 use Rattle.scale_info_types.specs.declared.ty.PortableType.{PortableType}
-use Rattle.scale_info_walk.specs.Pruned.{IsChosen, IsPruned}
+use Rattle.scale_info_tables.specs.Pruned.{IsChosen, IsPruned}
 use Rattle.scale_info_walk.specs.TypeSystems.{entry_of}
 
 -- one number more

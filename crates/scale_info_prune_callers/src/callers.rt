@@ -13,7 +13,7 @@ ghost use Rattle.scale_info_prune.specs.Roots.{AreRoots};
 ghost use Rattle.scale_info_prune.specs.Ty.{EncodesTypes};
 ghost use Rattle.scale_info_types.specs.Shapes.{Shape};
 ghost use Rattle.scale_info_types.specs.declared.ty.PortableType.{PortableType};
-ghost use Rattle.scale_info_walk.specs.Pruned.{IsChosen, IsRetainError};
+ghost use Rattle.scale_info_tables.specs.Pruned.{IsChosen, IsRetainError};
 ghost use Rattle.scale_info_walk.specs.TypeSystems.{entry_of, types_system};
 
 use scale_info::laws::shape_and_references;

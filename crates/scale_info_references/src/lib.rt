@@ -1,7 +1,6 @@
-//! References of descriptions: gathered in order, and renumbered in place.
+//! References of descriptions: gathered in order.
 #![tactic(auto)]
 
 pub mod closed;
 pub mod laws;
 pub mod references;
-pub mod renumbering;

@@ -10,15 +10,15 @@ ghost use Rattle.scale_info_tables.specs.ClosedTables.{IsClosed};
 ghost use Rattle.scale_info_tables.specs.Entries.{indexed_from};
 ghost use Rattle.scale_info_tables.specs.TableEncoding.{EncodesRegistry};
 ghost use Rattle.scale_info_tables.specs.TableEncodingLaws.{registry_law};
-ghost use Rattle.scale_info_walk.specs.Pruned.{IsChosen, IsPruned, IsRetainError};
+ghost use Rattle.scale_info_tables.specs.Pruned.{IsChosen, IsPruned, IsRetainError};
 
+use crate::pruned::retain_types;
 use scale_info_codec::{DecodeError, EncodeError, Scale};
 use scale_info_collections::items::Items;
 use scale_info_collections::try_clone::TryClone;
 use scale_info_references::closed::Descriptions;
 use scale_info_types::form::PortableForm;
 use scale_info_types::ty::{PortableType, Type};
-use scale_info_walk::pruned::retain_types;
 use std::alloc::{AllocError, Global};
 use std::collections::BTreeMap;
 

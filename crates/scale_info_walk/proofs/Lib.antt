@@ -1,2 +1,3 @@
 pub mod Visiting
 pub mod KeptEntries
+pub mod NumberMaps

@@ -1,4 +1,3 @@
 pub mod Kept
-pub mod Pruned
 pub mod TypeSystems
 pub mod Walks

@@ -2,7 +2,7 @@
 #![tactic(auto)]
 
 pub mod laws;
-pub mod pruned;
+pub mod numbers;
 pub mod references;
 pub mod refs;
 pub mod walk;

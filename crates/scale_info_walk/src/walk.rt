@@ -135,7 +135,7 @@ pub fn number_recursive(
 /// Numbers what the roots reach, as [`number`] does, and returns the new number of each index too.
 ///
 /// Errors: as those of [`number`].
-pub(crate) fn number_entries(
+pub fn number_entries(
     alloc: Global,
     types: &[PortableType],
     roots: &[u32],

@@ -6,12 +6,12 @@ use Rattle.std.proofs.lemmas.List.{append_cancel_left}
 use Rattle.std.specs.Char.{digit_value}
 use Rattle.std.specs.Fmt.{decimal}
 use Rattle.std.specs.Str.Parse.{AllDigits}
-use Rattle.type_table_run.specs.Commands.{HasCommand}
-use Rattle.type_table_run.specs.declared.error.RunError.{RunError}
-use Rattle.type_table_run.specs.declared.error.RunError.TheVariants.{Malformed, TrailingBytes, NoSuchType, Dangling, Memory, Input, Output}
-use Rattle.type_table_run.specs.Lines.{HasSmallId, line_of, usage_line}
+use Rattle.type_table_io.specs.Commands.{HasCommand}
+use Rattle.type_table_io.specs.declared.error.RunError.{RunError}
+use Rattle.type_table_io.specs.declared.error.RunError.TheVariants.{Malformed, TrailingBytes, NoSuchType, Dangling, Memory, Input, Output}
+use Rattle.type_table_io.specs.Lines.{HasSmallId, line_of, usage_line}
 use Rattle.type_table_run.specs.Refusals.{Explains, Refuses}
-use Rattle.type_table_run.specs.Reports.{AppendsPrefix, Reported}
+use Rattle.type_table_io.specs.Reports.{AppendsPrefix, Reported}
 
 -- an error without its id
 abbrev kind_of : RunError → RunError

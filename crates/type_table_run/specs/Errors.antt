@@ -3,9 +3,9 @@ use Rattle.scale_info_bytes.specs.declared.error.DecodeError.TheVariants as deco
 use Rattle.scale_info_prune.specs.declared.prune.PruneError.{PruneError}
 use Rattle.scale_info_prune.specs.declared.prune.PruneError.TheVariants as prune
 use Rattle.scale_info_walk.specs.declared.walk.RetainError.TheVariants as retain
-use Rattle.type_table_run.specs.declared.error.RunError.{RunError}
-use Rattle.type_table_run.specs.declared.error.RunError.TheVariants.{Malformed, TrailingBytes}
-use Rattle.type_table_run.specs.declared.error.RunError.TheVariants.{NoSuchType, Dangling, Memory}
+use Rattle.type_table_io.specs.declared.error.RunError.{RunError}
+use Rattle.type_table_io.specs.declared.error.RunError.TheVariants.{Malformed, TrailingBytes}
+use Rattle.type_table_io.specs.declared.error.RunError.TheVariants.{NoSuchType, Dangling, Memory}
 
 -- the error of the program for one of pruning
 abbrev pub error_of : PruneError → RunError

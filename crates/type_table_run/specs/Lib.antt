@@ -1,12 +1,12 @@
-pub mod Ids
-pub mod Commands
 pub mod Errors
-pub mod Lines
 pub mod Tables
-pub mod Reports
 pub mod Outputs
 pub mod Refusals
 pub use Rattle.scale_info_grammar.specs.Ty
 pub use Rattle.scale_info_json_trees.specs.Entries
 pub use Rattle.scale_info_prune.specs.Prunes
 pub use Rattle.scale_info_prune.specs.TableIndexes
+pub use Rattle.type_table_io.specs.Commands
+pub use Rattle.type_table_io.specs.Ids
+pub use Rattle.type_table_io.specs.Lines
+pub use Rattle.type_table_io.specs.Reports

@@ -6,15 +6,15 @@ use Rattle.scale_info_bytes.specs.Encodings.{HasNoPrefix}
 use Rattle.scale_info_grammar.specs.Ty.{EncodesTypes}
 use Rattle.scale_info_prune.specs.Prunes.{HasDangling, HasNoSuchType}
 use Rattle.scale_info_prune.specs.TableIndexes.{HasTrailing}
-use Rattle.type_table_run.specs.Commands.{given_ids}
-use Rattle.type_table_run.specs.declared.command.Command.{Command}
-use Rattle.type_table_run.specs.declared.error.RunError.{RunError}
-use Rattle.type_table_run.specs.declared.error.RunError.TheVariants.{Malformed, TrailingBytes}
-use Rattle.type_table_run.specs.declared.error.RunError.TheVariants.{NoSuchType, Dangling}
-use Rattle.type_table_run.specs.declared.error.RunError.TheVariants.{Memory, Input, Output}
-use Rattle.type_table_run.specs.Lines.{HasSmallId, line_of}
+use Rattle.type_table_io.specs.Commands.{given_ids}
+use Rattle.type_table_io.specs.declared.command.Command.{Command}
+use Rattle.type_table_io.specs.declared.error.RunError.{RunError}
+use Rattle.type_table_io.specs.declared.error.RunError.TheVariants.{Malformed, TrailingBytes}
+use Rattle.type_table_io.specs.declared.error.RunError.TheVariants.{NoSuchType, Dangling}
+use Rattle.type_table_io.specs.declared.error.RunError.TheVariants.{Memory, Input, Output}
+use Rattle.type_table_io.specs.Lines.{HasSmallId, line_of}
 use Rattle.type_table_run.specs.Outputs.{WritesPrefix}
-use Rattle.type_table_run.specs.Reports.{AppendsPrefix}
+use Rattle.type_table_io.specs.Reports.{AppendsPrefix}
 
 -- why there is no output for the input, where these ids are given
 abbrev pub IsCommandError : List ℕ → List ℕ → RunError → Type 0

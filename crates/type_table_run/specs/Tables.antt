@@ -4,10 +4,10 @@ use Rattle.scale_info_bytes.specs.Encodings.{HasNoPrefix}
 use Rattle.scale_info_grammar.specs.Ty.{EncodesTypes}
 use Rattle.scale_info_prune.specs.TableIndexes.{HasTrailing}
 use Rattle.scale_info_types.specs.declared.ty.PortableType.{PortableType}
-use Rattle.type_table_run.specs.declared.error.RunError.{RunError}
-use Rattle.type_table_run.specs.declared.error.RunError.TheVariants.{Malformed, TrailingBytes}
-use Rattle.type_table_run.specs.declared.error.RunError.TheVariants.{NoSuchType, Dangling}
-use Rattle.type_table_run.specs.declared.error.RunError.TheVariants.{Memory, Input, Output}
+use Rattle.type_table_io.specs.declared.error.RunError.{RunError}
+use Rattle.type_table_io.specs.declared.error.RunError.TheVariants.{Malformed, TrailingBytes}
+use Rattle.type_table_io.specs.declared.error.RunError.TheVariants.{NoSuchType, Dangling}
+use Rattle.type_table_io.specs.declared.error.RunError.TheVariants.{Memory, Input, Output}
 
 -- the input encodes one table, with nothing after it
 pub record IsOneTable (input : List ℕ) : Type 0 where

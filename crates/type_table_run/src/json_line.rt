@@ -5,10 +5,10 @@ ghost use Rattle.scale_info_grammar.specs.Ty.{EncodesTypes};
 ghost use Rattle.type_table_run.specs.Outputs.{BeginsWithJson, IsJsonOf};
 ghost use Rattle.type_table_run.specs.Tables.{IsCheckError};
 
-use crate::error::RunError;
 use scale_info_bytes::error::DecodeError;
 use scale_info_transcode::append_json_of;
 use std::alloc::Global;
+use type_table_io::error::RunError;
 
 /// The JSON text of the table that the input begins with, and a line feed; and the rest.
 fn json_line_of(alloc: Global, input: &[u8]) -> Result<(Vec<u8>, &[u8]), DecodeError>

@@ -1,21 +1,13 @@
 //! The program `type_table` over any reader and any writers.
 #![tactic(auto)]
 
-mod command;
-mod error;
-mod id;
 mod json_line;
-mod message;
 mod output;
 mod program;
-mod reading;
-mod report;
-mod reporter;
 mod table;
-mod writing;
 
-pub use error::RunError;
-pub use message::Message;
 pub use program::{run, run_and_keep, run_with};
-pub use report::report_message;
-pub use reporter::{Kept, Reporter};
+pub use type_table_io::error::RunError;
+pub use type_table_io::message::Message;
+pub use type_table_io::report::report_message;
+pub use type_table_io::reporter::{Kept, Reporter};

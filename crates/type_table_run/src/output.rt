@@ -1,18 +1,38 @@
 //! What a command writes for its input.
-ghost use Rattle.std.specs.Prelude.{All, IfOk, IfErr, map};
-ghost use Rattle.type_table_run.specs.Commands.{HasIdTexts, given_ids};
-ghost use Rattle.type_table_run.specs.Ids.{IsIdText, id_in};
+ghost use Rattle.std.specs.Prelude.{◌≡◌, All, IfOk, IfErr, map};
+ghost use Rattle.type_table_io.specs.Commands.{HasIdTexts, given_ids};
+ghost use Rattle.type_table_io.specs.Ids.{IsIdText, id_in};
+ghost use Rattle.type_table_run.specs.Errors.{error_of};
 ghost use Rattle.type_table_run.specs.Outputs.{IsPrunedTo, Outputs};
 ghost use Rattle.type_table_run.specs.Refusals.{IsCommandError};
 
-use crate::command::Command;
-use crate::error::RunError;
-use crate::id::ids_of;
 use crate::json_line::json_of;
 use crate::table::check_table;
+use scale_info_bytes::error::DecodeError;
 use scale_info_collections::text::Text;
-use scale_info_prune::prune::append_pruned;
+use scale_info_prune::prune::{PruneError, append_pruned};
+use scale_info_walk::walk::RetainError;
 use std::alloc::Global;
+use type_table_io::command::Command;
+use type_table_io::error::RunError;
+use type_table_io::id::ids_of;
+
+/// The program's error for one of pruning. Those that `append_pruned` says never come are as that
+/// of an allocation.
+fn command_error(error: PruneError) -> RunError
+    ensures { result ≡ error_of error }
+{
+    match error {
+        PruneError::Decode(DecodeError::Malformed) => RunError::Malformed,
+        PruneError::Trailing => RunError::TrailingBytes,
+        PruneError::NoSuchType(id) => RunError::NoSuchType(id),
+        PruneError::Retain(RetainError::Dangling { id }) => RunError::Dangling(id),
+        PruneError::Decode(DecodeError::Memory)
+        | PruneError::Retain(RetainError::TooManyTypes | RetainError::Memory)
+        | PruneError::Encode(_)
+        | PruneError::Memory => RunError::Memory,
+    }
+}
 
 /// The table of what the ids reach, of the table that the input is.
 ///
@@ -24,8 +44,10 @@ fn pruned(alloc: Global, input: &[u8], ids: &[Text]) -> Result<Vec<u8>, RunError
 {
     let ids = ids_of(alloc, ids).map_err(|_| RunError::Memory)?;
     let mut output = Vec::new(alloc);
-    append_pruned(alloc, input, &ids, &mut output)?;
-    Ok(output)
+    match append_pruned(alloc, input, &ids, &mut output) {
+        Ok(()) => Ok(output),
+        Err(error) => Err(command_error(error)),
+    }
 }
 
 /// The whole output of a command for its whole input.

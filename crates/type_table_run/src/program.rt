@@ -5,27 +5,27 @@ ghost use Rattle.scale_info_bytes.specs.Encodings.{HasNoPrefix};
 ghost use Rattle.scale_info_grammar.specs.Ty.{EncodesTypes};
 ghost use Rattle.scale_info_prune.specs.Prunes.{HasDangling, HasNoSuchType};
 ghost use Rattle.scale_info_prune.specs.TableIndexes.{HasTrailing};
-ghost use Rattle.type_table_run.specs.Commands.{HasCommand, HasIdTexts, IsCommand, given_ids};
-ghost use Rattle.type_table_run.specs.Lines.{kept_line, usage_line};
-ghost use Rattle.type_table_run.specs.Lines.{malformed_line, trailing_bytes_line};
-ghost use Rattle.type_table_run.specs.Lines.{no_such_type_line, dangling_line};
-ghost use Rattle.type_table_run.specs.Lines.{out_of_memory_line, input_failed_line};
-ghost use Rattle.type_table_run.specs.Lines.{output_failed_line};
+ghost use Rattle.type_table_io.specs.Commands.{HasCommand, HasIdTexts, IsCommand, given_ids};
+ghost use Rattle.type_table_io.specs.Lines.{kept_line, usage_line};
+ghost use Rattle.type_table_io.specs.Lines.{malformed_line, trailing_bytes_line};
+ghost use Rattle.type_table_io.specs.Lines.{no_such_type_line, dangling_line};
+ghost use Rattle.type_table_io.specs.Lines.{out_of_memory_line, input_failed_line};
+ghost use Rattle.type_table_io.specs.Lines.{output_failed_line};
 ghost use Rattle.type_table_run.specs.Outputs.{Writes, WritesPrefix};
 ghost use Rattle.type_table_run.specs.Refusals.{Explains, Refuses, RefusesBy};
-ghost use Rattle.type_table_run.specs.Reports.{AppendsPrefix, Reported};
+ghost use Rattle.type_table_io.specs.Reports.{AppendsPrefix, Reported};
 
-use crate::command::{Command, command_of};
-use crate::error::RunError;
-use crate::message::Message;
 use crate::output::output_of;
-use crate::reading::read_to_end;
-use crate::report::ErrorWriter;
-use crate::reporter::{Kept, Reporter};
-use crate::writing::write_all;
 use scale_info_collections::text::Text;
 use std::alloc::Global;
 use std::io::{Read, Write};
+use type_table_io::command::{Command, command_of};
+use type_table_io::error::RunError;
+use type_table_io::message::Message;
+use type_table_io::reading::read_to_end;
+use type_table_io::report::ErrorWriter;
+use type_table_io::reporter::{Kept, Reporter};
+use type_table_io::writing::write_all;
 
 /// Reads the input whole, and writes what the command writes for it.
 ///

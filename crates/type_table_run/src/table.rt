@@ -2,10 +2,10 @@
 ghost use Rattle.std.specs.Prelude.{IfErr, OnOk};
 ghost use Rattle.type_table_run.specs.Tables.{IsOneTable, IsCheckError};
 
-use crate::error::RunError;
 use scale_info_collections::items::Items;
 use scale_info_passes::visitors::skip;
 use scale_info_types::ty::PortableType;
+use type_table_io::error::RunError;
 
 /// Finds that the input is one table, with nothing after it. Does not allocate.
 ///

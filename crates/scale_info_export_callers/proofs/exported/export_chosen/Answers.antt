@@ -7,7 +7,7 @@ use Rattle.scale_info_discovery.specs.Discoveries.{roots_of}
 use Rattle.scale_info_identities.specs.TypeIds.{Term}
 use Rattle.scale_info_numberings.proofs.Extensions.{one_numbering}
 use Rattle.scale_info_numberings.specs.Tables.{ArePlaces, IsTable}
-use Rattle.scale_info_walk.specs.Pruned.{IsChosen}
+use Rattle.scale_info_tables.specs.Pruned.{IsChosen}
 use Rattle.scale_info_walk.specs.TypeSystems.{entry_of}
 use Rattle.scale_info_export_callers.proofs.exported.export_chosen.Goals as goal
 

@@ -1,7 +1,7 @@
 use Rattle.std.proofs.Common.{refl, sym, subst}
 use Rattle.type_table_run.specs.Outputs.{Outputs}
 use Rattle.type_table_run.specs.Tables.{IsOneTable}
-use Rattle.type_table_run.specs.declared.command.Command.{Command}
+use Rattle.type_table_io.specs.declared.command.Command.{Command}
 use Rattle.type_table_run.proofs.output.output_of.Goals as goal
 
 pub returns-in_ok-check_table-in-Check-clause-ok : goal.returns-in_ok-check_table-in-Check-clause-ok

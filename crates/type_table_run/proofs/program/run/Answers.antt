@@ -1,5 +1,5 @@
 use Rattle.std.proofs.Common.{rules}
-use Rattle.type_table_run.specs.declared.error.RunError.TheVariants.{Malformed, TrailingBytes, NoSuchType, Dangling, Memory, Input, Output}
+use Rattle.type_table_io.specs.declared.error.RunError.TheVariants.{Malformed, TrailingBytes, NoSuchType, Dangling, Memory, Input, Output}
 use Rattle.type_table_run.proofs.Reports.{explained}
 use Rattle.type_table_run.proofs.program.run.Goals as goal
 

@@ -1,5 +1,0 @@
-use Rattle.scale_info_walk.proofs.KeptEntries.{HasNumbers}
-use Rattle.scale_info_walk.proofs.pruned.map_of_numbers.Given as goal
-
-abbrev pub invariant-loop-old : goal.invariant-loop-old
-invariant-loop-old l = HasNumbers l.numbers l.old l.new_ids

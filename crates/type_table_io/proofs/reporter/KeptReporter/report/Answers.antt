@@ -1,0 +1,5 @@
+use Rattle.std.proofs.Common.{rules}
+use Rattle.type_table_io.proofs.reporter.KeptReporter.report.Goals as goal
+
+pub returns : goal.returns
+returns c = search rules

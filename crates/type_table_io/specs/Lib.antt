@@ -1,0 +1,4 @@
+pub mod Ids
+pub mod Commands
+pub mod Lines
+pub mod Reports

@@ -1,5 +1,0 @@
-use Rattle.std.proofs.Common.{rules}
-use Rattle.type_table_run.proofs.report.ErrorWriterReporter.report.Goals as goal
-
-pub returns : goal.returns
-returns g c = search rules

@@ -1,5 +1,0 @@
-use Rattle.std.proofs.Common.{rules}
-use Rattle.type_table_run.proofs.reporter.KeptReporter.report.Goals as goal
-
-pub returns : goal.returns
-returns c = search rules
