@@ -2,8 +2,7 @@
 
 pub mod examples;
 
-pub use scale_info_catalogue::laws::equal_catalogue_errors;
-pub use scale_info_discovery::laws::equal_register_errors;
+pub use scale_info_catalogue::laws::{equal_catalogue_errors, equal_register_errors};
 pub use scale_info_export::laws::{
     equal_export_errors, equal_exported, headline, registered_tables,
 };

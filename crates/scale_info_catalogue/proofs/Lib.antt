@@ -1,1 +1,5 @@
 pub mod Catalogues
+mod CatalogueWeights
+pub mod Discovered
+mod NumberCaches
+pub mod Terms

@@ -24,9 +24,9 @@ use Rattle.scale_info_walk.specs.TypeSystems.{entry_of, types_system}
 use Rattle.scale_info_bytes.specs.Encodings.{HasNoEncoding, IfTooLong}
 use Rattle.scale_info_bytes.specs.declared.error.EncodeError.{EncodeError}
 use Rattle.scale_info_bytes.specs.declared.error.EncodeError.TheVariants as encode
-use Rattle.scale_info_discovery.specs.Discoveries.{IsCause}
-use Rattle.scale_info_discovery.specs.declared.discovery.RegisterError.{RegisterError}
-use Rattle.scale_info_discovery.specs.declared.discovery.RegisterError.TheVariants as register
+use Rattle.scale_info_catalogue.specs.Discoveries.{IsCause}
+use Rattle.scale_info_catalogue.specs.declared.discovery.RegisterError.{RegisterError}
+use Rattle.scale_info_catalogue.specs.declared.discovery.RegisterError.TheVariants as register
 use Rattle.scale_info_tables.specs.TableEncoding.{EncodesRegistry}
 use Rattle.scale_info_export.specs.Exports.{IsExportError, IsExported, IsNotRegistered, IsRegisteredTable}
 use Rattle.scale_info_export.specs.Exports.{of_encode, of_register, of_retain}

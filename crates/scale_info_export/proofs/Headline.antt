@@ -15,7 +15,7 @@ use Rattle.scale_info_numberings.proofs.Pruned.{pruned_reading, pruned_numbering
 use Rattle.scale_info_numberings.proofs.Tables.{one_table}
 use Rattle.scale_info_numberings.proofs.Zip.{zip_weaker}
 use Rattle.scale_info_registry.specs.Registrations.{AreSteps, IsRegistration, Registered, Step}
-use Rattle.scale_info_discovery.specs.Discoveries.{nodes_of}
+use Rattle.scale_info_catalogue.specs.Discoveries.{nodes_of}
 use Rattle.scale_info_registry.specs.Registrations.{
   last_step,
   portable_entry,

@@ -9,10 +9,10 @@ use Rattle.scale_info_identities.specs.TypeIds.{Term}
 use Rattle.scale_info_numberings.specs.Numberings.{IsNumbering}
 use Rattle.scale_info_numberings.specs.Systems.{System}
 use Rattle.scale_info_numberings.specs.Tables.{ArePlaces, IsTable}
-use Rattle.scale_info_discovery.specs.Discoveries as discoveries
-use Rattle.scale_info_discovery.specs.Discoveries.{IsCause}
-use Rattle.scale_info_discovery.specs.declared.discovery.RegisterError.{RegisterError}
-use Rattle.scale_info_discovery.specs.declared.discovery.RegisterError.TheVariants as register
+use Rattle.scale_info_catalogue.specs.Discoveries as discoveries
+use Rattle.scale_info_catalogue.specs.Discoveries.{IsCause}
+use Rattle.scale_info_catalogue.specs.declared.discovery.RegisterError.{RegisterError}
+use Rattle.scale_info_catalogue.specs.declared.discovery.RegisterError.TheVariants as register
 use Rattle.scale_info_tables.specs.TableEncoding.{EncodesRegistry}
 use Rattle.scale_info_tables.specs.declared.portable.PortableRegistry.{PortableRegistry}
 use Rattle.scale_info_types.specs.Shapes.{Shape}

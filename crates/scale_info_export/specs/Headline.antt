@@ -7,7 +7,7 @@ use Rattle.scale_info_identities.specs.TypeIds.{Term}
 use Rattle.scale_info_numberings.specs.Systems.{System}
 use Rattle.scale_info_numberings.specs.Tables.{ArePlaces}
 use Rattle.scale_info_registry.specs.Registrations.{AreSteps, IsRegistration, Registered, Step}
-use Rattle.scale_info_discovery.specs.Discoveries.{nodes_of}
+use Rattle.scale_info_catalogue.specs.Discoveries.{nodes_of}
 use Rattle.scale_info_registry.specs.Registrations.{last_step, registered}
 use Rattle.scale_info_tables.specs.BuiltTables.{numbered_from}
 use Rattle.scale_info_tables.specs.TableEncoding.{EncodesRegistry}

@@ -5,10 +5,10 @@ ghost use Rattle.scale_info_export.specs.Exports.{IsExportError, IsExported, IsN
 ghost use Rattle.scale_info_export.specs.Exports.{IsRegisteredTable, of_encode, of_register};
 ghost use Rattle.scale_info_export.specs.Exports.{of_retain};
 ghost use Rattle.scale_info_export.specs.declared.export.ExportError.TheVariants as export_error;
-ghost use Rattle.scale_info_discovery.specs.CatalogueSystems.{catalogue_system};
+ghost use Rattle.scale_info_catalogue.specs.CatalogueSystems.{catalogue_system};
 ghost use Rattle.scale_info_identities.specs.declared.symbol.UntrackedSymbol as tracked;
 ghost use Rattle.scale_info_identities.specs.declared.type_id.TypeId.{TypeId};
-ghost use Rattle.scale_info_discovery.specs.Discoveries.{roots_of};
+ghost use Rattle.scale_info_catalogue.specs.Discoveries.{roots_of};
 ghost use Rattle.scale_info_tables.specs.TableEncoding.{EncodesRegistry};
 ghost use Rattle.scale_info_tables.specs.declared.portable.PortableRegistry as tables;
 

@@ -1,7 +1,7 @@
 //! Values that are decoded by a table.
 use scale_info::PortableRegistry;
 use scale_info::value::{Dyn, ValueError, decode_value};
-use scale_info_value_callers::print::print_decoded;
+use example_callers::print::print_decoded;
 use std::alloc::Global;
 use std::test::Fail;
 use type_refusals_common::answers::{Answer, done, failed};

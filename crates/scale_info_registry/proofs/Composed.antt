@@ -24,15 +24,15 @@ use Rattle.scale_info_numberings.proofs.Reached.{extension_holds}
 use Rattle.scale_info_numberings.proofs.Zip.{zip_weaker}
 use Rattle.scale_info_numberings.proofs.Places.{at_left, begins_at, begins_from, contains_at}
 use Rattle.scale_info_numberings.proofs.PlacesOf.{places_in_more}
-use Rattle.scale_info_discovery.specs.declared.discovery.RegisterError.{RegisterError}
-use Rattle.scale_info_discovery.specs.declared.discovery.RegisterError.TheVariants.{Undescribed, Full, Memory}
+use Rattle.scale_info_catalogue.specs.declared.discovery.RegisterError.{RegisterError}
+use Rattle.scale_info_catalogue.specs.declared.discovery.RegisterError.TheVariants.{Undescribed, Full, Memory}
 use Rattle.scale_info_references.specs.Conversions.{ids_in}
-use Rattle.scale_info_discovery.specs.Discoveries.{nodes_of, roots_of}
+use Rattle.scale_info_catalogue.specs.Discoveries.{nodes_of, roots_of}
 use Rattle.scale_info_registry.specs.Registrations.{portable_entry, Registered, registered}
-use Rattle.scale_info_discovery.specs.Discoveries.{IsCause}
+use Rattle.scale_info_catalogue.specs.Discoveries.{IsCause}
 use Rattle.scale_info_registry.specs.Registrations.{IsRegistration, IsConverted}
 use Rattle.scale_info_types.specs.MetaDescriptions.{type_term}
-use Rattle.scale_info_discovery.proofs.Terms.{length_nodes}
+use Rattle.scale_info_catalogue.proofs.Terms.{length_nodes}
 use Rattle.scale_info_interner.specs.Interned as interned
 use Rattle.scale_info_identities.specs.contracts.type_id.TypeIdPartialEq.TheImpl.{ghosts as equals}
 use Rattle.scale_info_registry.proofs.Registered.{registers_known, registers_nothing}

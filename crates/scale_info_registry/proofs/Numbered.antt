@@ -11,7 +11,7 @@ use Rattle.scale_info_identities.specs.TypeIds.{term_of}
 use Rattle.scale_info_identities.specs.TypeIdLaws.{same_type_ids}
 use Rattle.scale_info_interner.specs.Interned as interned
 use Rattle.scale_info_registry.specs.Registrations.{index_in}
-use Rattle.scale_info_discovery.proofs.Terms.{at_node, known_by_term}
+use Rattle.scale_info_catalogue.proofs.Terms.{at_node, known_by_term}
 
 -- by cases on the first identity
 indexed :

@@ -28,14 +28,14 @@ use Rattle.scale_info_numberings.proofs.Walking.{walk_members}
 use Rattle.scale_info_catalogue.specs.declared.catalogue.Catalogue.{Catalogue}
 use Rattle.scale_info_types.specs.MetaDescriptions.{MetaDescription, type_term}
 use Rattle.scale_info_catalogue.specs.Catalogues.{described}
-use Rattle.scale_info_discovery.specs.CatalogueSystems.{catalogue_entry, catalogue_system}
-use Rattle.scale_info_discovery.specs.Discoveries.{nodes_of, roots_of}
+use Rattle.scale_info_catalogue.specs.CatalogueSystems.{catalogue_entry, catalogue_system}
+use Rattle.scale_info_catalogue.specs.Discoveries.{nodes_of, roots_of}
 use Rattle.scale_info_registry.specs.Registrations.{index_in, Registered}
 use Rattle.scale_info_registry.specs.Registrations.{registered, IsClosedRegistry, IsRegistration, AreDescribed, Keeps}
 use Rattle.scale_info_references.specs.Conversions.{ids_in, with_ids}
 use Rattle.scale_info_registry.proofs.Numbered.{index_is}
 use Rattle.scale_info_references.proofs.Replaced.{shape_stays, ids_replaced}
-use Rattle.scale_info_discovery.proofs.Terms.{at_node, distinct_nodes, from_node, known, known_by_term, length_nodes}
+use Rattle.scale_info_catalogue.proofs.Terms.{at_node, distinct_nodes, from_node, known, known_by_term, length_nodes}
 
 some_inside : {A B : Type 0} (f : A → B) (o : Option A) (b : B) → option_map f o ≡ Some b → (a : A) × (o ≡ Some a)
 some_inside f None b e = absurd (none-some b e)

@@ -7,7 +7,7 @@ use Rattle.scale_info_numberings.specs.Systems.{Grows}
 use Rattle.scale_info_catalogue.specs.Catalogues.{AreSame, HasOneMore, described}
 use Rattle.scale_info_types.specs.MetaDescriptions.{MetaDescription}
 use Rattle.scale_info_catalogue.specs.declared.catalogue.Catalogue.{Catalogue}
-use Rattle.scale_info_discovery.specs.CatalogueSystems.{catalogue_entry, catalogue_system}
+use Rattle.scale_info_catalogue.specs.CatalogueSystems.{catalogue_entry, catalogue_system}
 use Rattle.scale_info_registry.specs.Registrations.{AreSteps, IsRegistration, Registered, Step}
 use Rattle.scale_info_registry.specs.Registrations.{last_step, step_roots}
 use Rattle.scale_info_registry.proofs.Composed.{registrations_compose_grown}

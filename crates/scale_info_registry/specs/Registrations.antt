@@ -16,7 +16,7 @@ use Rattle.scale_info_types.specs.declared.meta_type.MetaType.{MetaType}
 use Rattle.scale_info_catalogue.specs.Catalogues.{described}
 use Rattle.scale_info_types.specs.MetaDescriptions.{MetaDescription}
 use Rattle.scale_info_catalogue.specs.declared.catalogue.Catalogue.{Catalogue}
-use Rattle.scale_info_discovery.specs.Discoveries.{nodes_of}
+use Rattle.scale_info_catalogue.specs.Discoveries.{nodes_of}
 
 -- the index of the first identity that equals this one; the number of identities, if none does
 abbrev pub index_in : (TypeId → TypeId → Bool) → List TypeId → TypeId → ℕ

@@ -8,8 +8,8 @@ ghost use Rattle.scale_info_catalogue.specs.Catalogues.{AreSame, HasOneMore};
 ghost use Rattle.scale_info_types.specs.MetaDescriptions.{MetaDescription};
 ghost use Rattle.scale_info_types.specs.Shapes.{Shape};
 ghost use Rattle.scale_info_catalogue.specs.declared.catalogue.Catalogue.{Catalogue};
-ghost use Rattle.scale_info_discovery.specs.CatalogueSystems.{catalogue_system};
-ghost use Rattle.scale_info_discovery.specs.Discoveries.{nodes_of};
+ghost use Rattle.scale_info_catalogue.specs.CatalogueSystems.{catalogue_system};
+ghost use Rattle.scale_info_catalogue.specs.Discoveries.{nodes_of};
 ghost use Rattle.scale_info_registry.specs.Registrations.{
   AreSteps,
   IsRegistration,

@@ -32,11 +32,11 @@ ghost use Rattle.scale_info_numberings.specs.Tables.{ArePlaces};
 ghost use Rattle.scale_info_types.specs.Iterators.{GivesAll};
 ghost use Rattle.scale_info_types.specs.Portable as portable;
 ghost use Rattle.scale_info_types.specs.declared.meta_type.MetaType.{MetaType};
-ghost use Rattle.scale_info_discovery.specs.CatalogueSystems.{catalogue_system};
+ghost use Rattle.scale_info_catalogue.specs.CatalogueSystems.{catalogue_system};
 ghost use Rattle.scale_info_catalogue.specs.Catalogues.{described};
 ghost use Rattle.scale_info_types.specs.MetaDescriptions.{MetaDescription, type_term};
-ghost use Rattle.scale_info_discovery.specs.Discoveries.{nodes_of, roots_of, stacked};
-ghost use Rattle.scale_info_discovery.specs.Discoveries.{AreFound, IsCause};
+ghost use Rattle.scale_info_catalogue.specs.Discoveries.{nodes_of, roots_of, stacked};
+ghost use Rattle.scale_info_catalogue.specs.Discoveries.{AreFound, IsCause};
 ghost use Rattle.scale_info_catalogue.specs.declared.catalogue.Catalogue.{Catalogue};
 ghost use Rattle.scale_info_registry.specs.Registrations.{
   Registered,
@@ -49,14 +49,14 @@ ghost use Rattle.scale_info_registry.specs.Registrations.{
   IsConverted,
   index_in,
 };
-ghost use Rattle.scale_info_discovery.specs.declared.discovery.RegisterError.TheVariants.{
+ghost use Rattle.scale_info_catalogue.specs.declared.discovery.RegisterError.TheVariants.{
   Memory,
 };
 
 use conversion::{HasTypes, Identities, alone};
 use scale_info_catalogue::catalogue::Catalogue;
-use scale_info_discovery::discovery::{discover, number_of, stack_up};
-use scale_info_discovery::number_cache::NumberCache;
+use scale_info_catalogue::discovery::{discover, number_of, stack_up};
+use scale_info_catalogue::number_cache::NumberCache;
 use scale_info_identities::symbol::UntrackedSymbol;
 use scale_info_identities::type_id::TypeId;
 use scale_info_interner::interner::Interner;
@@ -75,7 +75,7 @@ mod registry_types;
 
 pub use into_portable::IntoPortable;
 pub use registry_types::RegistryTypes;
-pub use scale_info_discovery::discovery::RegisterError;
+pub use scale_info_catalogue::discovery::RegisterError;
 
 /// A table of descriptions in the making: each type of the program that was registered has an id
 /// and a portable description.

@@ -1,12 +1,12 @@
 -- What the program's types are described as.
 use Rattle.std.specs.Prelude.{ℕ, List, [], ◌∷◌, Option, Some, codes}
-use Rattle.scale_info_identities.specs.TypeIds.{Term}
-use Rattle.scale_info_types.specs.MetaDescriptions.{MetaContent}
-use Rattle.scale_info_type_ids.specs.StandardTerms.{named, primitive_term, slice_term}
-use Rattle.scale_info_types.specs.declared.ty.TypeDef.{TypeDef}
-use Rattle.scale_info_types.specs.declared.ty.TypeDef.TheVariants as def
-use Rattle.scale_info_types.specs.declared.ty.fields.Field.{Field}
-use Rattle.scale_info_types.specs.declared.ty.variant.Variant.{Variant}
+use Rattle.scale_info.specs.TypeIds.{Term}
+use Rattle.scale_info.specs.MetaDescriptions.{MetaContent}
+use Rattle.scale_info.specs.StandardTerms.{named, primitive_term, slice_term}
+use Rattle.scale_info.specs.Types.{TypeDef}
+use Rattle.scale_info.specs.TypeDefs as def
+use Rattle.scale_info.specs.Types.{Field}
+use Rattle.scale_info.specs.Types.{Variant}
 
 -- the term of the program's type `Point`
 abbrev pub point_term : Term

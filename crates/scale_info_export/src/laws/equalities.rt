@@ -5,7 +5,7 @@ ghost use Rattle.scale_info_export.specs.declared.export.ExportError as export_e
 ghost use Rattle.scale_info_export.specs.declared.export.Exported as exporteds;
 
 use crate::export::{ExportError, Exported};
-use scale_info_discovery::laws::equal_register_errors;
+use scale_info_catalogue::laws::equal_register_errors;
 
 /// What is returned is equal exactly where the ids are, in order, and the maps have the same
 /// entries.

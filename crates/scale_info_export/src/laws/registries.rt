@@ -3,7 +3,7 @@ ghost use Rattle.scale_info_identities.specs.TypeIds.{Term};
 ghost use Rattle.scale_info_numberings.specs.Numberings.{IsNumbering};
 ghost use Rattle.scale_info_numberings.specs.Systems.{System};
 ghost use Rattle.scale_info_numberings.specs.Tables.{IsTable};
-ghost use Rattle.scale_info_discovery.specs.Discoveries.{nodes_of};
+ghost use Rattle.scale_info_catalogue.specs.Discoveries.{nodes_of};
 ghost use Rattle.scale_info_registry.specs.Registrations.{IsRegistration, Registered, registered};
 ghost use Rattle.scale_info_types.specs.Shapes.{Shape};
 ghost use Rattle.scale_info_walk.specs.TypeSystems.{entry_of};

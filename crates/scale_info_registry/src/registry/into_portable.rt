@@ -30,9 +30,9 @@ ghost use Rattle.scale_info_registry.specs.Parts.{
   variant_types,
   variant_with_ids,
 };
-ghost use Rattle.scale_info_discovery.specs.CatalogueSystems.{catalogue_system};
+ghost use Rattle.scale_info_catalogue.specs.CatalogueSystems.{catalogue_system};
 ghost use Rattle.scale_info_types.specs.MetaDescriptions.{type_term};
-ghost use Rattle.scale_info_discovery.specs.Discoveries.{nodes_of, IsCause, roots_of};
+ghost use Rattle.scale_info_catalogue.specs.Discoveries.{nodes_of, IsCause, roots_of};
 ghost use Rattle.scale_info_registry.specs.Registrations.{
   Registered,
   IsRegistration,
@@ -46,7 +46,7 @@ use super::Registry;
 use super::conversion::TypePair;
 use scale_info_catalogue::catalogue::Catalogue;
 use scale_info_collections::text::Text;
-use scale_info_discovery::discovery::RegisterError;
+use scale_info_catalogue::discovery::RegisterError;
 use scale_info_identities::symbol::UntrackedSymbol;
 use scale_info_identities::type_id::TypeId;
 use scale_info_types::form::PortableForm;

@@ -1,6 +1,6 @@
 use Rattle.std.proofs.lemmas.Result.{err_from_is_err_and}
-use Rattle.scale_info_discovery.specs.CatalogueSystems.{catalogue_system}
-use Rattle.scale_info_discovery.specs.Discoveries.{roots_of}
+use Rattle.scale_info_catalogue.specs.CatalogueSystems.{catalogue_system}
+use Rattle.scale_info_catalogue.specs.Discoveries.{roots_of}
 use Rattle.scale_info_export.proofs.Exported.{encode_error, exported, retain_error}
 use Rattle.scale_info_export.proofs.export.export.Goals as goal
 

@@ -2,8 +2,8 @@ use Rattle.std.proofs.Common.{◌≡◌, ◌∙◌, [], inr, ℕ, ap, sym, subst
 use Rattle.std.proofs.lemmas.Result.{err_from_is_err_and}
 use Rattle.scale_info_types.specs.Portable.{Id}
 use Rattle.scale_info_numberings.specs.Tables.{ArePlaces}
-use Rattle.scale_info_discovery.specs.CatalogueSystems.{catalogue_system}
-use Rattle.scale_info_discovery.specs.Discoveries.{IsCause, nodes_of, roots_of}
+use Rattle.scale_info_catalogue.specs.CatalogueSystems.{catalogue_system}
+use Rattle.scale_info_catalogue.specs.Discoveries.{IsCause, nodes_of, roots_of}
 use Rattle.scale_info_registry.specs.Registrations.{IsRegistration, registered}
 use Rattle.scale_info_export.proofs.Exported.{register_error}
 use Rattle.scale_info_export.proofs.export.registered_table.Goals as goal

@@ -3,7 +3,7 @@ use Rattle.std.specs.Vec.Iter.{into_iter_items}
 use Rattle.scale_info_types.specs.Portable as portable
 use Rattle.scale_info_types.specs.MetaDescriptions.{MetaDescription}
 use Rattle.scale_info_catalogue.specs.declared.catalogue.Catalogue.{Catalogue}
-use Rattle.scale_info_discovery.specs.Discoveries.{AreFound}
+use Rattle.scale_info_catalogue.specs.Discoveries.{AreFound}
 use Rattle.scale_info_registry.specs.Registrations.{AreDescribed}
 use Rattle.scale_info_registry.proofs.registry.describe.Given as goal
 

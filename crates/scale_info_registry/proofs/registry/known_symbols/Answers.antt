@@ -5,8 +5,8 @@ use Rattle.scale_info_identities.specs.TypeIds.{term_of}
 use Rattle.scale_info_numberings.specs.Tables.{ArePlaces}
 use Rattle.scale_info_types.specs.MetaDescriptions.{type_term}
 use Rattle.scale_info_types.specs.Portable.{Id}
-use Rattle.scale_info_discovery.proofs.Terms.{known_by_term}
-use Rattle.scale_info_discovery.specs.Discoveries.{nodes_of, roots_of}
+use Rattle.scale_info_catalogue.proofs.Terms.{known_by_term}
+use Rattle.scale_info_catalogue.specs.Discoveries.{nodes_of, roots_of}
 use Rattle.scale_info_registry.proofs.Composed.{zip_push}
 use Rattle.scale_info_registry.proofs.registry.known_symbols.Goals as goal
 

@@ -3,7 +3,7 @@ use Rattle.std.proofs.Math.Seq.{drop-append_seam}
 use Rattle.std.proofs.lemmas.List.{length-append}
 use Rattle.scale_info_identities.specs.TypeIds.{term_of}
 use Rattle.scale_info_catalogue.specs.Catalogues.{described}
-use Rattle.scale_info_discovery.specs.Discoveries.{stacked, AreFound}
+use Rattle.scale_info_catalogue.specs.Discoveries.{stacked, AreFound}
 use Rattle.scale_info_registry.proofs.Registered.{is_registration, paired_length}
 use Rattle.scale_info_registry.proofs.registry.register_in.Goals as goal
 

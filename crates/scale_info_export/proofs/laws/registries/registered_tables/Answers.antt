@@ -1,6 +1,6 @@
 use Rattle.std.proofs.Common.{ap, map, length, sym, ◌∙◌, subst}
 use Rattle.scale_info_numberings.specs.Tables.{IsTable}
-use Rattle.scale_info_discovery.specs.Discoveries.{nodes_of}
+use Rattle.scale_info_catalogue.specs.Discoveries.{nodes_of}
 use Rattle.scale_info_walk.specs.TypeSystems.{entry_of}
 use Rattle.scale_info_tables.proofs.Interned.{length_numbered}
 use Rattle.scale_info_export.proofs.NumberedEntries.{numbered_entries}

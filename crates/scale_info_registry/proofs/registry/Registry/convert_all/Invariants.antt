@@ -1,6 +1,6 @@
 use Rattle.std.proofs.Common.{flat_map}
 use Rattle.std.specs.List.{AllZip}
-use Rattle.scale_info_discovery.specs.CatalogueSystems.{catalogue_system}
+use Rattle.scale_info_catalogue.specs.CatalogueSystems.{catalogue_system}
 use Rattle.scale_info_registry.specs.Registrations.{IsRegistration, IsConverted}
 use Rattle.scale_info_registry.proofs.registry.Registry.convert_all.Given as goal
 

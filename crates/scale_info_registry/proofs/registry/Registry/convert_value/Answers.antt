@@ -2,11 +2,11 @@ use Rattle.std.proofs.Common.{rules, refl, subst, sym, map, ℕ}
 use Rattle.std.proofs.lemmas.Result.{err_from_is_err_and}
 use Rattle.scale_info_numberings.specs.Tables.{ArePlaces}
 use Rattle.scale_info_identities.specs.contracts.type_id.TypeIdPartialEq.TheImpl.{ghosts as equals}
-use Rattle.scale_info_discovery.specs.CatalogueSystems.{catalogue_system}
-use Rattle.scale_info_discovery.specs.Discoveries.{nodes_of, roots_of, stacked, IsCause}
+use Rattle.scale_info_catalogue.specs.CatalogueSystems.{catalogue_system}
+use Rattle.scale_info_catalogue.specs.Discoveries.{nodes_of, roots_of, stacked, IsCause}
 use Rattle.scale_info_registry.specs.Registrations.{index_in, registered, IsRegistration}
 use Rattle.scale_info_types.specs.declared.meta_type.MetaType.{MetaType}
-use Rattle.scale_info_discovery.proofs.Discovered.{stacked_alone}
+use Rattle.scale_info_catalogue.proofs.Discovered.{stacked_alone}
 use Rattle.scale_info_registry.proofs.Registered.{cut_kept, cut_same, keeps, keeps_itself, root_indices}
 use Rattle.scale_info_registry.proofs.registry.Registry.convert_value.Goals as goal
 

@@ -1,6 +1,6 @@
 use Rattle.std.proofs.Common.{rules, IfErr, subst, ◌∙◌}
-use Rattle.scale_info_discovery.specs.CatalogueSystems.{catalogue_system}
-use Rattle.scale_info_discovery.specs.Discoveries.{nodes_of, stacked, IsCause}
+use Rattle.scale_info_catalogue.specs.CatalogueSystems.{catalogue_system}
+use Rattle.scale_info_catalogue.specs.Discoveries.{nodes_of, stacked, IsCause}
 use Rattle.scale_info_registry.specs.Registrations.{registered}
 use Rattle.scale_info_registry.proofs.Registered.{cut_closed, cut_parts, on_err, stays_closed}
 use Rattle.scale_info_registry.proofs.registry.Registry.register.Goals as goal

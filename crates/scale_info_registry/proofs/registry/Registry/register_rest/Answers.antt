@@ -2,10 +2,10 @@ use Rattle.std.proofs.Common.{rules, subst, sym, map}
 use Rattle.std.proofs.lemmas.Result.{err_from_is_err_and}
 use Rattle.scale_info_numberings.specs.Tables.{ArePlaces}
 use Rattle.scale_info_identities.specs.contracts.type_id.TypeIdPartialEq.TheImpl.{ghosts as equals}
-use Rattle.scale_info_discovery.specs.CatalogueSystems.{catalogue_system}
-use Rattle.scale_info_discovery.specs.Discoveries.{nodes_of, roots_of, stacked, IsCause}
+use Rattle.scale_info_catalogue.specs.CatalogueSystems.{catalogue_system}
+use Rattle.scale_info_catalogue.specs.Discoveries.{nodes_of, roots_of, stacked, IsCause}
 use Rattle.scale_info_registry.specs.Registrations.{index_in, registered, IsRegistration}
-use Rattle.scale_info_discovery.proofs.Discovered.{stacked_alone}
+use Rattle.scale_info_catalogue.proofs.Discovered.{stacked_alone}
 use Rattle.scale_info_registry.proofs.Registered.{cut_kept, cut_same, keeps, keeps_itself, root_indices}
 use Rattle.scale_info_registry.proofs.registry.Registry.register_rest.Goals as goal
 

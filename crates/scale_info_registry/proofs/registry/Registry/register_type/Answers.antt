@@ -3,10 +3,10 @@ use Rattle.std.proofs.lemmas.Bool.{false≢true}
 use Rattle.std.proofs.lemmas.Result.{err_from_is_err_and}
 use Rattle.scale_info_identities.specs.TypeIds.{term_of}
 use Rattle.scale_info_identities.specs.contracts.type_id.TypeIdPartialEq.TheImpl.{ghosts as equals}
-use Rattle.scale_info_discovery.specs.CatalogueSystems.{catalogue_system}
-use Rattle.scale_info_discovery.specs.Discoveries.{nodes_of, IsCause}
+use Rattle.scale_info_catalogue.specs.CatalogueSystems.{catalogue_system}
+use Rattle.scale_info_catalogue.specs.Discoveries.{nodes_of, IsCause}
 use Rattle.scale_info_registry.specs.Registrations.{registered, IsRegistration, index_in}
-use Rattle.scale_info_discovery.proofs.Terms.{known, known_by_term}
+use Rattle.scale_info_catalogue.proofs.Terms.{known, known_by_term}
 use Rattle.scale_info_registry.proofs.Registered.{registers_known, unknown, root_index}
 use Rattle.scale_info_registry.proofs.registry.Registry.register_type.Goals as goal
 

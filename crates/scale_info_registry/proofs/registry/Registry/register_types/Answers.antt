@@ -3,8 +3,8 @@ use Rattle.std.proofs.lemmas.Result.{IfErr-weaker, IfOk-weaker}
 use Rattle.scale_info_numberings.specs.Tables.{ArePlaces}
 use Rattle.scale_info_types.proofs.Iterators.{gives_all}
 use Rattle.scale_info_types.specs.Portable.{Id}
-use Rattle.scale_info_discovery.specs.CatalogueSystems.{catalogue_system}
-use Rattle.scale_info_discovery.specs.Discoveries.{IsCause, nodes_of, roots_of}
+use Rattle.scale_info_catalogue.specs.CatalogueSystems.{catalogue_system}
+use Rattle.scale_info_catalogue.specs.Discoveries.{IsCause, nodes_of, roots_of}
 use Rattle.scale_info_registry.specs.Registrations.{IsRegistration}
 use Rattle.scale_info_registry.proofs.registry.Registry.register_types.Goals as goal
 

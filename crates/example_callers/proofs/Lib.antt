@@ -1,0 +1,2 @@
+mod KeepAll
+mod Resolved

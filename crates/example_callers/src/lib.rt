@@ -1,0 +1,16 @@
+//! What programs write that use `scale_info`, proved from the contracts of its calls alone:
+//! `docs/CALLING.md` shows it.
+#![tactic(auto)]
+
+pub mod build;
+pub mod call;
+pub mod exported;
+pub mod facts;
+pub mod inspect;
+pub mod lists;
+pub mod print;
+pub mod pruned;
+pub mod pruning;
+pub mod reading;
+pub mod register;
+pub mod written;

@@ -1,0 +1,8 @@
+-- The types that clauses see.
+pub use Rattle.scale_info_types.specs.declared.ty.Description.{Description}
+pub use Rattle.scale_info_types.specs.declared.ty.TypeDef.{TypeDef}
+pub use Rattle.scale_info_types.specs.declared.ty.TypeDefSequence.{TypeDefSequence}
+pub use Rattle.scale_info_types.specs.declared.ty.PortableType.{PortableType}
+pub use Rattle.scale_info_types.specs.declared.ty.fields.Field.{Field}
+pub use Rattle.scale_info_types.specs.declared.ty.variant.Variant.{Variant}
+pub use Rattle.scale_info_tables.specs.declared.portable.PortableRegistry.{PortableRegistry}

@@ -1,0 +1,190 @@
+//! The new identities of a registration, numbered in depth-first order by a list of work.
+ghost use Rattle.std.specs.Option.{option_copied};
+ghost use Rattle.std.specs.Prelude.{◌≡◌, ◌++◌, ◌∷◌, [], List, OnErr, OnOk, IfErr, IfOk, IfSome};
+ghost use Rattle.std.specs.Prelude.{◌↔◌, IsSome};
+ghost use Rattle.std.specs.Prelude.{reverse};
+ghost use Rattle.scale_info_interner.specs.Interned.{IsIndexOf, IsKnown};
+ghost use Rattle.scale_info_identities.specs.declared.type_id.TypeId.{TypeId};
+ghost use Rattle.scale_info_numberings.specs.Extensions.{IsExtension};
+ghost use Rattle.scale_info_catalogue.specs.CatalogueSystems.{catalogue_system};
+ghost use Rattle.scale_info_catalogue.specs.Discoveries.{nodes_of, stacked, AreFound};
+ghost use Rattle.scale_info_catalogue.specs.Discoveries.{IsCause, IsNumbered, IsNumberError};
+ghost use Rattle.scale_info_catalogue.specs.declared.discovery.RegisterError.TheVariants.{Memory};
+
+use crate::catalogue::Catalogue;
+use crate::number_cache::NumberCache;
+use scale_info_collections::try_clone::TryClone;
+use scale_info_identities::type_id::TypeId;
+use scale_info_interner::interner::{InternError, Interner};
+use scale_info_references::references::references_of;
+use scale_info_types::meta_type::MetaType;
+use scale_info_types::ty::Type;
+use std::alloc::{AllocError, AllocFailed, Global};
+use thiserror::Error;
+
+/// Why a registration failed. It is displayed as the name of the variant alone.
+#[derive(Debug, Drop, PartialEq, Eq, Error)]
+pub enum RegisterError {
+    /// The type with this identity is reached, is new, and has no description in the catalogue.
+    #[error("Undescribed")]
+    Undescribed(TypeId),
+    /// There would be more than 4294967295 identities.
+    #[error("Full")]
+    Full,
+    /// An allocation failed.
+    #[error("Memory")]
+    Memory,
+}
+
+impl From<AllocError> for RegisterError {
+    ghost from_gives = { λ _ e. e ≡ Memory };
+
+    fn from(_e: AllocError) -> RegisterError {
+        RegisterError::Memory
+    }
+}
+
+impl<T: Drop> From<AllocFailed<T>> for RegisterError {
+    ghost from_gives = { λ _ e. e ≡ Memory };
+
+    fn from(_e: AllocFailed<T>) -> RegisterError {
+        RegisterError::Memory
+    }
+}
+
+/// Moves the types found onto the stack, so that the first of them comes on top.
+///
+/// Errors: `Memory`, if an allocation failed.
+pub fn stack_up<'a>(
+    mut found: Vec<&'a MetaType>,
+    mut pending: Vec<&'a MetaType>,
+) -> Result<Vec<&'a MetaType>, RegisterError>
+    ensures ok { IfOk result
+        (λ all. reverse all.items ≡ found.entry.items ++ reverse pending.entry.items) }
+    ensures err { IfErr result (λ e. e ≡ Memory) }
+{
+    while let Some(last) = found.pop() {
+        pending.push(last)?;
+    }
+    Ok(pending)
+}
+
+/// Numbers the pending types, the last first, and all that is reached from them, as far as it is
+/// new, and returns the descriptions of what is new, in the order of the numbers. Each number is an
+/// index in the list of identities.
+///
+/// The cache saves searches, and gets the numbers that it does not have.
+///
+/// Errors: `Undescribed`, if a type that is new is reached and has no description in the
+/// catalogue; `Full`, if there would be more than 4294967295 identities; `Memory`, if an allocation
+/// failed. On an Err some of what is new may have its number.
+pub fn discover<'a>(
+    alloc: Global,
+    identities: &mut Interner<TypeId>,
+    cache: &mut NumberCache,
+    mut pending: Vec<&'a MetaType>,
+    catalogue: &'a Catalogue,
+) -> Result<Vec<&'a Type>, RegisterError>
+    ensures kept { (more : List TypeId) × (identities.new ≡ identities.old ++ more) }
+    ensures ok { OnOk result (IsExtension (catalogue_system catalogue.now) (nodes_of identities.old)
+        (stacked pending.entry.items) (nodes_of identities.new)) }
+    ensures found { IfOk result (λ found. (more : List TypeId)
+        × (identities.new ≡ identities.old ++ more) × AreFound catalogue.now more found.items) }
+    ensures err { IfErr result (IsCause (catalogue_system catalogue.now) (nodes_of identities.old)
+        (stacked pending.entry.items)) }
+{
+    let _distinct = identities.elements();
+    let mut found = none_of(alloc, catalogue);
+    while let Some(next) = pending.pop() {
+        let new = number_cached(alloc, identities, cache, next.type_id(), catalogue)?;
+        if let Some(described) = new {
+            found = with_one(found, described)?;
+            pending = stack_up(references_of(alloc, described)?, pending)?;
+        }
+    }
+    Ok(found)
+}
+
+/// The number of an identity; None if it has none. It is not searched where the cache has it. Does
+/// not allocate.
+pub fn number_of(identities: &Interner<TypeId>, cache: &NumberCache, id: &TypeId) -> Option<u32>
+    ensures found { IfSome result
+        (IsIndexOf ⟦<TypeId as PartialEq>⟧.eq identities.now id.now) }
+    ensures known { IsSome result
+        ↔ IsKnown ⟦<TypeId as PartialEq>⟧.eq identities.now id.now }
+{
+    match cache.known(identities, id) {
+        Some(number) => Some(number),
+        None => Some(identities.get(id)?.into_untracked().id),
+    }
+}
+
+/// No description of a catalogue.
+fn none_of<'a>(alloc: Global, _catalogue: &'a Catalogue) -> Vec<&'a Type>
+    ensures { result.items ≡ [] }
+{
+    Vec::new(alloc)
+}
+
+/// The list with one more description at its end.
+///
+/// Errors: `Memory`, if an allocation failed.
+fn with_one<'a>(mut list: Vec<&'a Type>, one: &'a Type) -> Result<Vec<&'a Type>, RegisterError>
+    ensures ok { IfOk result (λ all. all.items ≡ list.entry.items ++ one.entry ∷ []) }
+    ensures err { IfErr result (λ e. e ≡ Memory) }
+{
+    list.push(one)?;
+    Ok(list)
+}
+
+/// The description of an identity that is new, which gets the next number; None if it has one. It
+/// is not searched where the cache has its number.
+///
+/// Errors: as those of [`discover`], for this identity. On an Err no number was given.
+fn number_cached<'a>(
+    alloc: Global,
+    identities: &mut Interner<TypeId>,
+    cache: &mut NumberCache,
+    id: &TypeId,
+    catalogue: &'a Catalogue,
+) -> Result<Option<&'a Type>, RegisterError>
+    ensures ok { IfOk result (λ found.
+        IsNumbered catalogue.now identities.old id.now (option_copied found) identities.new) }
+    ensures err { OnErr result (identities.new ≡ identities.old) }
+    ensures cause { IfErr result (IsNumberError catalogue.now identities.old id.now) }
+{
+    let hash = cache.hash(id);
+    if cache.known_by(identities, id, hash).is_some() {
+        return Ok(None);
+    }
+    let (number, new) = number_new(alloc, identities, id, catalogue)?;
+    cache.put(alloc, identities, id, hash, number);
+    Ok(new)
+}
+
+/// The same by a search, and also its number.
+fn number_new<'a>(
+    alloc: Global,
+    identities: &mut Interner<TypeId>,
+    id: &TypeId,
+    catalogue: &'a Catalogue,
+) -> Result<(u32, Option<&'a Type>), RegisterError>
+    ensures ok { IfOk result (λ found.
+        IsNumbered catalogue.now identities.old id.now (option_copied found.1) identities.new) }
+    ensures index { IfOk result (λ found.
+        IsIndexOf ⟦<TypeId as PartialEq>⟧.eq identities.new id.now found.0) }
+    ensures err { OnErr result (identities.new ≡ identities.old) }
+    ensures cause { IfErr result (IsNumberError catalogue.now identities.old id.now) }
+{
+    if let Some(symbol) = identities.get(id) {
+        return Ok((symbol.into_untracked().id, None));
+    }
+    let Some(described) = catalogue.get(id) else {
+        return Err(RegisterError::Undescribed(id.try_clone(alloc)?));
+    };
+    match identities.intern_or_get(id.try_clone(alloc)?) {
+        Ok((_, symbol)) => Ok((symbol.id, Some(described))),
+        Err(InternError::Full) => Err(RegisterError::Full),
+        Err(InternError::Memory) => Err(RegisterError::Memory),
+    }
+}

@@ -1,4 +1,0 @@
-mod CatalogueWeights
-pub mod Discovered
-mod NumberCaches
-pub mod Terms

@@ -1,3 +1,0 @@
-pub mod CatalogueSystems
-pub mod Discoveries
-pub mod NumberCaches
