@@ -1,0 +1,112 @@
+//! Paths, whose texts stand between brackets in rows.
+use scale_info::meta_type::Catalogue;
+use scale_info::{IntoPortable, Path, PathError, Registry};
+use std::alloc::{AllocError, Global};
+use std::test::Fail;
+use test_common::parts;
+use test_memory_common::answers::{Answer, digits, done, encoded, failed, shown};
+use test_memory_common::marks::{begin, end};
+use test_memory_common::outcomes::Outcome;
+use test_memory_common::texts::{all_of_program, bracketed};
+
+/// The encoding of a path's portable form, and that form as it is displayed.
+fn portable(alloc: Global, path: Path) -> Result<String, AllocError> {
+    let mut registry = Registry::new(alloc);
+    match path.into_portable(alloc, &mut registry, &Catalogue::new(alloc)) {
+        Ok(path) => {
+            let digits = digits(alloc, &path)?;
+            format!(in alloc; "{digits} {path}")
+        }
+        Err(error) => format!(in alloc; "{error:?}"),
+    }
+}
+
+/// What a path returns: its segments, its modules, its name, and whether it is empty.
+fn parts_of(alloc: Global, path: &Path) -> Result<String, AllocError> {
+    let name = path.ident(alloc)?;
+    let (segments, modules, is_empty) = (path.segments(), path.namespace(), path.is_empty());
+    format!(in alloc; "{segments:?} {modules:?} {name:?} {is_empty}")
+}
+
+/// What a path returns, and its portable form.
+fn text_of(alloc: Global, path: Path) -> Result<String, AllocError> {
+    let parts = parts_of(alloc, &path)?;
+    let portable = portable(alloc, path)?;
+    format!(in alloc; "{parts} {portable}")
+}
+
+/// The answer of a path.
+fn answer(alloc: Global, returned: Result<Path, PathError>) -> Result<Answer, AllocError> {
+    match returned {
+        Ok(path) => done(text_of(alloc, path)),
+        Err(error) => failed(alloc, &error),
+    }
+}
+
+/// Makes the path of a module and a name.
+pub fn new(rt: &HostRuntime, row: &str) -> Result<Outcome, Fail> {
+    let texts = all_of_program(rt.alloc(), row)?;
+    let [module_path, ident] = texts.as_slice() else {
+        return Err(Fail::new("a row has a module and a name"));
+    };
+    begin(rt);
+    let returned = Path::new(rt.alloc(), *ident, *module_path);
+    end(rt);
+    Outcome::of(answer(rt.alloc(), returned))
+}
+
+/// Pairs of texts in order.
+fn pairs(
+    alloc: Global,
+    texts: &[&'static str],
+) -> Result<Vec<(&'static str, &'static str)>, AllocError> {
+    let mut pairs = Vec::new(alloc);
+    for pair in texts.chunks(2) {
+        if let [segment, other] = pair {
+            pairs.push((*segment, *other))?;
+        }
+    }
+    Ok(pairs)
+}
+
+/// Makes the path of a module and a name, with segments replaced by the pairs after them.
+pub fn new_with_replace(rt: &HostRuntime, row: &str) -> Result<Outcome, Fail> {
+    let texts = all_of_program(rt.alloc(), row)?;
+    let [module_path, ident, rest @ ..] = texts.as_slice() else {
+        return Err(Fail::new("a row has a module and a name"));
+    };
+    let pairs = pairs(rt.alloc(), rest)?;
+    begin(rt);
+    let returned = Path::new_with_replace(rt.alloc(), *ident, *module_path, pairs.as_slice());
+    end(rt);
+    Outcome::of(answer(rt.alloc(), returned))
+}
+
+/// Makes a path of segments, each of which must be an identifier.
+pub fn from_segments(rt: &HostRuntime, row: &str) -> Result<Outcome, Fail> {
+    let segments = all_of_program(rt.alloc(), row)?;
+    begin(rt);
+    let returned = Path::from_segments(rt.alloc(), segments);
+    end(rt);
+    Outcome::of(answer(rt.alloc(), returned))
+}
+
+/// Makes a path of segments that are not looked at.
+pub fn from_segments_unchecked(rt: &HostRuntime, row: &str) -> Result<Outcome, Fail> {
+    let segments = bracketed(rt.alloc(), row)?;
+    let texts = parts::texts(rt.alloc(), segments.as_slice())?;
+    begin(rt);
+    let returned = Path::from_segments_unchecked(rt.alloc(), texts);
+    end(rt);
+    Outcome::of(encoded(rt.alloc(), returned))
+}
+
+/// Asks a portable path for its last segment.
+pub fn ident(rt: &HostRuntime, row: &str) -> Result<Outcome, Fail> {
+    let segments = bracketed(rt.alloc(), row)?;
+    let path = parts::path(rt.alloc(), segments.as_slice())?;
+    begin(rt);
+    let returned = path.ident(rt.alloc());
+    end(rt);
+    Outcome::of(shown(rt.alloc(), returned))
+}

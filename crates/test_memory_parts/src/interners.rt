@@ -1,0 +1,162 @@
+//! Interners of texts, which rows give between brackets.
+use crate::asked::{Asked, ask};
+use scale_info::interner::{InternError, Interner, UntrackedSymbol};
+use scale_info::{Text, TryClone};
+use std::alloc::{AllocError, Global};
+use std::test::Fail;
+use test_common::parts::text;
+use test_common::rows::parted;
+use test_memory_common::answers::{printed, shown};
+use test_memory_common::marks::{begin, end};
+use test_memory_common::outcomes::Outcome;
+use test_memory_common::texts::bracketed;
+
+/// Four texts.
+const FOUR: &str = "[Hello] [, World!] [] [1 2 3]";
+
+/// Interns texts in order, and appends of each whether it is new, and its number.
+fn intern_all(alloc: Global, texts: &mut Interner<Text>, row: &str) -> Result<String, InternError> {
+    let mut numbers = String::new(alloc);
+    for chars in bracketed(alloc, row)? {
+        let (is_new, symbol) = texts.intern_or_get(text(alloc, chars)?)?;
+        let number = symbol.id();
+        numbers.push_str(format!(in alloc; "{is_new} {number} ")?.as_str())?;
+    }
+    Ok(numbers)
+}
+
+/// The interner of these texts.
+fn interner(alloc: Global, row: &str) -> Result<Interner<Text>, InternError> {
+    let mut texts = Interner::new(alloc);
+    intern_all(alloc, &mut texts, row)?;
+    Ok(texts)
+}
+
+/// The elements of an interner.
+fn state(alloc: Global, texts: &Interner<Text>) -> Result<String, AllocError> {
+    let elements = texts.elements();
+    format!(in alloc; "{elements:?}")
+}
+
+/// Whether the element is new, and its number.
+fn numbered(
+    returned: Result<(bool, UntrackedSymbol<Text>), InternError>,
+) -> Result<(bool, u32), InternError> {
+    match returned {
+        Ok((is_new, symbol)) => Ok((is_new, symbol.id())),
+        Err(error) => Err(error),
+    }
+}
+
+/// Interns a text after four.
+pub fn intern_or_get(rt: &HostRuntime, chars: &str) -> Result<Outcome, Fail> {
+    let mut texts = interner(rt.alloc(), FOUR)?;
+    let value = text(rt.alloc(), chars)?;
+    let before = state(rt.alloc(), &texts);
+    begin(rt);
+    let returned = texts.intern_or_get(value);
+    end(rt);
+    let after = state(rt.alloc(), &texts);
+    Outcome::lending(before, after, shown(rt.alloc(), numbered(returned)))
+}
+
+/// Interns texts, each of which is new or has a number.
+pub fn intern(rt: &HostRuntime, row: &str) -> Result<Outcome, Fail> {
+    let mut texts = Interner::new(rt.alloc());
+    begin(rt);
+    let returned = intern_all(rt.alloc(), &mut texts, row);
+    end(rt);
+    Outcome::of(printed(rt.alloc(), returned))
+}
+
+/// An interner with a text to look up, and another interner.
+#[derive(Drop)]
+struct Lookup {
+    texts: Interner<Text>,
+    other: Interner<Text>,
+    value: Text,
+}
+
+impl Lookup {
+    /// What the symbol of the text stands for in the other interner, after its number.
+    fn push_symbol(&self, text: &mut String) -> Result<(), AllocError> {
+        match self.texts.get(&self.value) {
+            Some(symbol) => {
+                let resolved = self.other.resolve(symbol);
+                write!(text, "{resolved:?}")
+            }
+            None => text.push_str("no symbol"),
+        }
+    }
+}
+
+impl Asked for Lookup {
+    fn push_parts(&self, text: &mut String) -> Result<(), AllocError> {
+        let alloc = *text.allocator();
+        if let Some(symbol) = self.texts.get(&self.value) {
+            let copy = symbol.try_clone(alloc)?.into_untracked().id();
+            write!(text, "{copy} ")?;
+        }
+        let (len, same) = (self.texts.elements().len(), self.texts == self.other);
+        self.push_symbol(text)?;
+        write!(text, " {len} {same}")
+    }
+}
+
+/// The look-up of a text among these and then, by its symbol, among others.
+fn lookup_of(alloc: Global, chars: &str, row: &str, other: &str) -> Result<Lookup, Fail> {
+    let value = text(alloc, chars)?;
+    let texts = interner(alloc, row)?;
+    let other = interner(alloc, other)?;
+    Ok(Lookup {
+        texts,
+        other,
+        value,
+    })
+}
+
+/// Looks a text up among four, and what its symbol stands for.
+pub fn look(rt: &HostRuntime, chars: &str) -> Result<Outcome, Fail> {
+    ask(rt, lookup_of(rt.alloc(), chars, FOUR, FOUR))
+}
+
+/// Looks the first text up among all of them, and what its symbol stands for among others, which
+/// come after a slash.
+pub fn compare(rt: &HostRuntime, row: &str) -> Result<Outcome, Fail> {
+    let (chars, lists) = parted(row, ':')?;
+    let (row, other) = parted(lists, '/')?;
+    ask(rt, lookup_of(rt.alloc(), chars, row, other))
+}
+
+/// Whether an interner is the one of these texts.
+fn is_of(alloc: Global, texts: &Interner<Text>, row: &str) -> Result<bool, InternError> {
+    let anew = interner(alloc, row)?;
+    Ok(*texts == anew)
+}
+
+/// What shows an interner that was truncated: whether it is the one of the texts that are left, and
+/// the numbers of those that were there.
+fn truncated(
+    alloc: Global,
+    mut texts: Interner<Text>,
+    left: &str,
+    gone: &str,
+) -> Result<String, InternError> {
+    let same = is_of(alloc, &texts, left)?;
+    let numbers = intern_all(alloc, &mut texts, gone)?;
+    Ok(format!(in alloc; "{same} {numbers}")?)
+}
+
+/// Keeps the texts before a slash, of all.
+pub fn truncate(rt: &HostRuntime, row: &str) -> Result<Outcome, Fail> {
+    let (left, gone) = parted(row, '/')?;
+    let mut texts = interner(rt.alloc(), row)?;
+    let before = state(rt.alloc(), &texts);
+    let len = bracketed(rt.alloc(), left)?.len();
+    begin(rt);
+    texts.truncate(len);
+    end(rt);
+    let after = state(rt.alloc(), &texts);
+    let answer = truncated(rt.alloc(), texts, left, gone);
+    Outcome::lending(before, after, printed(rt.alloc(), answer))
+}

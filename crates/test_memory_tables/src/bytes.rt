@@ -1,0 +1,81 @@
+//! Tables as bytes, and their copies.
+use scale_info::impls::Compact;
+use scale_info::{DecodeError, PortableRegistry, Scale, TryClone};
+use std::alloc::{AllocError, Global};
+use std::test::Fail;
+use test_memory_common::answers::{Answer, digits, done, encoded, failed, shown};
+use test_memory_common::inputs::{bytes_of, output, table_of};
+use test_memory_common::marks::{begin, end};
+use test_memory_common::outcomes::Outcome;
+
+/// Digits, and after a `+` those of the bytes that are left.
+pub fn with_rest(digits: Result<String, AllocError>, rest: &[u8]) -> Result<String, AllocError> {
+    let mut text = digits?;
+    if !rest.is_empty() {
+        let rest = hex::encode(*text.allocator(), rest)?;
+        text.push_str(" + ")?;
+        text.push_str(rest.as_str())?;
+    }
+    Ok(text)
+}
+
+/// The answer of a table that was decoded, and of what is left.
+fn decoded(
+    alloc: Global,
+    returned: Result<(PortableRegistry, &[u8]), DecodeError>,
+) -> Result<Answer, AllocError> {
+    match returned {
+        Ok((table, rest)) => done(with_rest(digits(alloc, &table), rest)),
+        Err(error) => failed(alloc, &error),
+    }
+}
+
+/// Decodes a table.
+pub fn decode(rt: &HostRuntime, row: &str) -> Result<Outcome, Fail> {
+    let bytes = bytes_of(rt.alloc(), row)?;
+    begin(rt);
+    let returned = PortableRegistry::decode(rt.alloc(), &bytes);
+    end(rt);
+    Outcome::of(decoded(rt.alloc(), returned))
+}
+
+/// Decodes a compact number, and encodes it again.
+pub fn decode_compact(rt: &HostRuntime, row: &str) -> Result<Outcome, Fail> {
+    let bytes = bytes_of(rt.alloc(), row)?;
+    begin(rt);
+    let returned = Compact::<u32>::decode_from(rt.alloc(), &bytes);
+    end(rt);
+    let (number, rest) = returned?;
+    let digits = with_rest(digits(rt.alloc(), &number), rest)?;
+    Outcome::of(done(format!(in rt.alloc(); "{} {digits}", number.0)))
+}
+
+/// Encodes a table.
+pub fn encode(rt: &HostRuntime, row: &str) -> Result<Outcome, Fail> {
+    let table = table_of(rt.alloc(), row)?;
+    let mut out = output(rt.alloc())?;
+    let before = hex::encode(rt.alloc(), out.as_slice());
+    begin(rt);
+    let returned = table.encode(&mut out);
+    end(rt);
+    let after = hex::encode(rt.alloc(), out.as_slice());
+    Outcome::lending(before, after, shown(rt.alloc(), returned))
+}
+
+/// Copies a table.
+pub fn try_clone(rt: &HostRuntime, row: &str) -> Result<Outcome, Fail> {
+    let table = table_of(rt.alloc(), row)?;
+    begin(rt);
+    let returned = table.try_clone(rt.alloc());
+    end(rt);
+    Outcome::of(encoded(rt.alloc(), returned))
+}
+
+/// Copies each entry of a table.
+pub fn try_clone_entries(rt: &HostRuntime, row: &str) -> Result<Outcome, Fail> {
+    let table = table_of(rt.alloc(), row)?;
+    begin(rt);
+    let returned = table.types.try_clone(rt.alloc());
+    end(rt);
+    Outcome::of(encoded(rt.alloc(), returned))
+}

@@ -1,0 +1,91 @@
+//! Values that hold types, converted.
+use crate::registrations::into_portable;
+use scale_info::meta_type::{Catalogue, CatalogueError};
+use scale_info::{
+    IntoPortable, Scale, TypeDefArray, TypeDefBitSequence, TypeDefCompact, TypeDefComposite,
+    TypeDefSequence, TypeDefTuple, TypeDefVariant, tuple_meta_type,
+};
+use std::alloc::{AllocError, Global};
+use std::test::Fail;
+use test_common::lists::list_of;
+use test_memory_common::outcomes::Outcome;
+use test_memory_common::types::{
+    catalogue, demo_path, description_named, documented_field, documented_variant, given_parameter,
+    map, type_named,
+};
+
+/// The catalogue by which a value is converted.
+type Known = Result<Catalogue, CatalogueError>;
+
+/// Converts a value of this kind, a part of a description, by a catalogue.
+pub fn part(rt: &HostRuntime, known: Known, kind: &str) -> Result<Outcome, Fail> {
+    let known = known?;
+    part_by(rt, &known, kind)
+}
+
+/// Converts a value of this kind by a catalogue, which is lent.
+fn part_by(rt: &HostRuntime, known: &Catalogue, kind: &str) -> Result<Outcome, Fail> {
+    match kind {
+        "text" => into_portable(rt, known, "a text"),
+        "path" => into_portable(rt, known, demo_path(rt.alloc())?),
+        "field" => into_portable(rt, known, documented_field(rt.alloc())?),
+        "variant" => into_portable(rt, known, documented_variant(rt.alloc())?),
+        "parameter" => into_portable(rt, known, given_parameter(rt.alloc())?),
+        "composite" => into_portable(rt, known, composite(rt.alloc())?),
+        "variants" => into_portable(rt, known, variants(rt.alloc())?),
+        _ => definition_of_types(rt, known, kind),
+    }
+}
+
+/// Converts a definition of this kind, one that holds types alone, by a catalogue.
+fn definition_of_types(rt: &HostRuntime, known: &Catalogue, kind: &str) -> Result<Outcome, Fail> {
+    let alloc = rt.alloc();
+    match kind {
+        "sequence" => into_portable(rt, known, TypeDefSequence::of::<Vec<u32>>(alloc)?),
+        "array" => into_portable(rt, known, TypeDefArray::new(32, type_named(alloc, "u32")?)),
+        "compact" => into_portable(rt, known, TypeDefCompact::new(type_named(alloc, "u32")?)),
+        "tuple" => into_portable(rt, known, tuple(alloc)?),
+        "bit sequence" => into_portable(rt, known, TypeDefBitSequence::new::<u8, u32>(alloc)?),
+        "map" => into_portable(rt, known, map(alloc)?),
+        _ => Err(Fail::new("no kind has this name")),
+    }
+}
+
+/// The definition of a tuple.
+fn tuple(alloc: Global) -> Result<TypeDefTuple, AllocError> {
+    TypeDefTuple::new(alloc, tuple_meta_type!(alloc; u8, Vec<u32>)?)
+}
+
+/// The definition of a composite.
+fn composite(alloc: Global) -> Result<TypeDefComposite, AllocError> {
+    Ok(TypeDefComposite::from(list_of(alloc, documented_field(alloc)?)?))
+}
+
+/// The definition of an enum.
+fn variants(alloc: Global) -> Result<TypeDefVariant, AllocError> {
+    Ok(TypeDefVariant::from(list_of(alloc, documented_variant(alloc)?)?))
+}
+
+/// Converts a value by the catalogue of all types.
+fn described<T: IntoPortable + Drop>(rt: &HostRuntime, value: T) -> Result<Outcome, Fail>
+where
+    T::Output: Scale,
+{
+    let known = catalogue(rt.alloc())?;
+    into_portable(rt, &known, value)
+}
+
+/// Converts the type of this name.
+pub fn meta_type(rt: &HostRuntime, name: &str) -> Result<Outcome, Fail> {
+    described(rt, type_named(rt.alloc(), name)?)
+}
+
+/// Converts the description of this name.
+pub fn description(rt: &HostRuntime, name: &str) -> Result<Outcome, Fail> {
+    described(rt, description_named(rt.alloc(), name)?)
+}
+
+/// Converts the definition of this name.
+pub fn definition(rt: &HostRuntime, name: &str) -> Result<Outcome, Fail> {
+    described(rt, description_named(rt.alloc(), name)?.type_def)
+}

@@ -1,0 +1,83 @@
+//! Tables as JSON.
+use scale_info::{append_json, append_json_of, from_json, to_json};
+use serde_json::Value;
+use std::alloc::Global;
+use std::fmt::Debug;
+use std::test::Fail;
+use test_memory_common::answers::{done, encoded, failed};
+use test_memory_common::inputs::{bytes_of, output, table_of};
+use test_memory_common::marks::{begin, end};
+use test_memory_common::outcomes::Outcome;
+
+/// The tree of a table.
+pub fn tree_of(rt: &HostRuntime, row: &str) -> Result<Outcome, Fail> {
+    let table = table_of(rt.alloc(), row)?;
+    begin(rt);
+    let returned = to_json(rt.alloc(), &table);
+    end(rt);
+    let answer = match returned {
+        Ok(tree) => done(tree.to_string(rt.alloc())),
+        Err(error) => failed(rt.alloc(), &error),
+    };
+    Outcome::of(answer)
+}
+
+/// The tree of a text that comes after the word "text", or else of the table of this name.
+fn tree(alloc: Global, row: &str) -> Result<Value, Fail> {
+    match row.strip_prefix("text ") {
+        Some(text) => Ok(Value::from_str(alloc, text)?),
+        None => Ok(to_json(alloc, &table_of(alloc, row)?)?),
+    }
+}
+
+/// The table of a tree.
+pub fn table_from(rt: &HostRuntime, row: &str) -> Result<Outcome, Fail> {
+    let tree = tree(rt.alloc(), row)?;
+    begin(rt);
+    let returned = from_json(rt.alloc(), &tree);
+    end(rt);
+    Outcome::of(encoded(rt.alloc(), returned))
+}
+
+/// A text that was appended to the byte `aa`, with the byte before it in hexadecimal.
+fn appended(alloc: Global, bytes: &[u8]) -> Result<String, Fail> {
+    let Some((first, text)) = bytes.split_first() else {
+        return Err(Fail::new("the byte before the text is gone"));
+    };
+    let text = str::from_utf8(text)?;
+    let first = hex::encode(alloc, &[*first])?;
+    Ok(format!(in alloc; "{first} {text}")?)
+}
+
+/// The answer of a text that was appended, or of an error.
+fn written<E: Debug + Drop>(alloc: Global, returned: Result<Vec<u8>, E>) -> Result<Outcome, Fail> {
+    let answer = match returned {
+        Ok(bytes) => done(Ok(appended(alloc, &bytes)?)),
+        Err(error) => failed(alloc, &error),
+    };
+    Outcome::of(answer)
+}
+
+/// The text of a table.
+pub fn text_of(rt: &HostRuntime, row: &str) -> Result<Outcome, Fail> {
+    let table = table_of(rt.alloc(), row)?;
+    let out = output(rt.alloc())?;
+    begin(rt);
+    let returned = append_json(&table, out);
+    end(rt);
+    written(rt.alloc(), returned)
+}
+
+/// The text of a table from its bytes.
+pub fn text_of_bytes(rt: &HostRuntime, row: &str) -> Result<Outcome, Fail> {
+    let bytes = bytes_of(rt.alloc(), row)?;
+    let out = output(rt.alloc())?;
+    begin(rt);
+    let returned = append_json_of(rt.alloc(), &bytes, out);
+    end(rt);
+    let text = match returned {
+        Ok((text, _)) => Ok(text),
+        Err(error) => Err(error),
+    };
+    written(rt.alloc(), text)
+}

@@ -1,0 +1,79 @@
+//! Calls over tables that do not allocate.
+use crate::registries::{registry_of, registry_of_u8};
+use scale_info::walk::Refs;
+use std::test::Fail;
+use test_memory_common::answers::done;
+use test_memory_common::inputs::table_of;
+use test_memory_common::marks::{begin, end};
+use test_memory_common::outcomes::Outcome;
+use test_memory_common::types::catalogue;
+
+/// Asks a table for what it has.
+pub fn look(rt: &HostRuntime, row: &str) -> Result<Outcome, Fail> {
+    let table = table_of(rt.alloc(), row)?;
+    begin(rt);
+    let (len, is_empty, is_closed) = (table.len(), table.is_empty(), table.is_closed());
+    let (first, types) = (table.resolve(0).is_some(), table.types().len());
+    let mut entries = 0u32;
+    for _ in table.entries() {
+        entries = entries.saturating_add(1);
+    }
+    end(rt);
+    Outcome::of(done(format!(in rt.alloc();
+        "{len} {is_empty} {is_closed} {first} {entries} {types}"
+    )))
+}
+
+/// Compares a table with an equal one, and with the empty one.
+pub fn compare(rt: &HostRuntime, row: &str) -> Result<Outcome, Fail> {
+    let (left, right) = (table_of(rt.alloc(), row)?, table_of(rt.alloc(), row)?);
+    let empty = table_of(rt.alloc(), "empty")?;
+    begin(rt);
+    let (same, other) = (left == right, left == empty);
+    end(rt);
+    Outcome::of(done(format!(in rt.alloc(); "{same} {other}")))
+}
+
+/// How the first descriptions of two tables compare.
+pub fn order(rt: &HostRuntime, row: &str) -> Result<Outcome, Fail> {
+    let (left, right) = (
+        table_of(rt.alloc(), row)?,
+        table_of(rt.alloc(), "docs of a type, a variant and a field")?,
+    );
+    let (Some(left), Some(right)) = (left.resolve(0), right.resolve(1)) else {
+        return Err(Fail::new("the table is empty"));
+    };
+    begin(rt);
+    let order = left.cmp(right);
+    end(rt);
+    Outcome::of(done(format!(in rt.alloc(); "{order:?}")))
+}
+
+/// The references of the entry at index 0.
+pub fn next_refs(rt: &HostRuntime, row: &str) -> Result<Outcome, Fail> {
+    let table = table_of(rt.alloc(), row)?;
+    let Some(ty) = table.resolve(0) else {
+        return Err(Fail::new("the table is empty"));
+    };
+    let mut refs = Refs::of(rt.alloc(), ty)?;
+    let mut steps = 0;
+    begin(rt);
+    let first = refs.next(&mut steps);
+    end(rt);
+    Outcome::of(done(format!(in rt.alloc(); "{first:?} {steps}")))
+}
+
+/// Goes over the descriptions of a registry, and compares it with another.
+pub fn registry(rt: &HostRuntime, name: &str) -> Result<Outcome, Fail> {
+    let known = catalogue(rt.alloc())?;
+    let registry = registry_of(rt.alloc(), &known, name)?;
+    let other = registry_of_u8(rt.alloc(), &known)?;
+    begin(rt);
+    let same = registry == other;
+    let mut count = 0u32;
+    for _ in registry.types() {
+        count = count.saturating_add(1);
+    }
+    end(rt);
+    Outcome::of(done(format!(in rt.alloc(); "{count} {same}")))
+}

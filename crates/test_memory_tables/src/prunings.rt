@@ -1,0 +1,178 @@
+//! Walks over tables, and what is kept of them.
+use scale_info::walk::{Numbering, Refs, number, number_recursive};
+use scale_info::{PortableRegistry, RetainError, append_pruned, prune};
+use std::alloc::{AllocError, Global};
+use std::test::Fail;
+use test_common::rows::{numbers, parted};
+use test_memory_common::answers::{digits, done, failed, shown};
+use test_memory_common::inputs::{bytes_of, is_malformed, output, table_of};
+use test_memory_common::marks::{begin, end};
+use test_memory_common::outcomes::Outcome;
+
+/// Calls of `prune` that are refused: a row is a name, a colon, the ids, a semicolon and the name
+/// of the bytes.
+const REFUSED: &str = "\
+a byte after the table: 0; a table and a byte
+no such type: 0 7 9; Vec<u32>
+a dangling id: 1; reference outside the table
+";
+
+/// The name of bytes, and the ids that they are pruned to: those before a colon, those of the row
+/// of this name, or 0 for bytes that begin with no table, or else every second index of the table
+/// of this name.
+fn given<'a>(alloc: Global, row: &'a str) -> Result<(&'a str, Vec<u32>), Fail> {
+    if let Some((ids, name)) = row.split_once(':') {
+        return Ok((name.trim(), numbers(alloc, ids)?));
+    }
+    if is_malformed(row) {
+        return Ok((row, numbers(alloc, "0")?));
+    }
+    for line in REFUSED.lines() {
+        let (name, rest) = parted(line, ':')?;
+        if name == row {
+            let (ids, bytes) = parted(rest, ';')?;
+            return Ok((bytes.trim(), numbers(alloc, ids)?));
+        }
+    }
+    Ok((row, chosen(alloc, &table_of(alloc, row)?)?))
+}
+
+/// Every second index of a table.
+fn chosen(alloc: Global, table: &PortableRegistry) -> Result<Vec<u32>, Fail> {
+    let mut ids = Vec::new(alloc);
+    for (id, _) in table.entries() {
+        if id % 2 == 0 {
+            ids.push(id)?;
+        }
+    }
+    Ok(ids)
+}
+
+/// Keeps what the given ids reach. The filter answers by how often it was asked, so that it chooses
+/// these ids only where it is asked once for each id from 0 up.
+pub fn retain(rt: &HostRuntime, row: &str) -> Result<Outcome, Fail> {
+    let (name, ids) = given(rt.alloc(), row)?;
+    let mut table = table_of(rt.alloc(), name)?;
+    let before = digits(rt.alloc(), &table);
+    let mut asked = 0u32;
+    let noted = &mut asked;
+    begin(rt);
+    let returned = table.retain(rt.alloc(), move |_| {
+        let id = *noted;
+        *noted = id.saturating_add(1);
+        ids.contains(&id)
+    });
+    end(rt);
+    let after = digits(rt.alloc(), &table);
+    let outcome = Outcome::lending(before, after, shown(rt.alloc(), returned));
+    Outcome::asking(outcome, asked as usize)
+}
+
+/// Appends the table of what the given ids reach, with the new ids.
+pub fn prune_bytes(rt: &HostRuntime, row: &str) -> Result<Outcome, Fail> {
+    let (name, ids) = given(rt.alloc(), row)?;
+    let bytes = bytes_of(rt.alloc(), name)?;
+    let mut out = output(rt.alloc())?;
+    let before = hex::encode(rt.alloc(), out.as_slice());
+    begin(rt);
+    let returned = prune(rt.alloc(), &bytes, &ids, &mut out);
+    end(rt);
+    let after = hex::encode(rt.alloc(), out.as_slice());
+    Outcome::lending(before, after, shown(rt.alloc(), returned))
+}
+
+/// Appends the table of what the given ids reach.
+pub fn append_pruned_bytes(rt: &HostRuntime, row: &str) -> Result<Outcome, Fail> {
+    let (name, ids) = given(rt.alloc(), row)?;
+    let bytes = bytes_of(rt.alloc(), name)?;
+    let mut out = output(rt.alloc())?;
+    let before = hex::encode(rt.alloc(), out.as_slice());
+    begin(rt);
+    let returned = append_pruned(rt.alloc(), &bytes, &ids, &mut out);
+    end(rt);
+    let after = hex::encode(rt.alloc(), out.as_slice());
+    Outcome::lending(before, after, shown(rt.alloc(), returned))
+}
+
+/// The outcome of a walk.
+fn walked(alloc: Global, returned: Result<Numbering, RetainError>) -> Result<Outcome, Fail> {
+    let answer = match returned {
+        Ok(found) => {
+            let (order, steps) = (found.order, found.steps);
+            done(format!(in alloc; "{order:?} in {steps} steps"))
+        }
+        Err(error) => failed(alloc, &error),
+    };
+    Outcome::of(answer)
+}
+
+/// Numbers what the given ids reach.
+pub fn number_table(rt: &HostRuntime, row: &str) -> Result<Outcome, Fail> {
+    let (name, ids) = given(rt.alloc(), row)?;
+    let table = table_of(rt.alloc(), name)?;
+    begin(rt);
+    let returned = number(rt.alloc(), table.types(), &ids);
+    end(rt);
+    walked(rt.alloc(), returned)
+}
+
+/// Numbers what the given ids reach, by a recursion.
+pub fn number_table_recursively(rt: &HostRuntime, row: &str) -> Result<Outcome, Fail> {
+    let (name, ids) = given(rt.alloc(), row)?;
+    let table = table_of(rt.alloc(), name)?;
+    begin(rt);
+    let returned = number_recursive(rt.alloc(), table.types(), &ids);
+    end(rt);
+    walked(rt.alloc(), returned)
+}
+
+/// The references of the first description.
+fn all_of(alloc: Global, mut refs: Refs) -> Result<Vec<u32>, AllocError> {
+    let mut ids = Vec::new(alloc);
+    for _ in 0..64 {
+        let mut steps = 0;
+        match refs.next(&mut steps) {
+            Some(id) => ids.push(id)?,
+            None => break,
+        }
+    }
+    Ok(ids)
+}
+
+/// The references of the first description, as a text.
+fn listed(alloc: Global, refs: Refs) -> Result<String, AllocError> {
+    let ids = all_of(alloc, refs)?;
+    format!(in alloc; "{ids:?}")
+}
+
+/// Lists the references of the entry at index 0.
+pub fn refs_of(rt: &HostRuntime, row: &str) -> Result<Outcome, Fail> {
+    let table = table_of(rt.alloc(), row)?;
+    let Some(ty) = table.resolve(0) else {
+        return Err(Fail::new("the table is empty"));
+    };
+    begin(rt);
+    let returned = Refs::of(rt.alloc(), ty);
+    end(rt);
+    let answer = match returned {
+        Ok(refs) => done(listed(rt.alloc(), refs)),
+        Err(error) => failed(rt.alloc(), &error),
+    };
+    Outcome::of(answer)
+}
+
+/// Puts the references of the entry at index 0 before one that is left.
+pub fn prepend(rt: &HostRuntime, row: &str) -> Result<Outcome, Fail> {
+    let table = table_of(rt.alloc(), row)?;
+    let Some(ty) = table.resolve(0) else {
+        return Err(Fail::new("the table is empty"));
+    };
+    let mut refs = Refs::new(rt.alloc());
+    refs.prepend(&[9])?;
+    begin(rt);
+    let returned = refs.prepend_of(rt.alloc(), ty);
+    end(rt);
+    let before = String::from_str(rt.alloc(), "[9]");
+    let after = listed(rt.alloc(), refs);
+    Outcome::lending(before, after, shown(rt.alloc(), returned))
+}

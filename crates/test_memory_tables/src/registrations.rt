@@ -1,0 +1,139 @@
+//! Registrations of types of a program.
+use crate::registries::{described_registry_of, descriptions, listed, registry_of_u8, state};
+use scale_info::meta_type::Catalogue;
+use scale_info::{Field, IntoPortable, Items, MetaType, PortableRegistry, Scale, tuple_meta_type};
+use std::alloc::{AllocError, Global};
+use std::test::Fail;
+use test_common::lists::{list_of, with};
+use test_memory_common::answers::{digits, done, encoded};
+use test_memory_common::marks::{begin, end};
+use test_memory_common::outcomes::Outcome;
+use test_memory_common::own::Missing;
+use test_memory_common::types::{catalogue, documented_field, type_named, unnamed_field};
+
+/// Registers a type.
+pub fn register_type(rt: &HostRuntime, name: &str) -> Result<Outcome, Fail> {
+    let known = catalogue(rt.alloc())?;
+    let mut registry = registry_of_u8(rt.alloc(), &known)?;
+    let ty = type_named(rt.alloc(), name)?;
+    let before = state(rt.alloc(), &registry, &known);
+    begin(rt);
+    let returned = registry.register_type(&ty, &known);
+    end(rt);
+    let after = state(rt.alloc(), &registry, &known);
+    Outcome::lending(before, after, encoded(rt.alloc(), returned))
+}
+
+/// Registers a type that the registry has, under a catalogue without descriptions.
+pub fn register_known_type(rt: &HostRuntime, name: &str) -> Result<Outcome, Fail> {
+    let ty = type_named(rt.alloc(), name)?;
+    let mut registry = described_registry_of(rt.alloc(), name)?;
+    let nothing = Catalogue::new(rt.alloc());
+    let before = descriptions(rt.alloc(), &registry);
+    begin(rt);
+    let returned = registry.register_type(&ty, &nothing);
+    end(rt);
+    let after = descriptions(rt.alloc(), &registry);
+    Outcome::lending(before, after, encoded(rt.alloc(), returned))
+}
+
+/// `bool`, the type of this name, and `String`.
+pub fn three(alloc: Global, name: &str) -> Result<Vec<MetaType>, Fail> {
+    let named = type_named(alloc, name)?;
+    let two = with(tuple_meta_type!(alloc; bool), Ok(named));
+    Ok(with(two, MetaType::new::<String>(alloc))?)
+}
+
+/// Registers three types.
+pub fn register_types(rt: &HostRuntime, name: &str) -> Result<Outcome, Fail> {
+    let known = catalogue(rt.alloc())?;
+    let mut registry = registry_of_u8(rt.alloc(), &known)?;
+    let types = three(rt.alloc(), name)?;
+    let before = state(rt.alloc(), &registry, &known);
+    begin(rt);
+    let returned = registry.register_types(types, &known);
+    end(rt);
+    let after = state(rt.alloc(), &registry, &known);
+    Outcome::lending(before, after, encoded(rt.alloc(), listed(returned)))
+}
+
+/// Registers three types that stay where they are.
+pub fn register_all(rt: &HostRuntime, name: &str) -> Result<Outcome, Fail> {
+    let known = catalogue(rt.alloc())?;
+    let mut registry = registry_of_u8(rt.alloc(), &known)?;
+    let types = three(rt.alloc(), name)?;
+    let before = state(rt.alloc(), &registry, &known);
+    begin(rt);
+    let returned = registry.register_all(&types, &known);
+    end(rt);
+    let after = state(rt.alloc(), &registry, &known);
+    Outcome::lending(before, after, encoded(rt.alloc(), listed(returned)))
+}
+
+/// Two fields, of which the second is one of a type that is not described where the name says so.
+fn two_fields(alloc: Global, name: &str) -> Result<Vec<Field>, AllocError> {
+    let first = list_of(alloc, documented_field(alloc)?);
+    match name {
+        "two fields" => with(first, documented_field(alloc)),
+        _ => with(first, unnamed_field::<Missing>(alloc)),
+    }
+}
+
+/// Converts two fields.
+pub fn map_into_portable(rt: &HostRuntime, name: &str) -> Result<Outcome, Fail> {
+    let fields = two_fields(rt.alloc(), name)?;
+    let known = catalogue(rt.alloc())?;
+    let mut registry = registry_of_u8(rt.alloc(), &known)?;
+    let before = state(rt.alloc(), &registry, &known);
+    begin(rt);
+    let returned = registry.map_into_portable(fields, &known);
+    end(rt);
+    let after = state(rt.alloc(), &registry, &known);
+    Outcome::lending(before, after, encoded(rt.alloc(), listed(returned)))
+}
+
+/// Converts a value by a catalogue.
+pub fn into_portable<T: IntoPortable + Drop>(
+    rt: &HostRuntime,
+    known: &Catalogue,
+    value: T,
+) -> Result<Outcome, Fail>
+where
+    T::Output: Scale,
+{
+    let described = catalogue(rt.alloc())?;
+    let mut registry = registry_of_u8(rt.alloc(), &described)?;
+    let before = state(rt.alloc(), &registry, &described);
+    begin(rt);
+    let returned = value.into_portable(rt.alloc(), &mut registry, known);
+    end(rt);
+    let after = state(rt.alloc(), &registry, &described);
+    Outcome::lending(before, after, encoded(rt.alloc(), returned))
+}
+
+/// Makes the table of a registry.
+pub fn from_registry(rt: &HostRuntime, name: &str) -> Result<Outcome, Fail> {
+    let registry = described_registry_of(rt.alloc(), name)?;
+    begin(rt);
+    let returned = PortableRegistry::from_registry(rt.alloc(), &registry);
+    end(rt);
+    Outcome::of(encoded(rt.alloc(), returned))
+}
+
+/// Makes the table of a registry that is finished.
+pub fn from_finished(rt: &HostRuntime, name: &str) -> Result<Outcome, Fail> {
+    let registry = described_registry_of(rt.alloc(), name)?;
+    begin(rt);
+    let returned = PortableRegistry::from_finished(rt.alloc(), registry);
+    end(rt);
+    Outcome::of(encoded(rt.alloc(), returned))
+}
+
+/// Takes the descriptions out of a registry.
+pub fn into_types(rt: &HostRuntime, name: &str) -> Result<Outcome, Fail> {
+    let registry = described_registry_of(rt.alloc(), name)?;
+    begin(rt);
+    let types = Items::from(registry.into_types());
+    end(rt);
+    Outcome::of(done(digits(rt.alloc(), &types)))
+}
