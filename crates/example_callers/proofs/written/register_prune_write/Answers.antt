@@ -1,9 +1,8 @@
-use Rattle.std.proofs.Common.{rules, ◌≡◌, ◌∙◌, ◌∷◌, ◌++◌, [], List, ap, append-nil, arith, get_or, ◌+◌, length, map, refl}
+use Rattle.std.proofs.Common.{rules, ◌≡◌, ◌∙◌, ◌∷◌, ◌++◌, [], ap, append-nil, get_or, ◌+◌, length, map, refl}
 use Rattle.std.proofs.Common.{subst, sym, take}
 use Rattle.std.proofs.lemmas.List.{map-append, take_all, take_more}
 use Rattle.scale_info.specs.Headline.{AreAccepted, History, IsTableOf, IsWritten, Pruning}
 use Rattle.scale_info.specs.Headline.{registry_of}
-use Rattle.scale_info.specs.TypeIds.{Term}
 use Rattle.scale_info.specs.CatalogueSystems.{catalogue_system}
 use Rattle.scale_info.specs.Discoveries.{roots_of}
 use Rattle.scale_info.specs.Registrations.{IsRegistration, registered, step_roots}
