@@ -25,10 +25,10 @@ ghost use Rattle.scale_info_registry.specs.Parts.{
 ghost use Rattle.scale_info_catalogue.specs.Discoveries.{stacked};
 ghost use Rattle.scale_info_registry.specs.Registrations.{index_in};
 
-use scale_info_collections::items::Items;
-use scale_info_collections::text::Text;
 use scale_info_catalogue::discovery::number_of;
 use scale_info_catalogue::number_cache::NumberCache;
+use scale_info_collections::items::Items;
+use scale_info_collections::text::Text;
 use scale_info_identities::symbol::UntrackedSymbol;
 use scale_info_identities::type_id::TypeId;
 use scale_info_interner::interner::Interner;

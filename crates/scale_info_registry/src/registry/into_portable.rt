@@ -45,8 +45,8 @@ ghost use Rattle.scale_info_registry.specs.Registrations.{
 use super::Registry;
 use super::conversion::TypePair;
 use scale_info_catalogue::catalogue::Catalogue;
-use scale_info_collections::text::Text;
 use scale_info_catalogue::discovery::RegisterError;
+use scale_info_collections::text::Text;
 use scale_info_identities::symbol::UntrackedSymbol;
 use scale_info_identities::type_id::TypeId;
 use scale_info_types::form::PortableForm;
