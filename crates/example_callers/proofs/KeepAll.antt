@@ -1,5 +1,6 @@
 -- To keep everything: each id is chosen, and the table of a numbering stays as it is.
-use Rattle.std.proofs.Common.{◌≡◌, ◌<◌, ◌↔◌, ◌+◌, ℕ, zero, suc, List, [], ◌∷◌, ◌++◌, length, map, true, Bool}
+use Rattle.std.proofs.Common.{◌≡◌, ◌<◌, ◌↔◌, ◌+◌, ℕ, zero, suc, List, [], ◌∷◌, ◌++◌, length, map}
+use Rattle.std.proofs.Common.{true, Bool}
 use Rattle.std.proofs.Common.{Some, slice_get, ap, sym, ◌∙◌, subst, arith, cond, zero-add}
 use Rattle.std.proofs.lemmas.List.{length-map}
 use Rattle.std.specs.BTreeMap.{BTreeMap, get}

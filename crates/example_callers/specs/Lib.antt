@@ -1,2 +1,2 @@
 pub mod ReadingLaws
-pub mod Readings
+pub mod Temperatures

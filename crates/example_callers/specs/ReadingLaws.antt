@@ -1,8 +1,8 @@
 -- The law of the encoding of a reading.
 use Rattle.scale_info.specs.Encodings.{IsEncoding}
-use Rattle.scale_info.specs.NumberLaws.{u32_law}
+use Rattle.scale_info.specs.IntegerLaws.{u32_law}
 use Rattle.scale_info.specs.PartLaws.{pair_law, through_law}
-use Rattle.example_callers.specs.Readings.{EncodesReading, reading_parts}
+use Rattle.example_callers.specs.Temperatures.{EncodesReading, reading_parts}
 
 -- readings have one encoding each, since pairs of numbers have
 pub reading_law : IsEncoding EncodesReading

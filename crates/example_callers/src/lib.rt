@@ -2,15 +2,15 @@
 //! `docs/CALLING.md` shows it.
 #![tactic(auto)]
 
-pub mod build;
 pub mod call;
 pub mod exported;
 pub mod facts;
 pub mod inspect;
 pub mod lists;
+pub mod point;
 pub mod print;
 pub mod pruned;
 pub mod pruning;
-pub mod reading;
 pub mod register;
+pub mod temperature;
 pub mod written;

@@ -7,15 +7,15 @@ pub use Rattle.scale_info_numberings.specs.Tables
 pub use Rattle.scale_info_numberings.specs.Matches
 pub use Rattle.scale_info_numberings.specs.Unfoldings
 pub use Rattle.scale_info_numberings.specs.Extensions
-pub use Rattle.scale_info_numberings.specs.Registrations as RegistrationLists
-pub use Rattle.scale_info_numberings.specs.Examples as NumberingExamples
+pub use Rattle.scale_info_numberings.specs.RegistrationLists
+pub use Rattle.scale_info_numberings.specs.NumberingExamples
 pub use Rattle.scale_info_identities.specs.TypeIds
 pub use Rattle.scale_info_type_ids.specs.StandardTerms
 pub use Rattle.scale_info_interner.specs.Interned
-pub use Rattle.scale_info_interner.specs.Orders as ElementOrders
+pub use Rattle.scale_info_interner.specs.ElementOrders
 pub use Rattle.scale_info_bytes.specs.Encodings
-pub use Rattle.scale_info_bytes.specs.Numbers
-pub use Rattle.scale_info_bytes.specs.NumberLaws
+pub use Rattle.scale_info_bytes.specs.Integers
+pub use Rattle.scale_info_bytes.specs.IntegerLaws
 pub use Rattle.scale_info_bytes.specs.CompactLaws
 pub use Rattle.scale_info_bytes.specs.Strings
 pub use Rattle.scale_info_bytes.specs.StringLaws
@@ -31,8 +31,8 @@ pub use Rattle.scale_info_types.specs.References
 pub use Rattle.scale_info_types.specs.Orders
 pub use Rattle.scale_info_types.specs.Phantoms
 pub use Rattle.scale_info_types.specs.Iterators
-pub use Rattle.scale_info_types.specs.Entries as KeptEntries
-pub use Rattle.scale_info_types.specs.Examples as TypeExamples
+pub use Rattle.scale_info_types.specs.KeptEntries
+pub use Rattle.scale_info_types.specs.TypeExamples
 pub use Rattle.scale_info_build.specs.BuiltFields
 pub use Rattle.scale_info_build.specs.Parameters
 pub use Rattle.scale_info_type_info.specs.StandardTypes
@@ -52,28 +52,28 @@ pub use Rattle.scale_info_catalogue.specs.CatalogueSystems
 pub use Rattle.scale_info_catalogue.specs.Discoveries
 pub use Rattle.scale_info_registry.specs.Registrations
 pub use Rattle.scale_info_registry.specs.RegistryLaws
-pub use Rattle.scale_info_registry.specs.Parts as RegistryParts
+pub use Rattle.scale_info_registry.specs.RegistryParts
 pub use Rattle.scale_info_tables.specs.TableEncoding
 pub use Rattle.scale_info_tables.specs.TableEncodingLaws
 pub use Rattle.scale_info_tables.specs.TableSystems
 pub use Rattle.scale_info_tables.specs.ClosedTables
 pub use Rattle.scale_info_tables.specs.BuiltTables
 pub use Rattle.scale_info_tables.specs.Pruned
-pub use Rattle.scale_info_tables.specs.Entries as IndexedEntries
+pub use Rattle.scale_info_tables.specs.IndexedEntries
 pub use Rattle.scale_info_tables.specs.TableExamples
 pub use Rattle.scale_info_export.specs.Exports
 pub use Rattle.scale_info_export.specs.Headline
 pub use Rattle.scale_info_json_trees.specs.Written
 pub use Rattle.scale_info_json_trees.specs.Meaning
-pub use Rattle.scale_info_json_trees.specs.Described
-pub use Rattle.scale_info_json_trees.specs.Definitions as DefinitionTrees
-pub use Rattle.scale_info_json_trees.specs.Entries as EntryTrees
-pub use Rattle.scale_info_json.specs.Tables as JsonTables
-pub use Rattle.scale_info_json.specs.Errors as JsonErrors
-pub use Rattle.scale_info_json.specs.Examples as JsonExamples
+pub use Rattle.scale_info_json_trees.specs.PartTrees
+pub use Rattle.scale_info_json_trees.specs.DefinitionTrees
+pub use Rattle.scale_info_json_trees.specs.EntryTrees
+pub use Rattle.scale_info_json.specs.JsonTables
+pub use Rattle.scale_info_json.specs.JsonErrors
+pub use Rattle.scale_info_json.specs.JsonExamples
 pub use Rattle.scale_info_transcode.specs.Transcodings
 pub use Rattle.scale_info_value.specs.Readings
 pub use Rattle.scale_info_value.specs.Outcomes
-pub use Rattle.scale_info_value.specs.Definitions as ValueDefinitions
-pub use Rattle.scale_info_value.specs.Numbers as ValueNumbers
-pub use Rattle.scale_info_value.specs.Examples as ValueExamples
+pub use Rattle.scale_info_value.specs.ValueDefinitions
+pub use Rattle.scale_info_value.specs.IntegerDecoders as ValueNumbers
+pub use Rattle.scale_info_value.specs.ValueExamples

@@ -1,5 +1,6 @@
 -- ASCII and other characters at the start of a text.
-use Rattle.std.proofs.Common.{◌≡◌, ℕ, ◌+◌, ◌-◌, ◌^◌, ◌%◌, ◌<◌, ◌≤◌, List, [], ◌∷◌, length, take, drop}
+use Rattle.std.proofs.Common.{◌≡◌, ℕ, ◌+◌, ◌-◌, ◌^◌, ◌%◌, ◌<◌, ◌≤◌, List, [], ◌∷◌, length, take}
+use Rattle.std.proofs.Common.{drop}
 use Rattle.std.proofs.Common.{refl, ap, subst, ◌∙◌, sym, arith, leb, cond, map, replicate, w8}
 use Rattle.std.proofs.Common.{slice_index, zero, suc, not, leb-false}
 use Rattle.std.specs.List.{prefix_len}

@@ -1,10 +1,10 @@
--- A compact number at the start of the input.
+-- A compact integer at the start of the input.
 use Rattle.std.proofs.Common.{◌≡◌, ℕ, ◌+◌, ◌-◌, ◌*◌, ◌/◌, ◌%◌, ◌≤◌, List, [], ◌∷◌, length, take}
 use Rattle.std.proofs.Common.{drop, get_or, sym, ap, ◌∙◌, arith, Fits, w8}
 use Rattle.std.specs.Int.{w16, w32, to_le_bytes}
 use Rattle.std.proofs.Math.Seq.{take-length}
 use Rattle.scale_info_bytes.specs.Encodings.{HasPrefix}
-use Rattle.scale_info_bytes.specs.Numbers.{EncodesCompact, in_one, in_two, in_four, in_five}
+use Rattle.scale_info_bytes.specs.Integers.{EncodesCompact, in_one, in_two, in_four, in_five}
 
 -- each element of the list is below 256
 abbrev pub AreBytes : List ℕ → Type 0
@@ -41,7 +41,7 @@ prefix_two n first (b ∷ more) f g l low e =
       parts = ap (λ t. first ∷ b ∷ t) (sym (rest_of more _ (omega arith)));
     }
 
--- four bytes that make a number are the bytes of that number
+-- four bytes that make an integer are the bytes of that integer
 four_of :
     (m a b c d : ℕ) → Fits w8 a → Fits w8 b → Fits w8 c → Fits w8 d
     → a + b * 256 + c * 65536 + d * 16777216 ≡ m → a ∷ b ∷ c ∷ d ∷ [] ≡ to_le_bytes w32 m

@@ -1,7 +1,7 @@
 -- Lists at the start of the input.
 use Rattle.std.proofs.Common.{◌≡◌, ℕ, List, length, sym, subst}
 use Rattle.scale_info_bytes.specs.Encodings.{HasPrefix, HasNoPrefix}
-use Rattle.scale_info_bytes.specs.Numbers.{EncodesCompact}
+use Rattle.scale_info_bytes.specs.Integers.{EncodesCompact}
 use Rattle.scale_info_bytes.specs.CompactLaws.{compact_law}
 use Rattle.scale_info_bytes.specs.Parts.{EncodesItems, EncodesList}
 use Rattle.scale_info_bytes.proofs.Steps.{prefix_both, split_prefix, same_prefix}
@@ -18,7 +18,7 @@ module _ {A : Type 0} (S : A → List ℕ → Type 0) where
   pub no_count : (a : List ℕ) → HasNoPrefix EncodesCompact a → HasNoPrefix (EncodesList S) a
   no_count a n = record { none = λ vs rest p. let h = split_prefix p in n.none (length vs) h.0 h.1 }
 
-  -- a count, and no items of that number after it: no list begins the input
+  -- a count, and fewer items than that after it: no list begins the input
   pub no_items_after :
       (n : ℕ) (a b : List ℕ) → HasPrefix (EncodesCompact n) a b
       → ((vs : List A) (rest : List ℕ) → length vs ≡ n → HasPrefix (EncodesItems S vs) b rest → ⊥)

@@ -4,7 +4,7 @@ use Rattle.std.proofs.Common.{refl, arith, length-append, length-take}
 use Rattle.std.specs.Prelude.{IsUtf8}
 use Rattle.std.proofs.lemmas.List.{take_at, take-append-drop}
 use Rattle.scale_info_bytes.specs.Encodings.{HasPrefix, HasNoPrefix}
-use Rattle.scale_info_bytes.specs.Numbers.{EncodesCompact}
+use Rattle.scale_info_bytes.specs.Integers.{EncodesCompact}
 use Rattle.scale_info_bytes.specs.CompactLaws.{compact_law}
 use Rattle.scale_info_bytes.specs.Strings.{EncodesText}
 use Rattle.scale_info_bytes.specs.Parts.{IsConcatenation}

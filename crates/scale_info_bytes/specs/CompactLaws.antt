@@ -1,11 +1,11 @@
--- The law of encodings of compact numbers.
+-- The law of encodings of compact integers.
 use Rattle.std.specs.Prelude.{◌≡◌, ℕ, ◌+◌, ◌*◌, ◌%◌, List, [], ◌∷◌, ◌++◌}
 use Rattle.std.proofs.Common.{sym, ◌∙◌, ap, arith, get_or, lit<}
 use Rattle.std.specs.List.{AllByRecursion}
 use Rattle.std.specs.Int.{w16, w32, to_le_bytes}
 use Rattle.scale_info_bytes.specs.Encodings.{IsEncoding, IsByte}
-use Rattle.scale_info_bytes.specs.Numbers.{EncodesCompact, in_one, in_two, in_four, in_five}
-use Rattle.scale_info_bytes.specs.NumberLaws.{same_four, same_two, four_bytes, two_bytes}
+use Rattle.scale_info_bytes.specs.Integers.{EncodesCompact, in_one, in_two, in_four, in_five}
+use Rattle.scale_info_bytes.specs.IntegerLaws.{same_four, same_two, four_bytes, two_bytes}
 
 compact_one : (n : ℕ) (b c : List ℕ) → EncodesCompact n b → EncodesCompact n c → b ≡ c
 compact_one n b c (in_one p e) (in_one q f) = e ∙ sym f
@@ -91,6 +91,6 @@ compact_bytes n b (in_two p q e) = rw e (two_bytes (4 * n + 1))
 compact_bytes n b (in_four p q e) = rw e (four_bytes (4 * n + 2))
 compact_bytes n b (in_five p q e) = rw e (lit< tt, four_bytes n)
 
--- EncodesCompact is an encoding of the numbers below 2 ^ 32
+-- EncodesCompact is an encoding of the integers below 2 ^ 32
 pub compact_law : IsEncoding EncodesCompact
 compact_law = record { one = compact_one; prefix_free = compact_prefix_free; bytes = compact_bytes }

@@ -6,7 +6,7 @@ use Rattle.scale_info_bytes.specs.declared.error.EncodeError.TheVariants as enco
 use Rattle.scale_info_bytes.specs.declared.error.DecodeError.{DecodeError}
 use Rattle.scale_info_bytes.specs.declared.error.DecodeError.TheVariants as decode
 
--- the number is a byte
+-- the integer is a byte
 abbrev pub IsByte : ℕ → Type 0
 IsByte n = n < 256
 

@@ -1,7 +1,7 @@
 pub mod CompactLaws
 pub mod Encodings
-pub mod NumberLaws
-pub mod Numbers
+pub mod IntegerLaws
+pub mod Integers
 pub mod PartLaws
 pub mod Parts
 pub mod StringLaws

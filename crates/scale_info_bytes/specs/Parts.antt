@@ -1,7 +1,7 @@
 -- Encodings of values that are made of other values.
 use Rattle.std.specs.Prelude.{◌≡◌, ℕ, List, [], ◌∷◌, ◌++◌, length, Option, Some, None}
 use Rattle.scale_info_bytes.specs.Encodings.{HasPrefix}
-use Rattle.scale_info_bytes.specs.Numbers.{EncodesCompact}
+use Rattle.scale_info_bytes.specs.Integers.{EncodesCompact}
 
 -- b is bytes with P followed by bytes with Q
 pub record IsConcatenation (P Q : List ℕ → Type 0) (b : List ℕ) : Type 0 where

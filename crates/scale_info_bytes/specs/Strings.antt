@@ -1,6 +1,6 @@
 -- Encodings of strings.
 use Rattle.std.specs.Prelude.{◌≡◌, ℕ, List, length, IsUtf8}
-use Rattle.scale_info_bytes.specs.Numbers.{EncodesCompact}
+use Rattle.scale_info_bytes.specs.Integers.{EncodesCompact}
 use Rattle.scale_info_bytes.specs.Parts.{IsConcatenation}
 
 -- a string, which is UTF-8, is the count of its bytes and then its bytes

@@ -6,7 +6,7 @@ ghost use Rattle.scale_info_bytes.specs.Encodings.{IfMalformed};
 ghost use Rattle.scale_info_bytes.specs.Strings.{EncodesText};
 
 use crate::error::{DecodeError, EncodeError, truncate_on_err};
-use crate::number::{decode_compact, encode_compact};
+use crate::integer::{decode_compact, encode_compact};
 use crate::utf8::from_utf8;
 use scale_info_collections::text::Text;
 use std::alloc::Global;
@@ -25,7 +25,7 @@ fn append_text(text: &str, out: &mut Vec<u8>) -> Result<(), EncodeError>
     Ok(())
 }
 
-/// Appends a string: the count of its bytes as a compact number, then the bytes.
+/// Appends a string: the count of its bytes as a compact integer, then the bytes.
 ///
 /// Errors: `TooLong`, if the string has more than 4294967295 bytes; `Memory`, if an allocation
 /// failed. On an Err the output is as before.

@@ -2,7 +2,8 @@
 use Rattle.std.proofs.Common.{◌≡◌, suc, ◌+◌, ◌<◌, List, [], ◌∷◌, ◌++◌, length, Some, None}
 use Rattle.std.proofs.Common.{option_map, map, reverse, refl, ap, sym, ◌∙◌, subst, arith, Contains}
 use Rattle.std.proofs.Common.{append_assoc, append-nil, length-append, Bor}
-use Rattle.std.proofs.lemmas.List.{map-append, reverse-append, length_push, length-map, length-reverse}
+use Rattle.std.proofs.lemmas.List.{map-append, reverse-append, length_push, length-map}
+use Rattle.std.proofs.lemmas.List.{length-reverse}
 use Rattle.std.proofs.lemmas.List.Elements.{Contains-get_or}
 use Rattle.std.specs.List.{AllZip}
 use Rattle.scale_info_numberings.specs.Systems.{IsReachedPast}
@@ -17,13 +18,16 @@ use Rattle.scale_info_identities.specs.contracts.type_id.TypeIdPartialEq.TheImpl
 use Rattle.scale_info_types.specs.MetaDescriptions.{MetaDescription, type_term}
 use Rattle.scale_info_catalogue.specs.CatalogueSystems.{catalogue_entry, catalogue_system}
 use Rattle.scale_info_catalogue.specs.Catalogues.{described}
-use Rattle.scale_info_catalogue.specs.Discoveries.{nodes_of, roots_of, stacked, IsCause, IsNumberError, AreFound}
+use Rattle.scale_info_catalogue.specs.Discoveries.{nodes_of, roots_of, stacked, IsCause}
+use Rattle.scale_info_catalogue.specs.Discoveries.{IsNumberError, AreFound}
 use Rattle.scale_info_catalogue.specs.declared.catalogue.Catalogue.{Catalogue}
 use Rattle.scale_info_catalogue.specs.declared.discovery.RegisterError.{RegisterError}
-use Rattle.scale_info_catalogue.specs.declared.discovery.RegisterError.TheVariants.{Full, Memory, Undescribed}
+use Rattle.scale_info_catalogue.specs.declared.discovery.RegisterError.TheVariants.{Full, Memory}
+use Rattle.scale_info_catalogue.specs.declared.discovery.RegisterError.TheVariants.{Undescribed}
 use Rattle.scale_info_references.specs.Gathered.{targets}
 use Rattle.scale_info_catalogue.proofs.Terms.{known, length_nodes}
-use Rattle.scale_info_numberings.proofs.WorkLists.{IsWalking, walk_adds, walk_meets, walk_passes, walk_ends}
+use Rattle.scale_info_numberings.proofs.WorkLists.{IsWalking, walk_adds, walk_meets, walk_passes}
+use Rattle.scale_info_numberings.proofs.WorkLists.{walk_ends}
 use Rattle.scale_info_numberings.proofs.WorkLists.{kept_below, distinct_push}
 use Rattle.scale_info_catalogue.proofs.CatalogueWeights.{work_left, adds_less}
 

@@ -1,5 +1,6 @@
 -- A number that was put into a cache is in it.
-use Rattle.std.proofs.Common.{◌≡◌, ◌≢◌, ℕ, ◌-◌, ◌<◌, List, [], ◌∷◌, Contains, length, sym, subst, arith}
+use Rattle.std.proofs.Common.{◌≡◌, ◌≢◌, ℕ, ◌-◌, ◌<◌, List, [], ◌∷◌, Contains, length, sym, subst}
+use Rattle.std.proofs.Common.{arith}
 use Rattle.std.proofs.Common.{slice_set}
 use Rattle.std.proofs.lemmas.Nat.{and_le_r}
 use Rattle.std.proofs.lemmas.List.{get_or-set_same, length-set}

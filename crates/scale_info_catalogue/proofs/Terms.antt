@@ -1,5 +1,6 @@
 -- Known identities, by their terms.
-use Rattle.std.proofs.Common.{◌≡◌, ◌↔◌, ℕ, zero, suc, List, [], ◌∷◌, Some, slice_get, length, Contains}
+use Rattle.std.proofs.Common.{◌≡◌, ◌↔◌, ℕ, zero, suc, List, [], ◌∷◌, Some, slice_get, length}
+use Rattle.std.proofs.Common.{Contains}
 use Rattle.std.proofs.Common.{refl, sym, ◌∙◌, ap, arith}
 use Rattle.std.proofs.lemmas.Option.{same_Some, none-some}
 use Rattle.scale_info_interner.specs.Interned.{AreDistinctBy, IsIndexOf, IsKnown}

@@ -324,10 +324,10 @@ impl Scale for PortableType {
     }
 
     fn decode_from(alloc: Global, input: &[u8]) -> Result<(PortableType, &[u8]), DecodeError> {
-        let ((number, ty), rest) = <(Compact<u32>, Description<PortableForm>)>::decode_from(
+        let ((integer, ty), rest) = <(Compact<u32>, Description<PortableForm>)>::decode_from(
             alloc, input,
         )?;
-        let Compact(id) = number;
+        let Compact(id) = integer;
         Ok((PortableType { id, ty }, rest))
     }
 

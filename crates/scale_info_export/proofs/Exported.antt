@@ -28,7 +28,8 @@ use Rattle.scale_info_catalogue.specs.Discoveries.{IsCause}
 use Rattle.scale_info_catalogue.specs.declared.discovery.RegisterError.{RegisterError}
 use Rattle.scale_info_catalogue.specs.declared.discovery.RegisterError.TheVariants as register
 use Rattle.scale_info_tables.specs.TableEncoding.{EncodesRegistry}
-use Rattle.scale_info_export.specs.Exports.{IsExportError, IsExported, IsNotRegistered, IsRegisteredTable}
+use Rattle.scale_info_export.specs.Exports.{IsExportError, IsExported, IsNotRegistered}
+use Rattle.scale_info_export.specs.Exports.{IsRegisteredTable}
 use Rattle.scale_info_export.specs.Exports.{of_encode, of_register, of_retain}
 
 -- the entries of a table, as a system, are the system of the list of entries

@@ -31,7 +31,8 @@ use Rattle.scale_info_types.specs.Portable.{Description}
 use Rattle.scale_info_types.specs.Shapes.{Shape}
 use Rattle.scale_info_types.specs.declared.ty.PortableType.{PortableType}
 use Rattle.scale_info_walk.specs.TypeSystems.{entry_of}
-use Rattle.scale_info_export.specs.Headline.{AreAccepted, AreChosenTypes, AreNewIds, History, IsTableOf}
+use Rattle.scale_info_export.specs.Headline.{AreAccepted, AreChosenTypes, AreNewIds, History}
+use Rattle.scale_info_export.specs.Headline.{IsTableOf}
 use Rattle.scale_info_export.specs.Headline.{IsWritten, Pruning, catalogue_of, registry_of}
 use Rattle.scale_info_export.proofs.Exported.{one_system}
 use Rattle.scale_info_export.proofs.SameTables.{PartsLaw, same_types}

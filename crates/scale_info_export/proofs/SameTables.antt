@@ -1,5 +1,6 @@
 -- Tables whose entries have their indices as ids are equal where they are as systems.
-use Rattle.std.proofs.Common.{◌≡◌, ℕ, zero, suc, ◌+◌, List, [], ◌∷◌, map, Some, slice_get, refl, ap, sym}
+use Rattle.std.proofs.Common.{◌≡◌, ℕ, zero, suc, ◌+◌, List, [], ◌∷◌, map, Some, slice_get, refl, ap}
+use Rattle.std.proofs.Common.{sym}
 use Rattle.std.proofs.Common.{◌∙◌, arith}
 use Rattle.scale_info_numberings.specs.Systems.{Entry}
 use Rattle.scale_info_types.specs.Portable.{Id}

@@ -160,11 +160,14 @@ fn registered_table(
     let mut registry = Registry::new(alloc);
     let symbols = registry.register_all(types, catalogue)?;
     let table = PortableRegistry::from_finished(alloc, registry)?;
-    Ok((table, ids_of(alloc, &symbols)?))
+    Ok((table, ids_of_symbols(alloc, &symbols)?))
 }
 
 /// The ids of these symbols.
-fn ids_of(alloc: Global, symbols: &[UntrackedSymbol<TypeId>]) -> Result<Vec<u32>, ExportError>
+fn ids_of_symbols(
+    alloc: Global,
+    symbols: &[UntrackedSymbol<TypeId>],
+) -> Result<Vec<u32>, ExportError>
     ensures ok { IfOk result (λ ids. ids.items
         ≡ map (λ (symbol : tracked.UntrackedSymbol TypeId). symbol.id) symbols.now) }
     ensures memory { IfErr result (λ e. e ≡ export_error.Memory) }

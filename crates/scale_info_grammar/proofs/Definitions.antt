@@ -8,12 +8,14 @@ use Rattle.scale_info_primitives.specs.declared.primitive.TypeDefPrimitive.{Type
 use Rattle.scale_info_bytes.specs.declared.error.EncodeError.{EncodeError}
 use Rattle.scale_info_bytes.specs.Encodings.{AppendsEncoding, HasPrefix, HasNoPrefix, HasNoEncoding}
 use Rattle.scale_info_bytes.specs.Encodings.{IfTooLong}
-use Rattle.scale_info_bytes.specs.Numbers.{EncodesU32}
+use Rattle.scale_info_bytes.specs.Integers.{EncodesU32}
 use Rattle.scale_info_bytes.specs.Parts.{HasIndex, EncodesPair, EncodesList}
 use Rattle.scale_info_grammar.specs.Ty.{EncodesId, EncodesField, EncodesVariant, EncodesPrimitive}
 use Rattle.scale_info_grammar.specs.Ty.{array_parts, bit_sequence_parts, map_parts}
-use Rattle.scale_info_grammar.specs.Ty.{EncodesTypeDefWithIndex, composite, variant, sequence, array}
-use Rattle.scale_info_grammar.specs.Ty.{tuple, primitive, compact, bit_sequence, map, EncodesTypeDef}
+use Rattle.scale_info_grammar.specs.Ty.{EncodesTypeDefWithIndex, composite, variant, sequence}
+use Rattle.scale_info_grammar.specs.Ty.{array}
+use Rattle.scale_info_grammar.specs.Ty.{tuple, primitive, compact, bit_sequence, map}
+use Rattle.scale_info_grammar.specs.Ty.{EncodesTypeDef}
 use Rattle.scale_info_bytes.proofs.Errors.{too_long_on}
 use Rattle.scale_info_bytes.proofs.Index.{BeginsWith, prefix_past_index, after}
 

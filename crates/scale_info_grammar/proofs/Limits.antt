@@ -1,5 +1,6 @@
 -- What is within the limits has an encoding.
-use Rattle.std.proofs.Common.{ℕ, ◌<◌, ◌^◌, List, [], ◌∷◌, ◌++◌, length, Option, Some, None, refl, inl, inr}
+use Rattle.std.proofs.Common.{ℕ, ◌<◌, ◌^◌, List, [], ◌∷◌, ◌++◌, length, Option, Some, None, refl}
+use Rattle.std.proofs.Common.{inl, inr}
 use Rattle.std.proofs.lemmas.Bool.{cases_lt}
 use Rattle.std.specs.List.{AllByRecursion}
 use Rattle.scale_info_types.specs.Portable as portable
@@ -36,7 +37,7 @@ use Rattle.scale_info_grammar.specs.Limits.{
   IsTextWithinLimits,
   IsVariantWithinLimits,
 }
-use Rattle.scale_info_bytes.specs.Numbers.{
+use Rattle.scale_info_bytes.specs.Integers.{
   EncodesCompact,
   EncodesU32,
   EncodesU8,

@@ -7,11 +7,11 @@ use Rattle.scale_info_types.specs.declared.ty.PortableType.{PortableType}
 use Rattle.scale_info_types.specs.declared.ty.TypeDef.TheVariants as def
 use Rattle.scale_info_primitives.specs.declared.primitive.TypeDefPrimitive.{TypeDefPrimitive}
 use Rattle.scale_info_primitives.specs.declared.primitive.TypeDefPrimitive.TheVariants as kind
-use Rattle.scale_info_bytes.specs.Numbers.{EncodesU8, EncodesU32, EncodesCompact}
+use Rattle.scale_info_bytes.specs.Integers.{EncodesU8, EncodesU32, EncodesCompact}
 use Rattle.scale_info_bytes.specs.Parts.{HasIndex, EncodesPair, EncodesOption, EncodesList}
 use Rattle.scale_info_bytes.specs.Strings.{EncodesText}
 
--- the bytes encode the id of a type: its number as a compact number
+-- the bytes encode the id of a type: its number as a compact integer
 abbrev pub EncodesId : Id → List ℕ → Type 0
 EncodesId v b = EncodesCompact v.id b
 
@@ -87,7 +87,7 @@ EncodesArray d b = EncodesPair EncodesU32 EncodesId (array_parts d) b
 abbrev pub EncodesTuple : portable.TypeDefTuple → List ℕ → Type 0
 EncodesTuple d b = EncodesList EncodesId d.fields b
 
--- the bytes encode a compact number: the id of its type
+-- the bytes encode a compact integer: the id of its type
 abbrev pub EncodesCompactType : portable.TypeDefCompact → List ℕ → Type 0
 EncodesCompactType d b = EncodesId d.type_param b
 
@@ -186,7 +186,7 @@ EncodesDescription v b =
 abbrev pub portable_type_parts : PortableType → Compact ℕ × portable.Description
 portable_type_parts v = (record { 0 = v.id }, v.ty)
 
--- the bytes encode an entry of a table: its id as a compact number, its description
+-- the bytes encode an entry of a table: its id as a compact integer, its description
 abbrev pub EncodesPortableType : PortableType → List ℕ → Type 0
 EncodesPortableType v b =
     EncodesPair (λ n t. EncodesCompact n.0 t) EncodesDescription (portable_type_parts v) b

@@ -6,7 +6,7 @@ use Rattle.scale_info_types.specs.Portable as portable
 use Rattle.scale_info_types.specs.declared.ty.TypeDef.TheVariants as def
 use Rattle.scale_info_primitives.specs.declared.primitive.TypeDefPrimitive.{TypeDefPrimitive}
 use Rattle.scale_info_bytes.specs.Encodings.{IsEncoding, IsByte}
-use Rattle.scale_info_bytes.specs.NumberLaws.{u8_law, u32_law}
+use Rattle.scale_info_bytes.specs.IntegerLaws.{u8_law, u32_law}
 use Rattle.scale_info_bytes.specs.CompactLaws.{compact_law}
 use Rattle.scale_info_bytes.specs.StringLaws.{text_law}
 use Rattle.scale_info_bytes.specs.PartLaws.{pair_law, through_law, option_law, list_law}
@@ -82,7 +82,7 @@ pub tuple_law : IsEncoding EncodesTuple
 tuple_law =
     through_law (λ v. v.fields) (λ v w e i. record { fields = e i; form = tt }) (list_law id_law)
 
--- EncodesCompactType is an encoding of compact numbers
+-- EncodesCompactType is an encoding of compact integers
 pub compact_type_law : IsEncoding EncodesCompactType
 compact_type_law =
     through_law (λ v. v.type_param) (λ v w e i. record { type_param = e i; form = tt }) id_law

@@ -17,7 +17,7 @@ use Rattle.scale_info_grammar.specs.Ty.{
   description_parts,
   portable_type_parts,
 }
-use Rattle.scale_info_bytes.specs.Numbers.{EncodesCompact, EncodesU32}
+use Rattle.scale_info_bytes.specs.Integers.{EncodesCompact, EncodesU32}
 use Rattle.scale_info_bytes.specs.Parts.{HasIndex, EncodesList, EncodesPair}
 use Rattle.scale_info_bytes.specs.Strings.{EncodesText}
 

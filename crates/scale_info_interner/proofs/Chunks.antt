@@ -6,7 +6,7 @@ use Rattle.std.specs.List.{All, concat, insert, remove}
 use Rattle.std.proofs.lemmas.Option.{same_Some, slice_get_read}
 use Rattle.std.proofs.lemmas.List.{take-append-drop}
 use Rattle.std.proofs.lemmas.List.Elements.{All-cons, All-head, All-tail}
-use Rattle.scale_info_interner.specs.Orders.{before, after}
+use Rattle.scale_info_interner.specs.ElementOrders.{before, after}
 use Rattle.scale_info_interner.proofs.Orders.{drop_at}
 
 -- V is what holds a chunk, and row its indices

@@ -1,6 +1,7 @@
 -- Elements of a list with one more at its end.
 use Rattle.std.proofs.Common.{◌≡◌, ℕ, zero, suc, List, [], ◌∷◌, ◌++◌, length, Some, slice_get, ◌⊎◌}
-use Rattle.std.proofs.Common.{inl, inr, refl, rules, arith, ◌+◌, ◌-◌, ◌<◌, Option, None, IsSome, sym}
+use Rattle.std.proofs.Common.{inl, inr, refl, rules, arith, ◌+◌, ◌-◌, ◌<◌, Option, None, IsSome}
+use Rattle.std.proofs.Common.{sym}
 use Rattle.std.proofs.Common.{subst, ap, ◌∙◌}
 use Rattle.std.specs.Option.{option_to_list}
 use Rattle.std.proofs.lemmas.Bool.{true≢false}

@@ -5,7 +5,7 @@ use Rattle.std.proofs.lemmas.List.Elements.{All-contains, All-contains_itself, A
 use Rattle.std.proofs.lemmas.List.Elements.{All-append, Contains-append_left}
 use Rattle.std.proofs.lemmas.List.Elements.{Contains-append_right, Contains-append_cases}
 use Rattle.std.proofs.lemmas.List.Elements.{Contains-push, Contains-push_cases}
-use Rattle.scale_info_interner.specs.Orders.{AreOrdered}
+use Rattle.scale_info_interner.specs.ElementOrders.{AreOrdered}
 
 -- an empty list contains nothing
 pub none_in : {X : Type 0} (x : X) → Contains [] x → ⊥

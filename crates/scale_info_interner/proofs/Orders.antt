@@ -1,6 +1,7 @@
 -- Indices in the elements' order: what a place found says, and what an edit at a place keeps.
 use Rattle.std.proofs.Common.{◌≡◌, ◌≢◌, ◌<◌, ◌≤◌, ◌+◌, ◌⊎◌, ℕ, zero, suc, Bool, IsTrue, List, []}
-use Rattle.std.proofs.Common.{◌∷◌, ◌++◌, Option, Some, None, length, take, drop, slice_get, inl, inr}
+use Rattle.std.proofs.Common.{◌∷◌, ◌++◌, Option, Some, None, length, take, drop, slice_get, inl}
+use Rattle.std.proofs.Common.{inr}
 use Rattle.std.proofs.Common.{refl, sym, ap, subst, ◌∙◌, Contains, append_assoc, arith, rules}
 use Rattle.std.specs.List.{All, concat}
 use Rattle.std.specs.Option.{option_map, unwrap_or}
@@ -18,10 +19,12 @@ use Rattle.std.proofs.lemmas.List.Elements.{All-contains, All-nil, All-head, All
 use Rattle.std.proofs.lemmas.List.Elements.{All-same, Contains-append_left, Contains-append_right}
 use Rattle.std.proofs.lemmas.List.Elements.{Contains-append_cases, Contains-push_cases}
 use Rattle.scale_info_interner.specs.Interned.{IsIndexOf, IsKnown, AreDistinctBy}
-use Rattle.scale_info_interner.specs.Orders.{against, IsBelow, AreOrdered, IsElementOrder, before, after}
-use Rattle.scale_info_interner.specs.Orders.{first_against, IsGapFor}
+use Rattle.scale_info_interner.specs.ElementOrders.{against, IsBelow, AreOrdered, IsElementOrder}
+use Rattle.scale_info_interner.specs.ElementOrders.{before, after}
+use Rattle.scale_info_interner.specs.ElementOrders.{first_against, IsGapFor}
 use Rattle.scale_info_interner.proofs.LastElement.{at_end, kept_at, last_at}
-use Rattle.scale_info_interner.proofs.Ordered.{none_in, head_or_tail, head_in, tail_in, all_from_contained}
+use Rattle.scale_info_interner.proofs.Ordered.{none_in, head_or_tail, head_in, tail_in}
+use Rattle.scale_info_interner.proofs.Ordered.{all_from_contained}
 use Rattle.scale_info_interner.proofs.Ordered.{ordered_left, ordered_right}
 use Rattle.scale_info_interner.proofs.Ordered.{ordered_across, ordered_append, ordered_weaker}
 

@@ -1,2 +1,2 @@
 pub mod Interned
-pub mod Orders
+pub mod ElementOrders

@@ -7,7 +7,7 @@
 ghost use Rattle.std.specs.List.{insert, remove};
 ghost use Rattle.std.specs.Prelude.{◌≡◌, ◌≢◌, ◌≤◌, ◌+◌, ◌↔◌, ℕ, IsTrue, OnErr, OnOk, length};
 ghost use Rattle.std.specs.declared.cmp.Ordering.TheVariants.{Greater};
-ghost use Rattle.scale_info_interner.specs.Orders.{against};
+ghost use Rattle.scale_info_interner.specs.ElementOrders.{against};
 
 use scale_info_collections::try_clone::TryClone;
 use std::alloc::{AllocError, Global};

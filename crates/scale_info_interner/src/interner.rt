@@ -6,7 +6,7 @@ ghost use Rattle.std.specs.List.{All, concat};
 ghost use Rattle.std.specs.Option.{option_copied};
 ghost use Rattle.std.specs.Cmp.Lexicographic.{pointwise, lists_equiv, lists_per};
 ghost use Rattle.scale_info_interner.specs.Interned.{IsIndexOf, IsKnown, IsNew, AreDistinctBy};
-ghost use Rattle.scale_info_interner.specs.Orders.{IsElementOrder, before, after};
+ghost use Rattle.scale_info_interner.specs.ElementOrders.{IsElementOrder, before, after};
 ghost use Rattle.scale_info_interner.specs.declared.interner.InternError.TheVariants.{Memory};
 
 use crate::order::{Place, find, insert, locate, merge_small, remove, split_full};
@@ -94,7 +94,7 @@ impl<T: Ord> Model for Interner<T> {
 
     ghost Value = { List T };
 
-    ghost use Rattle.scale_info_interner.specs.Orders.{IsElementOrder};
+    ghost use Rattle.scale_info_interner.specs.ElementOrders.{IsElementOrder};
 
     ghost view = { λ s. s.elements.items };
 

@@ -8,8 +8,8 @@ ghost use Rattle.std.specs.Prelude.{IfOk, IfErr, IfSome, OnOk, OnErr, IsTrue, le
 ghost use Rattle.std.specs.Prelude.{slice_get};
 ghost use Rattle.std.specs.Prelude.{vec_capacity, vec_len};
 ghost use Rattle.std.specs.declared.cmp.Ordering.TheVariants.{Less, Equal, Greater};
-ghost use Rattle.scale_info_interner.specs.Orders.{against, first_against, before, after};
-ghost use Rattle.scale_info_interner.specs.Orders.{IsFoundAt, IsGapFor, IsElementOrder};
+ghost use Rattle.scale_info_interner.specs.ElementOrders.{against, first_against, before, after};
+ghost use Rattle.scale_info_interner.specs.ElementOrders.{IsFoundAt, IsGapFor, IsElementOrder};
 
 use crate::bounds::{chunk_of, drop_bound, put_bound};
 use scale_info_collections::try_clone::TryClone;

@@ -4,7 +4,7 @@ use Rattle.std.specs.Prelude.{IfErr}
 use Rattle.std.specs.Result.{IsErrAnd}
 use Rattle.scale_info_json.specs.declared.error.JsonError.{JsonError}
 use Rattle.scale_info_json.specs.declared.error.JsonError.TheVariants as error
-use Rattle.scale_info_json.specs.Errors.{IfShape}
+use Rattle.scale_info_json.specs.JsonErrors.{IfShape}
 
 shape_on : {P Q : Type 0} (e : JsonError) → (P → Q) → IfShape P e → IfShape Q e
 shape_on error.Shape f p = f p

@@ -11,7 +11,7 @@ use Rattle.serde_json.proofs.Views.{Entry}
 use Rattle.std.specs.Prelude.{codes}
 use Rattle.scale_info_types.specs.Portable as portable
 use Rattle.scale_info_json_trees.specs.Meaning.{IsMeaningless}
-use Rattle.scale_info_json_trees.specs.Definitions.{MeansBitSequence, MeansUnder, bit_sequence}
+use Rattle.scale_info_json_trees.specs.DefinitionTrees.{MeansBitSequence, MeansUnder, bit_sequence}
 
 -- a tree that is read as an object is the object
 pub object_of_members : (d : Data) (ms : Members) → Some ms ≡ as_object d → d ≡ object ms

@@ -10,14 +10,16 @@ use Rattle.scale_info_primitives.specs.Primitives.{primitive_name}
 use Rattle.scale_info_json_trees.specs.Meaning.{IsMeaning, MeansNumber}
 use Rattle.scale_info_json.specs.Laws.{number_law, list_law, value_unique, list_at_unique}
 use Rattle.scale_info_json.specs.Laws.{no_object}
-use Rattle.scale_info_json_trees.specs.Described.{MeansId, MeansField, MeansVariant}
+use Rattle.scale_info_json_trees.specs.PartTrees.{MeansId, MeansField, MeansVariant}
 use Rattle.scale_info_json.specs.DescribedLaws.{id_law, field_law, variant_law}
-use Rattle.scale_info_json_trees.specs.Definitions.{MeansComposite, MeansVariantType, MeansSequence}
-use Rattle.scale_info_json_trees.specs.Definitions.{MeansArray, MeansCompact, MeansBitSequence}
-use Rattle.scale_info_json_trees.specs.Definitions.{MeansMap}
-use Rattle.scale_info_json_trees.specs.Definitions.{MeansPrimitive, MeansUnder, composite, variant}
-use Rattle.scale_info_json_trees.specs.Definitions.{sequence, array, tuple, primitive, compact}
-use Rattle.scale_info_json_trees.specs.Definitions.{bit_sequence, map, MeansTypeDef}
+use Rattle.scale_info_json_trees.specs.DefinitionTrees.{MeansComposite, MeansVariantType}
+use Rattle.scale_info_json_trees.specs.DefinitionTrees.{MeansSequence}
+use Rattle.scale_info_json_trees.specs.DefinitionTrees.{MeansArray, MeansCompact, MeansBitSequence}
+use Rattle.scale_info_json_trees.specs.DefinitionTrees.{MeansMap}
+use Rattle.scale_info_json_trees.specs.DefinitionTrees.{MeansPrimitive, MeansUnder, composite}
+use Rattle.scale_info_json_trees.specs.DefinitionTrees.{variant}
+use Rattle.scale_info_json_trees.specs.DefinitionTrees.{sequence, array, tuple, primitive, compact}
+use Rattle.scale_info_json_trees.specs.DefinitionTrees.{bit_sequence, map, MeansTypeDef}
 
 -- a tree means at most one composite
 pub composite_law : IsMeaning MeansComposite
@@ -68,7 +70,7 @@ array_law = record {
   not_null = λ v p. no_object p.object;
 }
 
--- a tree means at most one compact number
+-- a tree means at most one compact integer
 pub compact_law : IsMeaning MeansCompact
 compact_law = record {
   unique = λ d v w p q i. record {

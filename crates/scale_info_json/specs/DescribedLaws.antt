@@ -3,7 +3,7 @@ use Rattle.std.specs.Prelude.{◌^◌, codes}
 use Rattle.scale_info_json_trees.specs.Meaning.{IsMeaning, MeansNumber, MeansText}
 use Rattle.scale_info_json.specs.Laws.{number_law, text_law, value_unique, list_at_unique}
 use Rattle.scale_info_json.specs.Laws.{option_unique, no_object, through_law}
-use Rattle.scale_info_json_trees.specs.Described.{MeansId, MeansParameter, MeansField, MeansVariant}
+use Rattle.scale_info_json_trees.specs.PartTrees.{MeansId, MeansParameter, MeansField, MeansVariant}
 
 -- a tree means at most one id
 pub id_law : IsMeaning MeansId

@@ -3,12 +3,12 @@ use Rattle.std.specs.Prelude.{◌^◌, codes}
 use Rattle.scale_info_json_trees.specs.Meaning.{IsMeaning, MeansNumber, MeansText, MeansList}
 use Rattle.scale_info_json.specs.Laws.{number_law, text_law, list_law, value_unique, list_at_unique}
 use Rattle.scale_info_json.specs.Laws.{no_object}
-use Rattle.scale_info_json_trees.specs.Described.{MeansParameter}
+use Rattle.scale_info_json_trees.specs.PartTrees.{MeansParameter}
 use Rattle.scale_info_json.specs.DescribedLaws.{parameter_law}
-use Rattle.scale_info_json_trees.specs.Definitions.{MeansTypeDef}
+use Rattle.scale_info_json_trees.specs.DefinitionTrees.{MeansTypeDef}
 use Rattle.scale_info_json.specs.DefinitionLaws.{type_def_law}
-use Rattle.scale_info_json.specs.Tables.{MeansTable}
-use Rattle.scale_info_json_trees.specs.Entries.{MeansDescription, MeansEntry}
+use Rattle.scale_info_json.specs.JsonTables.{MeansTable}
+use Rattle.scale_info_json_trees.specs.EntryTrees.{MeansDescription, MeansEntry}
 
 -- a tree means at most one description
 pub description_law : IsMeaning MeansDescription

@@ -3,17 +3,20 @@ ghost use Rattle.std.specs.Prelude.{◌≡◌, refl, List, ℕ, IfSome, IfNone, 
 ghost use Rattle.serde_json.specs.Data.{Data};
 ghost use Rattle.serde_json.specs.View.{view};
 ghost use Rattle.scale_info_primitives.specs.Primitives.{primitive_name};
-ghost use Rattle.scale_info_json.specs.Errors.{IfShape};
+ghost use Rattle.scale_info_json.specs.JsonErrors.{IfShape};
 ghost use Rattle.scale_info_json_trees.specs.Meaning.{IsMeaningless};
-ghost use Rattle.scale_info_json_trees.specs.Definitions.{composite_rows, MeansComposite};
-ghost use Rattle.scale_info_json_trees.specs.Definitions.{variant_type_rows, MeansVariantType};
-ghost use Rattle.scale_info_json_trees.specs.Definitions.{sequence_rows, MeansSequence, array_rows};
-ghost use Rattle.scale_info_json_trees.specs.Definitions.{MeansArray, compact_rows, MeansCompact};
-ghost use Rattle.scale_info_json_trees.specs.Definitions.{bit_sequence_rows, MeansBitSequence};
-ghost use Rattle.scale_info_json_trees.specs.Definitions.{map_rows};
-ghost use Rattle.scale_info_json_trees.specs.Definitions.{MeansMap, primitive_tree, MeansPrimitive};
-ghost use Rattle.scale_info_json_trees.specs.Definitions.{type_def_rows, HasOnly, MeansUnder};
-ghost use Rattle.scale_info_json_trees.specs.Definitions.{MeansTypeDef};
+ghost use Rattle.scale_info_json_trees.specs.DefinitionTrees.{composite_rows, MeansComposite};
+ghost use Rattle.scale_info_json_trees.specs.DefinitionTrees.{variant_type_rows, MeansVariantType};
+ghost use Rattle.scale_info_json_trees.specs.DefinitionTrees.{sequence_rows, MeansSequence};
+ghost use Rattle.scale_info_json_trees.specs.DefinitionTrees.{array_rows};
+ghost use Rattle.scale_info_json_trees.specs.DefinitionTrees.{MeansArray, compact_rows};
+ghost use Rattle.scale_info_json_trees.specs.DefinitionTrees.{MeansCompact};
+ghost use Rattle.scale_info_json_trees.specs.DefinitionTrees.{bit_sequence_rows, MeansBitSequence};
+ghost use Rattle.scale_info_json_trees.specs.DefinitionTrees.{map_rows};
+ghost use Rattle.scale_info_json_trees.specs.DefinitionTrees.{MeansMap, primitive_tree};
+ghost use Rattle.scale_info_json_trees.specs.DefinitionTrees.{MeansPrimitive};
+ghost use Rattle.scale_info_json_trees.specs.DefinitionTrees.{type_def_rows, HasOnly, MeansUnder};
+ghost use Rattle.scale_info_json_trees.specs.DefinitionTrees.{MeansTypeDef};
 ghost use Rattle.scale_info_json.specs.DefinitionLaws.{composite_law, variant_type_law};
 ghost use Rattle.scale_info_json.specs.DefinitionLaws.{sequence_law, array_law, compact_law};
 ghost use Rattle.scale_info_json.specs.DefinitionLaws.{bit_sequence_law, map_law, primitive_law};
@@ -21,7 +24,7 @@ ghost use Rattle.scale_info_json.specs.DefinitionLaws.{type_def_law};
 
 use crate::error::JsonError;
 use crate::members::{Object, ObjectWriter, write_unless_empty};
-use crate::reading::{list_or_empty, require_object, required};
+use crate::read_members::{list_or_empty, require_object, required};
 use crate::tree::Json;
 use json::Writer;
 use scale_info_collections::items::Items;
@@ -197,7 +200,7 @@ impl Object for TypeDefMap<PortableForm> {
 }
 
 /// The primitive with a name; None where no primitive has it.
-fn primitive_of(name: &str) -> Option<TypeDefPrimitive>
+fn primitive_named(name: &str) -> Option<TypeDefPrimitive>
     ensures some { IfSome result (λ p. name.now ≡ primitive_name p) }
     ensures none { IfNone result (IsMeaningless (λ p. name.now ≡ primitive_name p)) }
 {
@@ -236,7 +239,7 @@ impl Json for TypeDefPrimitive {
 
     fn from_json(_alloc: Global, tree: &Value) -> Result<TypeDefPrimitive, JsonError> {
         match tree.as_str() {
-            Some(name) => match primitive_of(name) {
+            Some(name) => match primitive_named(name) {
                 Some(primitive) => Ok(primitive),
                 None => Err(JsonError::Shape),
             },
@@ -264,7 +267,7 @@ fn only_member(tree: &Value) -> Option<(&str, &Value)>
 /// The definition that a key and its tree mean.
 ///
 /// Errors: `Shape`, where they mean none; `Memory`, if an allocation failed.
-#[tactic(auto, using(scale_info_json_trees::specs::Definitions::definitions))]
+#[tactic(auto, using(scale_info_json_trees::specs::DefinitionTrees::definitions))]
 fn definition_under(
     alloc: Global,
     key: &str,
@@ -296,7 +299,7 @@ impl Object for TypeDef<PortableForm> {
 
     ghost meant = { MeansTypeDef };
 
-    #[tactic(auto, using(scale_info_json_trees::specs::Definitions::definitions))]
+    #[tactic(auto, using(scale_info_json_trees::specs::DefinitionTrees::definitions))]
     fn write_members<W: ObjectWriter>(&self, out: &mut W) -> Result<(), AllocError> {
         match self {
             TypeDef::Composite(def) => out.write_member("composite", def),

@@ -1,16 +1,16 @@
 //! Parts of descriptions as trees.
 ghost use Rattle.std.specs.Prelude.{refl};
 ghost use Rattle.serde_json.specs.Data.{number, unsigned};
-ghost use Rattle.scale_info_json_trees.specs.Described.{id_tree, MeansId, field_rows, MeansField};
-ghost use Rattle.scale_info_json_trees.specs.Described.{parameter_rows, MeansParameter};
-ghost use Rattle.scale_info_json_trees.specs.Described.{variant_rows};
-ghost use Rattle.scale_info_json_trees.specs.Described.{MeansVariant};
+ghost use Rattle.scale_info_json_trees.specs.PartTrees.{id_tree, MeansId, field_rows, MeansField};
+ghost use Rattle.scale_info_json_trees.specs.PartTrees.{parameter_rows, MeansParameter};
+ghost use Rattle.scale_info_json_trees.specs.PartTrees.{variant_rows};
+ghost use Rattle.scale_info_json_trees.specs.PartTrees.{MeansVariant};
 ghost use Rattle.scale_info_json.specs.DescribedLaws.{id_law, field_law, parameter_law};
 ghost use Rattle.scale_info_json.specs.DescribedLaws.{variant_law};
 
 use crate::error::JsonError;
 use crate::members::{Object, ObjectWriter, write_or_null, write_unless_empty, write_unless_none};
-use crate::reading::{list_or_empty, require_object, required, value_or_none};
+use crate::read_members::{list_or_empty, require_object, required, value_or_none};
 use crate::tree::Json;
 use json::Writer;
 use scale_info_identities::symbol::UntrackedSymbol;

@@ -2,8 +2,8 @@
 ghost use Rattle.std.specs.Prelude.{◌≡◌, ◌↔◌, ◌++◌, IsTrue, codes};
 ghost use Rattle.serde_json.specs.Data.{Data};
 ghost use Rattle.serde_json.specs.Written.{compact_text};
-ghost use Rattle.scale_info_json.specs.Tables.{table_tree, MeansTable};
-ghost use Rattle.scale_info_json.specs.Examples.{vec_u32};
+ghost use Rattle.scale_info_json.specs.JsonTables.{table_tree, MeansTable};
+ghost use Rattle.scale_info_json.specs.JsonExamples.{vec_u32};
 ghost use Rattle.scale_info_json.specs.declared.error.JsonError as json_errors;
 
 use crate::error::JsonError;

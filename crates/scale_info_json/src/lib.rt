@@ -11,12 +11,12 @@ pub mod laws;
 mod list;
 mod members;
 mod number;
-mod reading;
-mod registry;
+mod portable;
+mod read_members;
 mod table;
 mod text;
 mod tree;
 
 pub use error::JsonError;
-pub use registry::{append_json, from_json, to_json};
+pub use portable::{append_json, from_json, to_json};
 pub use tree::Json;

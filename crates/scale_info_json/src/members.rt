@@ -4,7 +4,7 @@ ghost use Rattle.std.specs.Prelude.{IfSome, option_map};
 ghost use Rattle.json.specs.Token.{Token};
 ghost use Rattle.serde_json.specs.Data.{Data, Members as DataMembers, null};
 ghost use Rattle.serde_json.specs.View.{view, members_view};
-ghost use Rattle.scale_info_json.specs.Errors.{IfShape};
+ghost use Rattle.scale_info_json.specs.JsonErrors.{IfShape};
 ghost use Rattle.scale_info_json_trees.specs.Meaning.{IsMeaning, IsMeaningless, MeansList};
 ghost use Rattle.scale_info_json_trees.specs.Written.{Row, list_tree, unless_empty, or_null};
 ghost use Rattle.scale_info_json_trees.specs.Written.{object_tree};

@@ -1,13 +1,13 @@
 //! Descriptions and entries of a table as trees.
 ghost use Rattle.std.specs.Prelude.{refl};
-ghost use Rattle.scale_info_json_trees.specs.Entries.{description_rows, MeansDescription};
-ghost use Rattle.scale_info_json_trees.specs.Entries.{entry_rows};
-ghost use Rattle.scale_info_json_trees.specs.Entries.{MeansEntry};
+ghost use Rattle.scale_info_json_trees.specs.EntryTrees.{description_rows, MeansDescription};
+ghost use Rattle.scale_info_json_trees.specs.EntryTrees.{entry_rows};
+ghost use Rattle.scale_info_json_trees.specs.EntryTrees.{MeansEntry};
 ghost use Rattle.scale_info_json.specs.TableLaws.{description_law, entry_law};
 
 use crate::error::JsonError;
 use crate::members::{Object, ObjectWriter, write_unless_empty};
-use crate::reading::{list_or_empty, require_object, required};
+use crate::read_members::{list_or_empty, require_object, required};
 use scale_info_collections::items::Items;
 use scale_info_collections::text::Text;
 use scale_info_types::form::PortableForm;

@@ -2,7 +2,7 @@
 ghost use Rattle.std.specs.Prelude.{◌≡◌, ◌++◌, IfOk, IfErr, OnOk};
 ghost use Rattle.serde_json.specs.Data.{Data};
 ghost use Rattle.serde_json.specs.View.{view};
-ghost use Rattle.scale_info_json.specs.Errors.{IfShape};
+ghost use Rattle.scale_info_json.specs.JsonErrors.{IfShape};
 ghost use Rattle.scale_info_json_trees.specs.Meaning.{IsMeaning, IsMeaningless};
 ghost use Rattle.scale_info_json_trees.specs.Steps.{tokens_of};
 

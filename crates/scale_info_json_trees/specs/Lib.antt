@@ -1,6 +1,6 @@
 pub mod Meaning
 pub mod Written
 pub mod Steps
-pub mod Described
-pub mod Definitions
-pub mod Entries
+pub mod PartTrees
+pub mod DefinitionTrees
+pub mod EntryTrees

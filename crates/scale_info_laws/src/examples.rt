@@ -1,7 +1,7 @@
 //! References and shapes tried on small descriptions, so that a definition which is met by another
 //! order or by another shape is caught. A function here does nothing when it runs; its clauses are
 //! proved.
-ghost use Rattle.scale_info_types.specs.Examples.{
+ghost use Rattle.scale_info_types.specs.TypeExamples.{
   array,
   bit_sequence,
   example_pair,

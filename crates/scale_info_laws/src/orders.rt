@@ -97,7 +97,7 @@ pub fn ordered_descriptions<T: Form>()
         (slice_cmp T.String.cmp a.docs b.docs))) }
 {}
 
-/// Composites are ordered by their fields, enums by their variants, sequences and compact numbers
+/// Composites are ordered by their fields, enums by their variants, sequences and compact integers
 /// by their one type, arrays by their lengths and then by their types, tuples by their members,
 /// bit sequences by their stores and then by their orders, and maps by their keys and then by their
 /// values.

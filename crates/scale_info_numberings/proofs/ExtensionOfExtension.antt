@@ -9,8 +9,8 @@ use Rattle.scale_info_numberings.proofs.Places.{begins_at, begins_from, begins_l
 use Rattle.scale_info_numberings.proofs.Walking.{join_walks, move_walk}
 use Rattle.scale_info_numberings.specs.Extensions.{IsExtension, IsExtensionWith}
 use Rattle.scale_info_numberings.specs.Numberings.{IsNumbering, Walks}
-use Rattle.scale_info_numberings.specs.Registrations.{AreRegistrations, Registration, all_roots}
-use Rattle.scale_info_numberings.specs.Registrations.{last_registration}
+use Rattle.scale_info_numberings.specs.RegistrationLists.{AreRegistrations, Registration, all_roots}
+use Rattle.scale_info_numberings.specs.RegistrationLists.{last_registration}
 use Rattle.scale_info_numberings.specs.Systems.{Entry, System}
 
 -- the ends of the first below a place, and those of the second from there on

@@ -12,14 +12,15 @@ use Rattle.scale_info_numberings.proofs.ByEnumeration.{numbering_listed, path_li
 use Rattle.scale_info_numberings.proofs.Matches.{match_exactly}
 use Rattle.scale_info_numberings.proofs.Places.{contains_cases, contains_head, contains_tail}
 use Rattle.scale_info_numberings.proofs.Tables.{one_table}
-use Rattle.scale_info_numberings.specs.Examples.{A, B, C, Composite, D, composites, entry, only_c}
-use Rattle.scale_info_numberings.specs.Examples.{registration_of_c, registration_of_d}
-use Rattle.scale_info_numberings.specs.Examples.{table_as_declared, table_from_a}
+use Rattle.scale_info_numberings.specs.NumberingExamples.{A, B, C, Composite, D, composites, entry}
+use Rattle.scale_info_numberings.specs.NumberingExamples.{only_c}
+use Rattle.scale_info_numberings.specs.NumberingExamples.{registration_of_c, registration_of_d}
+use Rattle.scale_info_numberings.specs.NumberingExamples.{table_as_declared, table_from_a}
 use Rattle.scale_info_numberings.specs.Extensions.{IsExtension}
 use Rattle.scale_info_numberings.specs.Matches.{IsMatch}
 use Rattle.scale_info_numberings.specs.Numberings.{IsNumbering, IsNumberingWith}
 use Rattle.scale_info_numberings.specs.Paths.{IsPath}
-use Rattle.scale_info_numberings.specs.Registrations.{AreRegistrations}
+use Rattle.scale_info_numberings.specs.RegistrationLists.{AreRegistrations}
 use Rattle.scale_info_numberings.specs.Systems.{Entry, Grows, IsReachedPast, next, root}
 use Rattle.scale_info_numberings.specs.Tables.{IsTable, table_system}
 

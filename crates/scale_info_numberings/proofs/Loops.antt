@@ -9,8 +9,9 @@ use Rattle.scale_info_numberings.proofs.ByEnumeration.{not_contained, numbering_
 use Rattle.scale_info_numberings.proofs.Matches.{match_image, match_numbering}
 use Rattle.scale_info_numberings.proofs.Places.{contains_cases, contains_head, contains_tail}
 use Rattle.scale_info_numberings.proofs.Reached.{numbering_inside}
-use Rattle.scale_info_numberings.specs.Examples.{cycle_of_three, cycle_of_two, entry, leads_inside}
-use Rattle.scale_info_numberings.specs.Examples.{leads_outside, self_reference}
+use Rattle.scale_info_numberings.specs.NumberingExamples.{cycle_of_three, cycle_of_two, entry}
+use Rattle.scale_info_numberings.specs.NumberingExamples.{leads_inside}
+use Rattle.scale_info_numberings.specs.NumberingExamples.{leads_outside, self_reference}
 use Rattle.scale_info_numberings.specs.Matches.{AreAlike, IsMatch, Pairs}
 use Rattle.scale_info_numberings.specs.Numberings.{IsNumbering, IsNumberingWith}
 use Rattle.scale_info_numberings.specs.Systems.{Entry, IsReached, next, root}

@@ -1,5 +1,6 @@
 -- What a walk by a list of work keeps.
-use Rattle.std.proofs.Common.{◌≡◌, ℕ, zero, suc, ◌+◌, ◌<◌, ◌≤◌, List, [], ◌∷◌, ◌++◌, length, Some, slice_get}
+use Rattle.std.proofs.Common.{◌≡◌, ℕ, zero, suc, ◌+◌, ◌<◌, ◌≤◌, List, [], ◌∷◌, ◌++◌, length, Some}
+use Rattle.std.proofs.Common.{slice_get}
 use Rattle.std.proofs.Common.{ap, sym, ◌∙◌, subst, arith, ◌⊎◌, inl, inr, Contains}
 use Rattle.std.proofs.lemmas.Bool.{cases_lt}
 use Rattle.std.proofs.lemmas.List.{length_push}
@@ -8,7 +9,8 @@ use Rattle.std.proofs.lemmas.Option.{slice_get_within, same_Some, none-some}
 use Rattle.scale_info_numberings.specs.Systems.{Entry, System, IsReachedPast, root, next}
 use Rattle.scale_info_numberings.specs.Numberings.{AreDistinct}
 use Rattle.scale_info_numberings.specs.Extensions.{IsExtension}
-use Rattle.scale_info_numberings.proofs.Places.{place_of, contains_at, contains_head, contains_tail, from_left, at_seam}
+use Rattle.scale_info_numberings.proofs.Places.{place_of, contains_at, contains_head, contains_tail}
+use Rattle.scale_info_numberings.proofs.Places.{from_left, at_seam}
 use Rattle.scale_info_numberings.proofs.FirstReference.{extension_unfolds, extends_by_none}
 
 -- distinct elements, and one more that is none of them, are distinct

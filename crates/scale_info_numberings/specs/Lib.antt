@@ -1,9 +1,9 @@
-pub mod Examples
+pub mod NumberingExamples
 pub mod Extensions
 pub mod Matches
 pub mod Numberings
 pub mod Paths
-pub mod Registrations
+pub mod RegistrationLists
 pub mod Systems
 pub mod Tables
 pub mod Unfoldings

@@ -11,7 +11,7 @@ ghost use Rattle.scale_info_numberings.specs.Extensions.{IsExtension, IsExtensio
 ghost use Rattle.scale_info_numberings.specs.Matches.{IsMatch, Pairs};
 ghost use Rattle.scale_info_numberings.specs.Numberings.{IsNumbering};
 ghost use Rattle.scale_info_numberings.specs.Paths.{IsPath, IsPathPast};
-ghost use Rattle.scale_info_numberings.specs.Registrations.{
+ghost use Rattle.scale_info_numberings.specs.RegistrationLists.{
   AreRegistrations,
   Registration,
   all_roots,

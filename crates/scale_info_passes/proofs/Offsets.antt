@@ -5,7 +5,7 @@ use Rattle.std.proofs.Common.{append_assoc, length-append, length-take, length-d
 use Rattle.std.specs.List.{AllZip, slice_get, flat_map}
 use Rattle.std.proofs.lemmas.Grind.{flat_map-append}
 use Rattle.std.proofs.lemmas.List.{take_more, take_at, append-nil}
-use Rattle.scale_info_types.specs.Entries.{kept_entry}
+use Rattle.scale_info_types.specs.KeptEntries.{kept_entry}
 use Rattle.scale_info_types.specs.Portable.{Id}
 use Rattle.scale_info_types.specs.References.{references}
 use Rattle.scale_info_types.specs.Shapes.{map_description}
@@ -14,9 +14,10 @@ use Rattle.std.proofs.Math.Seq.{drop-append_seam}
 use Rattle.scale_info_types.specs.declared.ty.PortableType.{PortableType}
 use Rattle.scale_info_type_ids.specs.declared.impls.Compact.{Compact}
 use Rattle.scale_info_bytes.specs.Encodings.{HasPrefix, HasNoPrefix, IsEncoding, AppendsEncoding}
-use Rattle.scale_info_bytes.specs.Numbers.{EncodesCompact}
+use Rattle.scale_info_bytes.specs.Integers.{EncodesCompact}
 use Rattle.scale_info_bytes.specs.Parts.{EncodesItems}
-use Rattle.scale_info_grammar.specs.Ty.{EncodesDescription, EncodesPortableType, portable_type_parts}
+use Rattle.scale_info_grammar.specs.Ty.{EncodesDescription, EncodesPortableType}
+use Rattle.scale_info_grammar.specs.Ty.{portable_type_parts}
 use Rattle.scale_info_grammar.specs.TyLaws.{portable_type_law, description_law}
 use Rattle.scale_info_bytes.specs.CompactLaws.{compact_law}
 use Rattle.scale_info_bytes.specs.PartLaws.{through_law}
@@ -29,12 +30,12 @@ use Rattle.scale_info_bytes.proofs.Steps.{prefix_item, prefix_pair, same_prefix,
 use Rattle.scale_info_bytes.proofs.Steps.{appends_item, no_prefix_first, no_prefix_second}
 use Rattle.scale_info_bytes.proofs.Steps.{no_prefix_through, no_next}
 
--- a compact number by its encoding
-abbrev pub EncodesNumber : Compact ℕ → List ℕ → Type 0
-EncodesNumber n b = EncodesCompact n.0 b
+-- a compact integer by its encoding
+abbrev pub EncodesInteger : Compact ℕ → List ℕ → Type 0
+EncodesInteger n b = EncodesCompact n.0 b
 
-number_law : IsEncoding EncodesNumber
-number_law = through_law (λ v. v.0) (λ v w e i. record { 0 = e i }) compact_law
+integer_law : IsEncoding EncodesInteger
+integer_law = through_law (λ v. v.0) (λ v w e i. record { 0 = e i }) compact_law
 
 -- one more element on both sides
 pub zip_on :
@@ -54,7 +55,7 @@ drop_to_rest a x b e =
 -- one more entry
 abbrev pub one_entry :
     {n : ℕ} {a b d c offsets offsets' : List ℕ}
-    → HasEntries n a b offsets → HasSomePrefix EncodesNumber b d
+    → HasEntries n a b offsets → HasSomePrefix EncodesInteger b d
     → HasSomePrefix EncodesDescription d c → offsets' ≡ offsets ++ (length a - length d) ∷ []
     → HasEntries (n + 1) a c offsets'
 one_entry {n} {a} {b} {d} {c} {offsets} p i v e =
@@ -77,7 +78,7 @@ one_entry {n} {a} {b} {d} {c} {offsets} p i v e =
       count = omega (arith, p.count, length-append p.entries (entry ∷ []));
       prefix =
           prefix_item EncodesPortableType _ _ _ _ _ _ refl p.prefix
-          (prefix_pair {S = EncodesNumber} {R = EncodesDescription} {v = portable_type_parts entry} i.prefix v.prefix);
+          (prefix_pair {S = EncodesInteger} {R = EncodesDescription} {v = portable_type_parts entry} i.prefix v.prefix);
       at_offsets =
           subst (AllZip (IsAtOffset a) (p.entries ++ entry ∷ [])) (sym e)
           (zip_on (IsAtOffset a) p.entries offsets entry (length a - length d) p.at_offsets at_offset);
@@ -91,15 +92,15 @@ pub no_entry :
 no_entry n m a b offsets l p none = record { none = no_next EncodesPortableType portable_type_law p.entries a b n (omega (arith, p.count)) p.prefix none }
 
 -- no number: no entry
-pub no_number : {b : List ℕ} → HasNoPrefix EncodesNumber b → HasNoPrefix EncodesPortableType b
+pub no_number : {b : List ℕ} → HasNoPrefix EncodesInteger b → HasNoPrefix EncodesPortableType b
 no_number n = no_prefix_through portable_type_parts (no_prefix_first {R = EncodesDescription} n)
 
 -- a number and no description: no entry
 pub no_description :
     {b d : List ℕ}
-    → HasSomePrefix EncodesNumber b d → HasNoPrefix EncodesDescription d
+    → HasSomePrefix EncodesInteger b d → HasNoPrefix EncodesDescription d
     → HasNoPrefix EncodesPortableType b
-no_description i n = no_prefix_through portable_type_parts (no_prefix_second number_law i.prefix n)
+no_description i n = no_prefix_through portable_type_parts (no_prefix_second integer_law i.prefix n)
 
 -- ---- entries that are kept
 
@@ -133,7 +134,7 @@ appends_entry entries f k i input offsets d rest a b c z l e p q =
       kept = kept_entry f k at.0;
       is_kept = record { entry = at.0; found = at.1; is = refl };
       appends =
-          appends_pair {S = EncodesNumber} {R = EncodesDescription}
+          appends_pair {S = EncodesInteger} {R = EncodesDescription}
           {v = portable_type_parts (kept_entry f k at.0)} p wrote;
     }
 
@@ -211,7 +212,7 @@ starts_on k n (x ∷ es) (s ∷ ss) e p h =
 -- one more entry was indexed
 pub one_indexed :
     {n : ℕ} {a b d c offsets offsets' starts starts' ids ids' : List ℕ}
-    → IsEntryIndex n a b offsets starts ids → HasSomePrefix EncodesNumber b d
+    → IsEntryIndex n a b offsets starts ids → HasSomePrefix EncodesInteger b d
     → AppendsReferences EncodesDescription references d c ids ids'
     → offsets' ≡ offsets ++ (length a - length d) ∷ [] → starts' ≡ starts ++ length ids ∷ []
     → IsEntryIndex (n + 1) a c offsets' starts' ids'

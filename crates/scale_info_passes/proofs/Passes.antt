@@ -7,7 +7,7 @@ use Rattle.std.proofs.lemmas.Grind.{flat_map-append}
 use Rattle.std.proofs.lemmas.List.{append-nil, map-append, length-map}
 use Rattle.scale_info_types.specs.Portable.{Id}
 use Rattle.scale_info_bytes.specs.Encodings.{HasPrefix}
-use Rattle.scale_info_bytes.specs.Numbers.{EncodesCompact}
+use Rattle.scale_info_bytes.specs.Integers.{EncodesCompact}
 use Rattle.scale_info_bytes.specs.Parts.{EncodesPair, EncodesOption, EncodesItems, EncodesList}
 use Rattle.scale_info_passes.specs.PieceLaws.{references_append, split_pieces}
 use Rattle.scale_info_passes.specs.Pieces.{Piece, verbatim, reference, references_in, ArePiecesOf}

@@ -1,7 +1,7 @@
 -- The entries of a table, by the offsets of their descriptions.
 use Rattle.std.specs.Prelude.{◌≡◌, ℕ, ◌+◌, ◌≤◌, List, [], ◌∷◌, length, drop, Some, slice_get}
 use Rattle.std.specs.List.{AllZip, flat_map}
-use Rattle.scale_info_types.specs.Entries.{kept_entry}
+use Rattle.scale_info_types.specs.KeptEntries.{kept_entry}
 use Rattle.scale_info_types.specs.Portable.{Id}
 use Rattle.scale_info_types.specs.References.{references}
 use Rattle.scale_info_types.specs.declared.ty.PortableType.{PortableType}

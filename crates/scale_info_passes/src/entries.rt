@@ -10,7 +10,7 @@ ghost use Rattle.scale_info_passes.specs.Entries.{AppendsKeptEntry, AppendsKeptE
 ghost use Rattle.scale_info_passes.specs.Visits.{renumbered};
 
 use crate::visitors::{gather, renumber, skip};
-use scale_info_bytes::number::encode_compact;
+use scale_info_bytes::integer::encode_compact;
 use scale_info_type_ids::impls::Compact;
 use scale_info_types::form::PortableForm;
 use scale_info_types::ty::Description;

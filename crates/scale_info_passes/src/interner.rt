@@ -4,7 +4,7 @@ ghost use Rattle.scale_info_grammar.specs.Ty.{EncodesId};
 ghost use Rattle.scale_info_grammar.specs.TyLaws.{id_law};
 
 use crate::pass::{Pass, Visitor};
-use scale_info_bytes::number::decode_compact;
+use scale_info_bytes::integer::decode_compact;
 use scale_info_identities::symbol::UntrackedSymbol;
 use scale_info_identities::type_id::TypeId;
 

@@ -6,9 +6,9 @@
 #![tactic(auto)]
 
 pub mod entries;
+mod integer;
 mod interner;
 mod list;
-mod number;
 mod option;
 mod pair;
 pub mod pass;

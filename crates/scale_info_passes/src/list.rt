@@ -6,7 +6,7 @@ ghost use Rattle.scale_info_bytes.specs.PartLaws.{list_law};
 ghost use Rattle.scale_info_bytes.specs.Parts.{EncodesList, HasNoItems};
 
 use crate::pass::{Pass, Visitor, visit_verbatim};
-use scale_info_bytes::number::decode_compact;
+use scale_info_bytes::integer::decode_compact;
 use scale_info_collections::items::Items;
 
 /// Goes over as many items as the count says.

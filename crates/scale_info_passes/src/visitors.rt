@@ -9,7 +9,7 @@ ghost use Rattle.scale_info_passes.specs.VisitLaws.{renumbers_none, renumbers_ap
 ghost use Rattle.scale_info_passes.specs.VisitLaws.{gathers_none, gathers_append};
 
 use crate::pass::{Pass, Visitor};
-use scale_info_bytes::number::encode_compact;
+use scale_info_bytes::integer::encode_compact;
 use scale_info_identities::symbol::UntrackedSymbol;
 use scale_info_identities::type_id::TypeId;
 use std::alloc::{AllocError, Global};
@@ -47,13 +47,13 @@ pub fn skip<T: Pass>(input: &[u8]) -> Option<&[u8]>
 
 /// Writes the pieces, each reference by its new number.
 #[derive(Drop)]
-struct Renumbering<'a> {
+struct Rewriting<'a> {
     numbers: &'a [u32],
     out: Vec<u8>,
     failed: bool,
 }
 
-impl<'a> Visitor for Renumbering<'a> {
+impl<'a> Visitor for Rewriting<'a> {
     ghost visited = { λ ps a b. (b.numbers ≡ a.numbers)
         × RenumbersPieces (renumbered a.numbers.now) ps a.failed b.failed a.out.items b.out.items };
 
@@ -100,7 +100,7 @@ pub fn renumber<'a, T: Pass>(
         input.now rest.now out.old.items out.new.items) }
     ensures keeps { IsPrefix out.old.items out.new.items }
 {
-    let mut renumbering = Renumbering {
+    let mut renumbering = Rewriting {
         numbers,
         out: std::mem::replace(out, Vec::new(alloc)),
         failed: false,

@@ -1,5 +1,6 @@
 -- What a numbered index says of the table that the input encodes.
-use Rattle.std.proofs.Common.{◌≢◌, ◌↔◌, Some, slice_get, ◌≡◌, ℕ, ◌<◌, ◌≤◌, List, [], ◌∷◌, length, refl, ap, sym, ◌∙◌, subst, arith, suc, All, get_or}
+use Rattle.std.proofs.Common.{◌≢◌, ◌↔◌, Some, slice_get, ◌≡◌, ℕ, ◌<◌, ◌≤◌, List, [], ◌∷◌, length}
+use Rattle.std.proofs.Common.{refl, ap, sym, ◌∙◌, subst, arith, suc, All, get_or}
 use Rattle.std.proofs.lemmas.List.Elements.{Contains-get_or}
 use Rattle.std.proofs.lemmas.Option.{slice_get_within}
 use Rattle.std.specs.BTreeMap.{BTreeMap, get}
@@ -12,14 +13,18 @@ use Rattle.scale_info_walk.proofs.KeptEntries.{kept_table, kept_ids}
 use Rattle.scale_info_walk.proofs.Visiting.{numbers_long, numbers_within}
 use Rattle.scale_info_walk.specs.TypeSystems.{types_system}
 use Rattle.scale_info_walk.specs.declared.walk.RetainError.TheVariants as retain
-use Rattle.scale_info_prune.proofs.ByteIndexes.{index_alike, index_long, same_numbering, same_reached}
+use Rattle.scale_info_prune.proofs.ByteIndexes.{index_alike, index_long, same_numbering}
+use Rattle.scale_info_prune.proofs.ByteIndexes.{same_reached}
 use Rattle.scale_info_prune.proofs.TableIndexes.{kept_entries, written_agrees, written_number}
 use Rattle.scale_info_prune.specs.ByteIndexes.{index_system}
-use Rattle.scale_info_prune.specs.Prunes.{HasNewIds, IsIndexError, IsIndexNumbering, IsPruneError, IsPrunedEncoding, IsTableError}
+use Rattle.scale_info_prune.specs.Prunes.{HasNewIds, IsIndexError, IsIndexNumbering, IsPruneError}
+use Rattle.scale_info_prune.specs.Prunes.{IsPrunedEncoding, IsTableError}
 use Rattle.scale_info_prune.specs.Roots.{AreRoots, IsNoSuchType}
 use Rattle.scale_info_prune.specs.TableIndexes.{AppendsKeptTable, IsTableIndex}
 use Rattle.scale_info_prune.specs.declared.prune.PruneError.{PruneError}
-use Rattle.scale_info_prune.specs.declared.prune.PruneError.TheVariants.{Decode, Trailing, NoSuchType, Retain, Encode, Memory}
+use Rattle.scale_info_prune.specs.declared.prune.PruneError.TheVariants.{Decode, Trailing}
+use Rattle.scale_info_prune.specs.declared.prune.PruneError.TheVariants.{NoSuchType, Retain, Encode}
+use Rattle.scale_info_prune.specs.declared.prune.PruneError.TheVariants.{Memory}
 
 -- why the input is not found to be one table is also why it is not pruned
 pub table_error : (input given : List ℕ) (e : PruneError) → IsTableError input e → IsPruneError input given e

@@ -1,5 +1,6 @@
 -- Indexes of whole tables, and the writing of what is kept.
-use Rattle.std.proofs.Common.{◌≡◌, ◌≢◌, ◌==◌, ℕ, zero, suc, ◌+◌, List, [], ◌∷◌, ◌++◌, length, Some, true, false}
+use Rattle.std.proofs.Common.{◌≡◌, ◌≢◌, ◌==◌, ℕ, zero, suc, ◌+◌, List, [], ◌∷◌, ◌++◌, length, Some}
+use Rattle.std.proofs.Common.{true, false}
 use Rattle.std.proofs.Common.{slice_get, get_or, ap, sym, ◌∙◌, subst, arith, append-nil}
 use Rattle.std.proofs.lemmas.Bool.{eqb-true}
 use Rattle.std.proofs.lemmas.List.{nil_from_length}
@@ -7,11 +8,11 @@ use Rattle.std.proofs.lemmas.Option.{none-some, same_Some, get_or_from_slice_get
 use Rattle.scale_info_bytes.proofs.Lists.{prefix_list}
 use Rattle.scale_info_bytes.proofs.Steps.{appends_both}
 use Rattle.scale_info_bytes.specs.Encodings.{AppendsEncoding, HasPrefix}
-use Rattle.scale_info_bytes.specs.Numbers.{EncodesCompact}
+use Rattle.scale_info_bytes.specs.Integers.{EncodesCompact}
 use Rattle.scale_info_grammar.specs.Ty.{EncodesPortableType}
 use Rattle.scale_info_passes.specs.Entries.{AreKeptEntries, AppendsKeptEntries, IsEntryIndex}
 use Rattle.scale_info_passes.specs.Visits.{renumbered}
-use Rattle.scale_info_types.specs.Entries.{kept_entry}
+use Rattle.scale_info_types.specs.KeptEntries.{kept_entry}
 use Rattle.scale_info_types.specs.Portable.{Id}
 use Rattle.scale_info_types.specs.declared.ty.PortableType.{PortableType}
 use Rattle.scale_info_walk.proofs.KeptEntries.{Agrees}

@@ -2,7 +2,7 @@
 ghost use Rattle.std.specs.Prelude.{length};
 ghost use Rattle.scale_info_prune.specs.ByteIndexes.{index_system};
 
-use scale_info_walk::references::References;
+use scale_info_walk::graph::References;
 use scale_info_walk::refs::Refs;
 use std::alloc::{AllocError, Global};
 

@@ -9,7 +9,7 @@ ghost use Rattle.scale_info_prune.specs.TableIndexes.{AppendsKeptTable, IsTableI
 
 use crate::prune::PruneError;
 use scale_info_bytes::error::DecodeError;
-use scale_info_bytes::number::{decode_compact, encode_compact};
+use scale_info_bytes::integer::{decode_compact, encode_compact};
 use scale_info_passes::entries::{EntryIndex, index_entries, renumber_entries};
 use scale_info_walk::walk::Renumbering;
 use std::alloc::{AllocError, Global};

@@ -1,5 +1,6 @@
 -- A description read twice: what its shape and its references are, once ids stand in place of types.
-use Rattle.std.proofs.Common.{◌≡◌, ℕ, List, [], ◌∷◌, ◌++◌, map, Option, Some, None, option_map, refl, ap, sym, ◌∙◌}
+use Rattle.std.proofs.Common.{◌≡◌, ℕ, List, [], ◌∷◌, ◌++◌, map, Option, Some, None, option_map}
+use Rattle.std.proofs.Common.{refl, ap, sym, ◌∙◌}
 use Rattle.std.proofs.lemmas.List.{map-append}
 use Rattle.std.specs.List.{flat_map}
 use Rattle.std.specs.Option.{option_to_list}
@@ -9,8 +10,10 @@ use Rattle.scale_info_types.specs.declared.ty.Description.{Description}
 use Rattle.scale_info_types.specs.declared.ty.TypeParameter.{TypeParameter}
 use Rattle.scale_info_types.specs.declared.ty.fields.Field.{Field}
 use Rattle.scale_info_types.specs.declared.ty.variant.Variant.{Variant}
-use Rattle.scale_info_types.specs.References.{field_references, definition_references, parameter_references, references}
-use Rattle.scale_info_types.specs.Shapes.{map_parameter, map_field, map_variant, map_definition, map_description, shape}
+use Rattle.scale_info_types.specs.References.{field_references, definition_references}
+use Rattle.scale_info_types.specs.References.{parameter_references, references}
+use Rattle.scale_info_types.specs.Shapes.{map_parameter, map_field, map_variant, map_definition}
+use Rattle.scale_info_types.specs.Shapes.{map_description, shape}
 use Rattle.scale_info_types.specs.Portable as portable
 use Rattle.scale_info_types.specs.declared.form.PortableForm.{PortableForm}
 use Rattle.scale_info_references.specs.Conversions.{symbol, with_ids}

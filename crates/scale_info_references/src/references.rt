@@ -95,7 +95,7 @@ fn gather_definition<'a, T: Form>(
 }
 
 /// Adds the references of a description, in order.
-fn gather<'a, T: Form>(
+fn gather_references<'a, T: Form>(
     ty: &'a Type<T>,
     found: &mut Vec<&'a T::Ty>,
 ) -> Result<(), AllocFailed<&'a T::Ty>>
@@ -121,7 +121,7 @@ pub fn references_of<'a, T: Form>(
     ensures { IfOk result (λ found. targets found.items ≡ references ty.now) }
 {
     let mut found = Vec::new(alloc);
-    match gather(ty, &mut found) {
+    match gather_references(ty, &mut found) {
         Ok(()) => Ok(found),
         Err(_) => Err(AllocError),
     }

@@ -1,6 +1,8 @@
 -- One registration after another.
-use Rattle.std.proofs.Common.{◌≡◌, ℕ, List, [], ◌∷◌, ◌++◌, length, Some, slice_get, map, option_map, flat_map}
-use Rattle.std.proofs.Common.{refl, ap, sym, ◌∙◌, subst, arith, Contains, inl, inr, append_assoc, append-nil, take, drop, ◌-◌}
+use Rattle.std.proofs.Common.{◌≡◌, ℕ, List, [], ◌∷◌, ◌++◌, length, Some, slice_get, map, option_map}
+use Rattle.std.proofs.Common.{flat_map}
+use Rattle.std.proofs.Common.{refl, ap, sym, ◌∙◌, subst, arith, Contains, inl, inr, append_assoc}
+use Rattle.std.proofs.Common.{append-nil, take, drop, ◌-◌}
 use Rattle.std.proofs.lemmas.Bool.{cases_lt}
 use Rattle.std.proofs.lemmas.Grind.{flat_map-append}
 use Rattle.std.proofs.lemmas.List.{length-map, length-drop, map-append, take-append-drop, take_all}
@@ -25,7 +27,8 @@ use Rattle.scale_info_numberings.proofs.Zip.{zip_weaker}
 use Rattle.scale_info_numberings.proofs.Places.{at_left, begins_at, begins_from, contains_at}
 use Rattle.scale_info_numberings.proofs.PlacesOf.{places_in_more}
 use Rattle.scale_info_catalogue.specs.declared.discovery.RegisterError.{RegisterError}
-use Rattle.scale_info_catalogue.specs.declared.discovery.RegisterError.TheVariants.{Undescribed, Full, Memory}
+use Rattle.scale_info_catalogue.specs.declared.discovery.RegisterError.TheVariants.{Undescribed}
+use Rattle.scale_info_catalogue.specs.declared.discovery.RegisterError.TheVariants.{Full, Memory}
 use Rattle.scale_info_references.specs.Conversions.{ids_in}
 use Rattle.scale_info_catalogue.specs.Discoveries.{nodes_of, roots_of}
 use Rattle.scale_info_registry.specs.Registrations.{portable_entry, Registered, registered}

@@ -1,7 +1,9 @@
 -- What a registration has done, once all new identities are described.
 use Rattle.std.specs.List.{AllZip}
-use Rattle.std.proofs.Common.{drop, take, ◌≡◌, ℕ, zero, suc, ◌+◌, ◌<◌, ◌≤◌, List, [], ◌∷◌, ◌++◌, length, Option}
-use Rattle.std.proofs.Common.{Some, None, option_map, slice_get, map, refl, ap, sym, ◌∙◌, subst, arith}
+use Rattle.std.proofs.Common.{drop, take, ◌≡◌, ℕ, zero, suc, ◌+◌, ◌<◌, ◌≤◌, List, [], ◌∷◌, ◌++◌}
+use Rattle.std.proofs.Common.{length, Option}
+use Rattle.std.proofs.Common.{Some, None, option_map, slice_get, map, refl, ap, sym, ◌∙◌, subst}
+use Rattle.std.proofs.Common.{arith}
 use Rattle.std.proofs.Common.{Contains, inl, inr, length-append, Bor}
 use Rattle.std.specs.declared.result.Result.{Result}
 use Rattle.std.specs.declared.result.Result.TheVariants.{Ok, Err}
@@ -20,7 +22,8 @@ use Rattle.scale_info_identities.specs.contracts.type_id.TypeIdPartialEq.TheImpl
 use Rattle.scale_info_numberings.specs.Systems.{Entry, System}
 use Rattle.scale_info_numberings.specs.Extensions.{IsExtension}
 use Rattle.scale_info_numberings.specs.Tables.{ArePlaces}
-use Rattle.scale_info_numberings.proofs.Places.{contains_at, contains_head, contains_tail, from_left, at_left, at_seam}
+use Rattle.scale_info_numberings.proofs.Places.{contains_at, contains_head, contains_tail}
+use Rattle.scale_info_numberings.proofs.Places.{from_left, at_left, at_seam}
 use Rattle.scale_info_numberings.proofs.PlacesOf.{places_below}
 use Rattle.scale_info_numberings.proofs.FirstReference.{extends_by_known, extends_by_none}
 use Rattle.std.proofs.Common.{append-nil}
@@ -31,11 +34,13 @@ use Rattle.scale_info_catalogue.specs.Catalogues.{described}
 use Rattle.scale_info_catalogue.specs.CatalogueSystems.{catalogue_entry, catalogue_system}
 use Rattle.scale_info_catalogue.specs.Discoveries.{nodes_of, roots_of}
 use Rattle.scale_info_registry.specs.Registrations.{index_in, Registered}
-use Rattle.scale_info_registry.specs.Registrations.{registered, IsClosedRegistry, IsRegistration, AreDescribed, Keeps}
+use Rattle.scale_info_registry.specs.Registrations.{registered, IsClosedRegistry, IsRegistration}
+use Rattle.scale_info_registry.specs.Registrations.{AreDescribed, Keeps}
 use Rattle.scale_info_references.specs.Conversions.{ids_in, with_ids}
 use Rattle.scale_info_registry.proofs.Numbered.{index_is}
 use Rattle.scale_info_references.proofs.Replaced.{shape_stays, ids_replaced}
-use Rattle.scale_info_catalogue.proofs.Terms.{at_node, distinct_nodes, from_node, known, known_by_term, length_nodes}
+use Rattle.scale_info_catalogue.proofs.Terms.{at_node, distinct_nodes, from_node, known}
+use Rattle.scale_info_catalogue.proofs.Terms.{known_by_term, length_nodes}
 
 some_inside : {A B : Type 0} (f : A → B) (o : Option A) (b : B) → option_map f o ≡ Some b → (a : A) × (o ≡ Some a)
 some_inside f None b e = absurd (none-some b e)

@@ -1,3 +1,3 @@
-pub mod Parts
+pub mod RegistryParts
 pub mod Registrations
 pub mod RegistryLaws

@@ -53,7 +53,7 @@ ghost use Rattle.scale_info_catalogue.specs.declared.discovery.RegisterError.The
   Memory,
 };
 
-use conversion::{HasTypes, Identities, alone};
+use conversion::{HasTypes, Identities, list_of_one};
 use scale_info_catalogue::catalogue::Catalogue;
 use scale_info_catalogue::discovery::{discover, number_of, stack_up};
 use scale_info_catalogue::number_cache::NumberCache;
@@ -150,7 +150,7 @@ impl Registry {
             return Ok(UntrackedSymbol::from(number));
         }
         let alloc = *self.types.allocator();
-        self.register(alloc, alone(alloc, ty)?, catalogue)?;
+        self.register(alloc, list_of_one(alloc, ty)?, catalogue)?;
         let ids = Identities {
             interner: &self.identities,
             cache: &self.cache,

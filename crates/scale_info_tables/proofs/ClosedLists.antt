@@ -1,5 +1,6 @@
 -- The entries that the table of a closed list of descriptions has.
-use Rattle.std.proofs.Common.{◌≡◌, ◌<◌, ℕ, zero, suc, ◌+◌, List, [], ◌∷◌, length, map, Some, slice_get, refl}
+use Rattle.std.proofs.Common.{◌≡◌, ◌<◌, ℕ, zero, suc, ◌+◌, List, [], ◌∷◌, length, map, Some}
+use Rattle.std.proofs.Common.{slice_get, refl}
 use Rattle.std.proofs.Common.{ap, sym, ◌∙◌, subst, All, Contains}
 use Rattle.std.proofs.lemmas.List.Elements.{All-nil, All-cons}
 use Rattle.std.specs.List.{enumerate_from}

@@ -6,7 +6,7 @@ use Rattle.std.proofs.lemmas.Bool.{false≢true}
 use Rattle.std.specs.List.{AllWithin, HoldsAt}
 use Rattle.std.proofs.lemmas.List.Elements.{All-from_all_within}
 use Rattle.scale_info_types.specs.declared.ty.PortableType.{PortableType}
-use Rattle.scale_info_tables.specs.Entries.{indexed_from}
+use Rattle.scale_info_tables.specs.IndexedEntries.{indexed_from}
 
 -- there are as many as entries
 pub length_indexed :

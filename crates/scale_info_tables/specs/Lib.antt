@@ -1,6 +1,6 @@
 pub mod BuiltTables
 pub mod ClosedTables
-pub mod Entries
+pub mod IndexedEntries
 pub mod Pruned
 pub mod TableEncoding
 pub mod TableEncodingLaws

@@ -1,6 +1,6 @@
 -- A table on which the reading of tables as reference systems is tried.
 use Rattle.std.specs.Prelude.{[], ◌∷◌}
-use Rattle.scale_info_types.specs.Examples.{key_values, plain}
+use Rattle.scale_info_types.specs.TypeExamples.{key_values, plain}
 use Rattle.scale_info_types.specs.declared.ty.TypeDef.TheVariants as def
 use Rattle.scale_info_primitives.specs.declared.primitive.TypeDefPrimitive.TheVariants as kind
 use Rattle.scale_info_tables.specs.declared.portable.PortableRegistry.{PortableRegistry}

@@ -3,5 +3,5 @@
 
 pub mod laws;
 pub mod portable;
-mod pruned;
 mod renumbering;
+mod retain;

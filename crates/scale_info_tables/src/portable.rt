@@ -7,12 +7,12 @@ ghost use Rattle.scale_info_bytes.specs.Encodings.{AppendsEncoding, HasPrefix, H
 ghost use Rattle.scale_info_bytes.specs.Encodings.{HasNoEncoding, IfTooLong, IfMalformed};
 ghost use Rattle.scale_info_tables.specs.BuiltTables.{numbered_from};
 ghost use Rattle.scale_info_tables.specs.ClosedTables.{IsClosed};
-ghost use Rattle.scale_info_tables.specs.Entries.{indexed_from};
+ghost use Rattle.scale_info_tables.specs.IndexedEntries.{indexed_from};
 ghost use Rattle.scale_info_tables.specs.TableEncoding.{EncodesRegistry};
 ghost use Rattle.scale_info_tables.specs.TableEncodingLaws.{registry_law};
 ghost use Rattle.scale_info_tables.specs.Pruned.{IsChosen, IsPruned, IsRetainError};
 
-use crate::pruned::retain_types;
+use crate::retain::retain_types;
 use scale_info_codec::{DecodeError, EncodeError, Scale};
 use scale_info_collections::items::Items;
 use scale_info_collections::try_clone::TryClone;

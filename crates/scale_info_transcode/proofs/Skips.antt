@@ -5,7 +5,7 @@ use Rattle.std.proofs.lemmas.List.{take_rest}
 use Rattle.std.proofs.Math.Seq.{drop-append_seam}
 use Rattle.scale_info_bytes.specs.CompactLaws.{compact_law}
 use Rattle.scale_info_bytes.specs.Encodings.{IsEncoding, HasPrefix, HasNoPrefix}
-use Rattle.scale_info_bytes.specs.Numbers.{EncodesCompact}
+use Rattle.scale_info_bytes.specs.Integers.{EncodesCompact}
 use Rattle.scale_info_bytes.specs.Parts.{EncodesItems, EncodesList, EncodesOption, EncodesPair}
 use Rattle.scale_info_bytes.specs.Parts.{IsConcatenation}
 use Rattle.scale_info_bytes.specs.Strings.{EncodesText}

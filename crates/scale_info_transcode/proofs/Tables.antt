@@ -3,7 +3,7 @@ use Rattle.std.proofs.Common.{◌≡◌, List, [], ◌∷◌, ◌++◌, ap, ◌�
 use Rattle.std.specs.Prelude.{codes}
 use Rattle.json.specs.Token.{Token, begin_object, end_object, key}
 use Rattle.scale_info_json_trees.specs.Steps.{tokens_of}
-use Rattle.scale_info_json_trees.specs.Entries.{entry_rows, types_tree}
+use Rattle.scale_info_json_trees.specs.EntryTrees.{entry_rows, types_tree}
 use Rattle.scale_info_json_trees.specs.Written.{list_tree, object_tree}
 use Rattle.scale_info_types.specs.declared.ty.PortableType.{PortableType}
 

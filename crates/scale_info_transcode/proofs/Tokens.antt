@@ -10,7 +10,7 @@ use Rattle.serde_json.specs.Written.{items_outline}
 use Rattle.scale_info_bytes.proofs.Lists.{prefix_list}
 use Rattle.scale_info_bytes.proofs.Steps.{prefix_item}
 use Rattle.scale_info_bytes.specs.Encodings.{HasPrefix}
-use Rattle.scale_info_bytes.specs.Numbers.{EncodesCompact}
+use Rattle.scale_info_bytes.specs.Integers.{EncodesCompact}
 use Rattle.scale_info_json_trees.specs.Steps.{tokens_of}
 use Rattle.scale_info_json_trees.specs.Written.{list_tree}
 use Rattle.scale_info_transcode.specs.Transcodings.{tokens_of_each, WritesItems, WritesList}

@@ -7,7 +7,7 @@ use Rattle.serde_json.specs.Written.{compact_text}
 use Rattle.scale_info_bytes.specs.Encodings.{HasPrefix}
 use Rattle.scale_info_bytes.specs.Parts.{EncodesItems, EncodesList}
 use Rattle.scale_info_grammar.specs.Ty.{EncodesTypes}
-use Rattle.scale_info_json_trees.specs.Entries.{types_tree}
+use Rattle.scale_info_json_trees.specs.EntryTrees.{types_tree}
 use Rattle.scale_info_json_trees.specs.Steps.{append_row, tokens_of}
 use Rattle.scale_info_json_trees.specs.Written.{list_tree, Row}
 use Rattle.scale_info_types.specs.declared.ty.PortableType.{PortableType}

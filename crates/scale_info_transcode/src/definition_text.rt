@@ -4,8 +4,8 @@ ghost use Rattle.scale_info_bytes.specs.Encodings.{HasNoPrefix, IfMalformed};
 ghost use Rattle.scale_info_grammar.specs.Ty.{EncodesComposite, EncodesTypeDef};
 ghost use Rattle.scale_info_grammar.specs.Ty.{EncodesTypeDefWithIndex, EncodesVariants};
 ghost use Rattle.scale_info_grammar.specs.TyLaws.{composite_law, type_def_law, variants_law};
-ghost use Rattle.scale_info_json_trees.specs.Definitions.{composite_rows, definition_row};
-ghost use Rattle.scale_info_json_trees.specs.Definitions.{type_def_rows, variant_type_rows};
+ghost use Rattle.scale_info_json_trees.specs.DefinitionTrees.{composite_rows, definition_row};
+ghost use Rattle.scale_info_json_trees.specs.DefinitionTrees.{type_def_rows, variant_type_rows};
 ghost use Rattle.scale_info_json_trees.specs.Written.{object_tree};
 ghost use Rattle.scale_info_transcode.specs.Transcodings.{WritesRow};
 

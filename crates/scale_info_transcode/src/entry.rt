@@ -1,7 +1,7 @@
 //! Descriptions, and entries of a table, as JSON text.
 ghost use Rattle.scale_info_grammar.specs.Ty.{EncodesDescription, EncodesPortableType};
 ghost use Rattle.scale_info_grammar.specs.TyLaws.{description_law, portable_type_law};
-ghost use Rattle.scale_info_json_trees.specs.Entries.{description_rows, entry_rows};
+ghost use Rattle.scale_info_json_trees.specs.EntryTrees.{description_rows, entry_rows};
 ghost use Rattle.scale_info_json_trees.specs.Written.{object_tree};
 
 use crate::later::skip_part;

@@ -4,10 +4,11 @@ ghost use Rattle.scale_info_grammar.specs.Ty.{EncodesCompactType, EncodesId, Enc
 ghost use Rattle.scale_info_grammar.specs.Ty.{EncodesPrimitive, EncodesSequence};
 ghost use Rattle.scale_info_grammar.specs.TyLaws.{array_law, bit_sequence_law, compact_type_law};
 ghost use Rattle.scale_info_grammar.specs.TyLaws.{id_law, map_law, primitive_law, sequence_law};
-ghost use Rattle.scale_info_json_trees.specs.Definitions.{array_rows, bit_sequence_rows};
-ghost use Rattle.scale_info_json_trees.specs.Definitions.{compact_rows, map_rows, primitive_tree};
-ghost use Rattle.scale_info_json_trees.specs.Definitions.{sequence_rows};
-ghost use Rattle.scale_info_json_trees.specs.Described.{id_tree};
+ghost use Rattle.scale_info_json_trees.specs.DefinitionTrees.{array_rows, bit_sequence_rows};
+ghost use Rattle.scale_info_json_trees.specs.DefinitionTrees.{compact_rows, map_rows};
+ghost use Rattle.scale_info_json_trees.specs.DefinitionTrees.{primitive_tree};
+ghost use Rattle.scale_info_json_trees.specs.DefinitionTrees.{sequence_rows};
+ghost use Rattle.scale_info_json_trees.specs.PartTrees.{id_tree};
 ghost use Rattle.scale_info_json_trees.specs.Written.{object_tree};
 
 use crate::member_text::{transcode_member, write_id, write_number};

@@ -10,7 +10,7 @@ ghost use Rattle.scale_info_transcode.specs.Transcodings.{WritesItems, WritesLis
 use crate::transcode::Transcode;
 use json::Writer;
 use scale_info_bytes::error::DecodeError;
-use scale_info_bytes::number::decode_compact;
+use scale_info_bytes::integer::decode_compact;
 use scale_info_collections::items::Items;
 use std::alloc::Global;
 

@@ -3,14 +3,14 @@ ghost use Rattle.std.specs.Prelude.{option_map, Some, IfOk, IfErr, OnOk};
 ghost use Rattle.serde_json.specs.Data.{number, string, unsigned};
 ghost use Rattle.scale_info_bytes.specs.Encodings.{HasNoPrefix, IfMalformed};
 ghost use Rattle.scale_info_bytes.specs.Parts.{EncodesList};
-ghost use Rattle.scale_info_json_trees.specs.Described.{id_tree};
+ghost use Rattle.scale_info_json_trees.specs.PartTrees.{id_tree};
 ghost use Rattle.scale_info_json_trees.specs.Written.{or_null, unless_empty};
 ghost use Rattle.scale_info_transcode.specs.Transcodings.{AppendsRow, WritesRow};
 
 use crate::transcode::Transcode;
 use json::Writer;
 use scale_info_bytes::error::DecodeError;
-use scale_info_bytes::number::decode_compact;
+use scale_info_bytes::integer::decode_compact;
 use scale_info_collections::items::Items;
 use scale_info_identities::symbol::UntrackedSymbol;
 use scale_info_identities::type_id::TypeId;

@@ -1,12 +1,12 @@
 //! Numbers and ids at the start of the input.
 ghost use Rattle.std.specs.Prelude.{IfOk, IfErr};
 ghost use Rattle.scale_info_bytes.specs.Encodings.{HasNoPrefix, HasPrefix, IfMalformed};
-ghost use Rattle.scale_info_bytes.specs.Numbers.{EncodesCompact, EncodesU32, EncodesU8};
+ghost use Rattle.scale_info_bytes.specs.Integers.{EncodesCompact, EncodesU32, EncodesU8};
 ghost use Rattle.scale_info_bytes.specs.Parts.{EncodesOption};
 ghost use Rattle.scale_info_grammar.specs.Ty.{EncodesId};
 
 use scale_info_bytes::error::DecodeError;
-use scale_info_bytes::number;
+use scale_info_bytes::integer;
 use scale_info_identities::symbol::UntrackedSymbol;
 use scale_info_identities::type_id::TypeId;
 
@@ -38,7 +38,7 @@ pub fn decode_u32(input: &[u8]) -> Result<(u32, &[u8]), DecodeError>
     }
 }
 
-/// The compact number at the start of the input, and the rest.
+/// The compact integer at the start of the input, and the rest.
 ///
 /// Error: `Malformed`, if no prefix of the input encodes a number.
 pub fn decode_compact(input: &[u8]) -> Result<(u32, &[u8]), DecodeError>

@@ -1,7 +1,7 @@
 //! Parts of descriptions as JSON text.
 ghost use Rattle.scale_info_grammar.specs.Ty.{EncodesField, EncodesParameter, EncodesVariant};
 ghost use Rattle.scale_info_grammar.specs.TyLaws.{field_law, parameter_law, variant_law};
-ghost use Rattle.scale_info_json_trees.specs.Described.{field_rows, parameter_rows, variant_rows};
+ghost use Rattle.scale_info_json_trees.specs.PartTrees.{field_rows, parameter_rows, variant_rows};
 ghost use Rattle.scale_info_json_trees.specs.Written.{object_tree};
 
 use crate::later::skip_part;

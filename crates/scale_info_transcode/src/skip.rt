@@ -8,7 +8,7 @@ ghost use Rattle.scale_info_bytes.specs.Parts.{EncodesList, EncodesOption, Encod
 ghost use Rattle.scale_info_bytes.specs.Strings.{EncodesText};
 ghost use Rattle.scale_info_grammar.specs.Ty.{EncodesField, EncodesId, EncodesParameter};
 
-use scale_info_bytes::number::decode_compact;
+use scale_info_bytes::integer::decode_compact;
 use scale_info_collections::items::Items;
 use scale_info_collections::text::Text;
 use scale_info_identities::symbol::UntrackedSymbol;

@@ -1,5 +1,5 @@
-pub mod Entries
-pub mod Examples
+pub mod KeptEntries
+pub mod TypeExamples
 pub mod Iterators
 pub mod MetaDescriptions
 pub mod Orders

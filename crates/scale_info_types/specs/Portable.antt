@@ -62,7 +62,7 @@ TypeDefArray = arrays.TypeDefArray PortableForm Id Text
 abbrev pub TypeDefTuple : Type 0
 TypeDefTuple = tuples.TypeDefTuple PortableForm Id Text
 
--- a compact number by the id of its type
+-- a compact integer by the id of its type
 abbrev pub TypeDefCompact : Type 0
 TypeDefCompact = compacts.TypeDefCompact PortableForm Id Text
 

@@ -476,7 +476,7 @@ pub struct TypeDefCompact<T: Form = MetaForm> {
 }
 
 impl<T: Form> TypeDefCompact<T> {
-    /// The compact number of this type.
+    /// The compact integer of this type.
     pub fn new(type_param: T::Ty) -> TypeDefCompact<T>
         ensures { result.type_param ≡ type_param }
     {

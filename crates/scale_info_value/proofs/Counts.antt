@@ -1,10 +1,10 @@
--- Counts are the compact numbers of the grammar of tables.
+-- Counts are the compact integers of the grammar of tables.
 use Rattle.std.proofs.Common.{◌≡◌, ℕ, ◌+◌, ◌*◌, ◌/◌, ◌%◌, ◌^◌, ◌<◌, ◌≤◌, ◌==◌, List, ◌∷◌, ◌++◌}
 use Rattle.std.proofs.Common.{true, false, ap, ◌∙◌, arith}
 use Rattle.std.proofs.lemmas.Grind.{common_steps}
-use Rattle.scale_info_bytes.specs.Numbers.{EncodesCompact, in_one, in_two, in_four, in_five}
+use Rattle.scale_info_bytes.specs.Integers.{EncodesCompact, in_one, in_two, in_four, in_five}
 use Rattle.scale_info_value.specs.Outcomes.{decoded, and_then}
-use Rattle.scale_info_value.specs.Numbers.{at_least, below, compact_after, count}
+use Rattle.scale_info_value.specs.IntegerDecoders.{at_least, below, compact_after, count}
 
 mode_is : (a b : ℕ) → a ≡ b → (a == b) ≡ true
 mode_is a b e = grind (arith, common_steps)

@@ -6,10 +6,10 @@ use Rattle.std.proofs.lemmas.Grind.{common_steps}
 use Rattle.std.proofs.Math.Nat.{pow-le-pow_right}
 use Rattle.std.specs.List.{AllByRecursion}
 use Rattle.scale_info_bytes.specs.Encodings.{IsByte, HasPrefix}
-use Rattle.scale_info_bytes.specs.Numbers.{EncodesCompact, in_one, in_two, in_four, in_five}
+use Rattle.scale_info_bytes.specs.Integers.{EncodesCompact, in_one, in_two, in_four, in_five}
 use Rattle.scale_info_value.specs.Outcomes.{Outcome, decoded, failed, and_then}
-use Rattle.scale_info_value.specs.Numbers.{below}
-use Rattle.scale_info_value.specs.Numbers.{compact_after, count}
+use Rattle.scale_info_value.specs.IntegerDecoders.{below}
+use Rattle.scale_info_value.specs.IntegerDecoders.{compact_after, count}
 
 -- what a count is made of
 from_below : (limit n m : ℕ) (r s : List ℕ) → below limit n r ≡ decoded m s → (n < limit) × (n ≡ m) × (r ≡ s)

@@ -9,7 +9,8 @@ use mathlib.Core.Bool.{beq}
 use Rattle.scale_info_value.specs.declared.value.Dyn.{Dyn}
 use Rattle.scale_info_value.specs.declared.value.Dyn.TheOpen.{Dyn-F}
 use Rattle.scale_info_value.specs.declared.value.Dyn.TheOpen as layer
-use Rattle.scale_info_value.specs.declared.value.Dyn.TheViews.{out-Dyn, roll-Dyn, out-roll-Dyn, roll-out-Dyn}
+use Rattle.scale_info_value.specs.declared.value.Dyn.TheViews.{out-Dyn, roll-Dyn, out-roll-Dyn}
+use Rattle.scale_info_value.specs.declared.value.Dyn.TheViews.{roll-out-Dyn}
 use Rattle.scale_info_value.specs.declared.value.Dyn.TheFolds.{ind-Dyn, map-Dyn}
 use Rattle.scale_info_value.specs.contracts.value.DynPartialEq.TheImpl.Laws.{is}
 use Rattle.scale_info_value.specs.contracts.value.DynPartialEq.TheImpl.{ghosts}

@@ -3,7 +3,7 @@ mod Counts
 mod Decoded
 mod Errors
 mod InOrder
-mod Numbers
+mod Integers
 mod Steps
 mod Texts
 mod Unfolded

@@ -1,20 +1,25 @@
 -- One level of a reading.
-use Rattle.std.proofs.Common.{◌≡◌, ℕ, zero, suc, ◌-◌, ◌≤◌, ◌==◌, List, [], ◌∷◌, Option, Some, None, map, find, replicate}
+use Rattle.std.proofs.Common.{◌≡◌, ℕ, zero, suc, ◌-◌, ◌≤◌, ◌==◌, List, [], ◌∷◌, Option, Some, None}
+use Rattle.std.proofs.Common.{map, find, replicate}
 use Rattle.std.proofs.Common.{cond, Bool, true, false, option_map, refl, ap, sym, ◌∙◌, arith}
-use Rattle.scale_info_types.specs.Portable.{Id, Field, Variant, TypeDef, TypeDefComposite, Description}
+use Rattle.scale_info_types.specs.Portable.{Id, Field, Variant, TypeDef, TypeDefComposite}
+use Rattle.scale_info_types.specs.Portable.{Description}
 use Rattle.scale_info_types.specs.Shapes.{map_variant}
 use Rattle.scale_info_types.specs.declared.ty.TypeDef.TheVariants as def
 use Rattle.scale_info_tables.specs.declared.portable.PortableRegistry.{PortableRegistry}
 use Rattle.scale_info_value.specs.declared.value.Dyn.TheVariants as dyn
-use Rattle.scale_info_value.specs.Outcomes.{decoded, failed, too_deep, no_such_type, malformed, and_then, outcome_map, in_turn}
-use Rattle.scale_info_value.specs.Numbers.{byte}
-use Rattle.scale_info_value.specs.Definitions.{Part, fields_of, primitive}
+use Rattle.scale_info_value.specs.Outcomes.{decoded, failed, too_deep, no_such_type, malformed}
+use Rattle.scale_info_value.specs.Outcomes.{and_then, outcome_map, in_turn}
+use Rattle.scale_info_value.specs.IntegerDecoders.{byte}
+use Rattle.scale_info_value.specs.ValueDefinitions.{Part, fields_of, primitive}
 use Rattle.scale_info_primitives.specs.declared.primitive.TypeDefPrimitive.{TypeDefPrimitive}
-use Rattle.scale_info_value.specs.Readings.{type_at, value_within, compact_within, definition_within, fields_within}
-use Rattle.scale_info_value.specs.Readings.{compact_definition_within, compact_by_type, value_by_type, part_within}
+use Rattle.scale_info_value.specs.Readings.{type_at, value_within, compact_within}
+use Rattle.scale_info_value.specs.Readings.{definition_within, fields_within}
+use Rattle.scale_info_value.specs.Readings.{compact_definition_within, compact_by_type}
+use Rattle.scale_info_value.specs.Readings.{value_by_type, part_within}
 use Rattle.scale_info_value.specs.Readings.{variant_within, items_within}
 
--- where no level is left, a compact number is too deep
+-- where no level is left, a compact integer is too deep
 pub compact_too_deep :
     (left : ℕ) (table : PortableRegistry) (id : ℕ) (input : List ℕ) → left ≡ 0
     → compact_within left table id input ≡ failed too_deep
@@ -30,7 +35,7 @@ unfolding value_within
 value_too_deep zero table id input e = refl
 value_too_deep (suc left) table id input e = absurd (omega arith)
 
--- else a compact number goes by the description of its type
+-- else a compact integer goes by the description of its type
 compact_level :
     (left : ℕ) (table : PortableRegistry) (id : ℕ) (input : List ℕ) → 1 ≤ left
     → compact_within left table id input
@@ -81,14 +86,14 @@ first_variant f i (v ∷ vs) = first_or (v.index == i) v (find (λ w. w.index ==
     first_or true v rest other e = refl
     first_or false v rest other e = e
 
--- an id that is no index has no compact number
+-- an id that is no index has no compact integer
 pub compact_no_type :
     (left : ℕ) (table : PortableRegistry) (id : ℕ) (input : List ℕ) → 1 ≤ left → type_at table id ≡ None
     → compact_within left table id input ≡ failed no_such_type
 compact_no_type left table id input h e =
     compact_level left table id input h ∙ ap (λ o. compact_by_type (compact_within (left - 1) table) o input) e
 
--- a compact number of a type goes by the type's definition
+-- a compact integer of a type goes by the type's definition
 pub compact_of_type :
     (left : ℕ) (table : PortableRegistry) (id : ℕ) (input : List ℕ) (d : Description)
     → 1 ≤ left → type_at table id ≡ Some d

@@ -1,5 +1,6 @@
 -- Texts at the start of bytes, which are the strings of the grammar of tables.
-use Rattle.std.proofs.Common.{◌≡◌, ℕ, ◌≤◌, List, ◌++◌, length, take, drop, Bool, true, false, refl, ap, sym, ◌∙◌}
+use Rattle.std.proofs.Common.{◌≡◌, ℕ, ◌≤◌, List, ◌++◌, length, take, drop, Bool, true, false, refl}
+use Rattle.std.proofs.Common.{ap, sym, ◌∙◌}
 use Rattle.std.proofs.Common.{subst, append_assoc, arith, IsUtf8}
 use Rattle.std.proofs.Math.Seq.{take-append_seam, drop-append_seam}
 use Rattle.std.proofs.lemmas.Grind.{common_steps}
@@ -9,13 +10,13 @@ use Rattle.std.specs.List.{AllByRecursion}
 use Rattle.std.specs.Prelude.{if◌then◌else◌}
 use Rattle.std.specs.Str.{is_utf8}
 use Rattle.scale_info_bytes.specs.Encodings.{HasPrefix, IsByte}
-use Rattle.scale_info_bytes.specs.Numbers.{EncodesCompact}
+use Rattle.scale_info_bytes.specs.Integers.{EncodesCompact}
 use Rattle.scale_info_bytes.specs.Strings.{EncodesText}
 use Rattle.scale_info_value.specs.declared.value.Dyn.{Dyn}
 use Rattle.scale_info_value.specs.declared.value.Dyn.TheVariants as dyn
 use Rattle.scale_info_value.specs.Outcomes.{Outcome, decoded, failed, malformed, and_then}
-use Rattle.scale_info_value.specs.Numbers.{bytes, count}
-use Rattle.scale_info_value.specs.Definitions.{text}
+use Rattle.scale_info_value.specs.IntegerDecoders.{bytes, count}
+use Rattle.scale_info_value.specs.ValueDefinitions.{text}
 use Rattle.scale_info_value.proofs.Counts as counts
 use Rattle.scale_info_value.proofs.Decoded as decoded_counts
 

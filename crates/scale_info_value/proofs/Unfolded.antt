@@ -14,8 +14,9 @@ use Rattle.scale_info_tables.specs.TableSystems.{system_of}
 use Rattle.scale_info_walk.specs.TypeSystems.{entry_of}
 use Rattle.scale_info_tables.specs.declared.portable.PortableRegistry.{PortableRegistry}
 use Rattle.scale_info_value.specs.Outcomes.{Decoder, failed, too_deep}
-use Rattle.scale_info_value.specs.Definitions.{Part, value_by, compact_by}
-use Rattle.scale_info_value.specs.Readings.{compact_by_type, value_by_type, compact_within, value_within, reading}
+use Rattle.scale_info_value.specs.ValueDefinitions.{Part, value_by, compact_by}
+use Rattle.scale_info_value.specs.Readings.{compact_by_type, value_by_type, compact_within}
+use Rattle.scale_info_value.specs.Readings.{value_within, reading}
 use Rattle.scale_info_types.proofs.ShapeAndReferences.{shape_and_references}
 
 -- references that unfold alike are decoded alike, one by one
@@ -69,7 +70,7 @@ value_step f g read other law (Some d) None h input = cc
 value_step f g read other law (Some d) (Some e) h input = ap (λ t. value_by t input)
     (same_entries f g read other law d e h)
 
--- where two ids unfold alike, compact numbers are decoded alike
+-- where two ids unfold alike, compact integers are decoded alike
 pub compact_unfolded :
     (left : ℕ) (table other : PortableRegistry) (m n : ℕ)
     → unfold_to left (system_of table) m ≡ unfold_to left (system_of other) n

@@ -1,5 +1,5 @@
-pub mod Definitions
-pub mod Examples
-pub mod Numbers
+pub mod ValueDefinitions
+pub mod ValueExamples
+pub mod IntegerDecoders
 pub mod Outcomes
 pub mod Readings

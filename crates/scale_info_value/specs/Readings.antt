@@ -6,21 +6,21 @@ use Rattle.scale_info_types.specs.Shapes.{map_definition, map_field, map_variant
 use Rattle.scale_info_tables.specs.declared.portable.PortableRegistry.{PortableRegistry}
 use Rattle.scale_info_value.specs.declared.value.Dyn.{Dyn}
 use Rattle.scale_info_value.specs.Outcomes.{Decoder, failed, no_such_type, too_deep}
-use Rattle.scale_info_value.specs.Definitions.{Part, items, members, fields, chosen_variant}
-use Rattle.scale_info_value.specs.Definitions.{pair, pairs}
-use Rattle.scale_info_value.specs.Definitions.{value_by, compact_by}
+use Rattle.scale_info_value.specs.ValueDefinitions.{Part, items, members, fields, chosen_variant}
+use Rattle.scale_info_value.specs.ValueDefinitions.{pair, pairs}
+use Rattle.scale_info_value.specs.ValueDefinitions.{value_by, compact_by}
 
 -- the description of an id, which is an index
 abbrev pub type_at : PortableRegistry → ℕ → Option Description
 type_at table id = option_map (λ entry. entry.ty) (slice_get table.types id)
 
--- a compact number by the description of a type, where `read` decodes one by an id
+-- a compact integer by the description of a type, where `read` decodes one by an id
 abbrev pub compact_by_type : (ℕ → Decoder ℕ) → Option Description → Decoder ℕ
 compact_by_type read None input = failed no_such_type
 compact_by_type read (Some d) input =
     compact_by (map_definition {G = Unit {0}} (λ r. read r.id) (λ t. t) d.type_def) input
 
--- a compact number by an id, where that many levels are left
+-- a compact integer by an id, where that many levels are left
 unfoldable pub compact_within : ℕ → PortableRegistry → ℕ → Decoder ℕ
 compact_within zero table id input = failed too_deep
 compact_within (suc left) table id input =
@@ -33,7 +33,7 @@ value_by_type part (Some d) input =
     value_by (map_definition {G = Unit {0}} (λ r. part r.id) (λ t. t) d.type_def) input
 
 -- A value by an id, where that many levels are left. Its parts are one level deeper; the type of a
--- compact number is as deep as the number itself.
+-- compact integer is as deep as the integer itself.
 unfoldable pub value_within : ℕ → PortableRegistry → ℕ → Decoder Dyn
 value_within zero table id input = failed too_deep
 value_within (suc zero) table id input =
@@ -67,7 +67,7 @@ abbrev pub definition_within : ℕ → PortableRegistry → TypeDef → Decoder 
 definition_within left table d input =
     value_by (map_definition {G = Unit {0}} (part_within left table) (λ t. t) d) input
 
--- a compact number by a definition
+-- a compact integer by a definition
 abbrev pub compact_definition_within : ℕ → PortableRegistry → TypeDef → Decoder ℕ
 compact_definition_within left table d input =
     compact_by

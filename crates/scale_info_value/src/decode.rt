@@ -10,8 +10,8 @@ ghost use Rattle.scale_info_value.specs.Readings.{value_within, definition_withi
 ghost use Rattle.scale_info_value.specs.Readings.{variant_within, items_within, members_within};
 ghost use Rattle.scale_info_value.specs.Readings.{pair_within, pairs_within, reading};
 
+use crate::integer::{byte, count};
 use crate::list::primitives;
-use crate::number::{byte, count};
 use crate::primitive::{compact_primitive, primitive};
 use crate::value::{Dyn, ValueError};
 use scale_info_collections::items::Items;
@@ -33,7 +33,7 @@ use std::alloc::Global;
 ///
 /// An id is an index of the table, as for [`PortableRegistry::resolve`]. The parts of a value are
 /// decoded in order, and the first error is returned. Allocates for parts already decoded, and for
-/// the numbers of a list once all their bytes are there, never for an announced count.
+/// the integers of a list once all their bytes are there, never for an announced count.
 ///
 /// A value has depth 1, and each part of a value is one deeper than the value; at most 128 is
 /// decoded. Nothing else bounds the work: values of some types take no bytes, so an array of
@@ -63,7 +63,7 @@ pub fn decode_value<'a>(
     value_within(alloc, table, id, 128, input)
 }
 
-/// A compact number of the type with this id, and the rest, where so many levels are left.
+/// A compact integer of the type with this id, and the rest, where so many levels are left.
 #[cycle(compact)]
 fn compact_within<'a>(
     table: &PortableRegistry,
@@ -84,7 +84,7 @@ fn compact_within<'a>(
     }
 }
 
-/// A compact number by the definition of its type, and the rest.
+/// A compact integer by the definition of its type, and the rest.
 #[cycle(compact)]
 fn compact_by<'a>(
     table: &PortableRegistry,
@@ -165,7 +165,7 @@ fn value_by<'a>(
     }
 }
 
-/// A compact number, and the rest.
+/// A compact integer, and the rest.
 #[inline(never)]
 fn compact_value<'a>(
     table: &PortableRegistry,
@@ -179,8 +179,8 @@ fn compact_value<'a>(
     ensures err { IfErr result
         (IsErrorOf (definition_within left table.now (def.Compact compact.now) input.now)) }
 {
-    let (number, rest) = compact_within(table, compact.type_param.id, left, input)?;
-    Ok((Dyn::Unsigned(number), rest))
+    let (integer, rest) = compact_within(table, compact.type_param.id, left, input)?;
+    Ok((Dyn::Unsigned(integer), rest))
 }
 
 /// A value of a struct, and the rest.

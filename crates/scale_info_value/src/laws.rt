@@ -3,7 +3,7 @@
 ghost use Rattle.std.specs.Prelude.{◌≡◌, ◌↔◌, ◌-◌, ◌++◌, IsTrue, Some, List, ℕ, map, slice_get};
 ghost use Rattle.std.specs.List.{AllByRecursion};
 ghost use Rattle.scale_info_bytes.specs.Encodings.{HasPrefix, IsByte};
-ghost use Rattle.scale_info_bytes.specs.Numbers.{EncodesCompact};
+ghost use Rattle.scale_info_bytes.specs.Integers.{EncodesCompact};
 ghost use Rattle.scale_info_bytes.specs.Strings.{EncodesText};
 ghost use Rattle.scale_info_numberings.specs.Tables.{IsTable};
 ghost use Rattle.scale_info_numberings.specs.Unfoldings.{unfold_to};
@@ -13,8 +13,8 @@ ghost use Rattle.scale_info_tables.specs.declared.portable.PortableRegistry.{Por
 ghost use Rattle.scale_info_value.specs.declared.value.Dyn as dyns;
 ghost use Rattle.scale_info_value.specs.declared.value.Dyn.TheVariants as dyn;
 ghost use Rattle.scale_info_value.specs.declared.value.ValueError as value_errors;
-ghost use Rattle.scale_info_value.specs.Definitions.{text};
-ghost use Rattle.scale_info_value.specs.Numbers.{count};
+ghost use Rattle.scale_info_value.specs.ValueDefinitions.{text};
+ghost use Rattle.scale_info_value.specs.IntegerDecoders.{count};
 ghost use Rattle.scale_info_value.specs.Outcomes.{decoded};
 ghost use Rattle.scale_info_value.specs.Readings.{reading};
 
@@ -49,7 +49,7 @@ pub fn reads_alike()
         → reading new index depth input ≡ reading old id depth input }
 {}
 
-/// A count of items or of bytes is a compact number of the grammar of tables: each encoding is
+/// A count of items or of bytes is a compact integer of the grammar of tables: each encoding is
 /// decoded, whatever follows it, and nothing else is.
 ///
 /// `fd 03` is 255 in both.

@@ -5,8 +5,8 @@
 #![tactic(auto)]
 
 mod decode;
+mod integer;
 pub mod laws;
 mod list;
-mod number;
 mod primitive;
 pub mod value;

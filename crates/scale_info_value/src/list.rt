@@ -2,20 +2,20 @@
 ghost use Rattle.std.specs.Prelude.{◌≡◌, ◌≤◌, replicate, IfOk, IfErr};
 ghost use Rattle.scale_info_value.specs.declared.value.Dyn.TheVariants as dyn;
 ghost use Rattle.scale_info_value.specs.Outcomes.{decoded, in_turn, outcome_map, IsErrorOf};
-ghost use Rattle.scale_info_value.specs.Numbers.{number};
-ghost use Rattle.scale_info_value.specs.Definitions.{primitive};
+ghost use Rattle.scale_info_value.specs.IntegerDecoders.{integer};
+ghost use Rattle.scale_info_value.specs.ValueDefinitions.{primitive};
 
-use crate::number::little_endian;
+use crate::integer::little_endian;
 use crate::primitive::primitive;
 use crate::value::{Dyn, ValueError};
 use scale_info_collections::items::Items;
 use scale_info_types::ty::TypeDefPrimitive;
 use std::alloc::Global;
 
-/// So many numbers of an unsigned type with so many bytes, and the rest. All bytes are there before
+/// So many integers of an unsigned type with so many bytes, and the rest. All bytes are there before
 /// room is made, so the room is bounded by the input.
 #[inline(always)]
-fn numbers(
+fn integers(
     alloc: Global,
     width: usize,
     count: u32,
@@ -24,10 +24,10 @@ fn numbers(
     requires some { 1 ≤ width }
     requires fits { width ≤ 16 }
     ensures ok { IfOk result (λ found.
-        in_turn (replicate count (λ bytes. outcome_map dyn.Unsigned (number width bytes))) input.now
+        in_turn (replicate count (λ bytes. outcome_map dyn.Unsigned (integer width bytes))) input.now
         ≡ decoded found.0 found.1.now) }
     ensures err { IfErr result (IsErrorOf
-        (in_turn (replicate count (λ bytes. outcome_map dyn.Unsigned (number width bytes)))
+        (in_turn (replicate count (λ bytes. outcome_map dyn.Unsigned (integer width bytes)))
         input.now)) }
 {
     if input.len() < count as usize * width {
@@ -80,11 +80,11 @@ pub(crate) fn primitives<'a>(
         (IsErrorOf (in_turn (replicate count (primitive kind.now)) input.now)) }
 {
     match kind {
-        TypeDefPrimitive::U8 => numbers(alloc, 1, count, input),
-        TypeDefPrimitive::U16 => numbers(alloc, 2, count, input),
-        TypeDefPrimitive::U32 => numbers(alloc, 4, count, input),
-        TypeDefPrimitive::U64 => numbers(alloc, 8, count, input),
-        TypeDefPrimitive::U128 => numbers(alloc, 16, count, input),
+        TypeDefPrimitive::U8 => integers(alloc, 1, count, input),
+        TypeDefPrimitive::U16 => integers(alloc, 2, count, input),
+        TypeDefPrimitive::U32 => integers(alloc, 4, count, input),
+        TypeDefPrimitive::U64 => integers(alloc, 8, count, input),
+        TypeDefPrimitive::U128 => integers(alloc, 16, count, input),
         _ => each(alloc, kind, count, input),
     }
 }

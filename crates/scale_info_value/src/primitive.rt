@@ -1,13 +1,13 @@
-//! Values and compact numbers of primitives.
+//! Values and compact integers of primitives.
 ghost use Rattle.std.specs.Prelude.{◌≡◌, ◌≤◌, IfOk, IfErr};
 ghost use Rattle.scale_info_value.specs.declared.value.Dyn.TheVariants as dyn;
 ghost use Rattle.scale_info_value.specs.Outcomes.{decoded, outcome_map, IsErrorOf};
-ghost use Rattle.scale_info_value.specs.Numbers.{number};
+ghost use Rattle.scale_info_value.specs.IntegerDecoders.{integer};
 ghost use Rattle.std.specs.Int.{w8, w16, w32, w64, w128};
-ghost use Rattle.scale_info_value.specs.Definitions.{truth, text, signed, primitive};
-ghost use Rattle.scale_info_value.specs.Definitions.{compact_primitive};
+ghost use Rattle.scale_info_value.specs.ValueDefinitions.{truth, text, signed, primitive};
+ghost use Rattle.scale_info_value.specs.ValueDefinitions.{compact_primitive};
 
-use crate::number::{byte, bytes, compact_up_to, count, number};
+use crate::integer::{byte, bytes, compact_up_to, count, integer};
 use crate::value::{Dyn, ValueError};
 use scale_info_bytes::utf8::from_utf8;
 use scale_info_collections::text::Text;
@@ -40,59 +40,59 @@ fn truth(input: &[u8]) -> Result<(Dyn, &[u8]), ValueError>
     }
 }
 
-/// A number of an unsigned type with so many bytes, and the rest.
+/// An integer of an unsigned type with so many bytes, and the rest.
 fn unsigned(width: usize, input: &[u8]) -> Result<(Dyn, &[u8]), ValueError>
     requires { width ≤ 16 }
     ensures ok { IfOk result
-        (λ found. outcome_map dyn.Unsigned (number width input.now) ≡ decoded found.0 found.1.now) }
-    ensures err { IfErr result (IsErrorOf (outcome_map dyn.Unsigned (number width input.now))) }
+        (λ found. outcome_map dyn.Unsigned (integer width input.now) ≡ decoded found.0 found.1.now) }
+    ensures err { IfErr result (IsErrorOf (outcome_map dyn.Unsigned (integer width input.now))) }
 {
-    let (n, rest) = number(width, input)?;
+    let (n, rest) = integer(width, input)?;
     Ok((Dyn::Unsigned(n), rest))
 }
 
-/// A number of 8 bits with a sign, and the rest.
+/// An integer of 8 bits with a sign, and the rest.
 fn signed_8(input: &[u8]) -> Result<(Dyn, &[u8]), ValueError>
     ensures ok { IfOk result (λ found. signed w8 input.now ≡ decoded found.0 found.1.now) }
     ensures err { IfErr result (IsErrorOf (signed w8 input.now)) }
 {
-    let (n, rest) = number(1, input)?;
+    let (n, rest) = integer(1, input)?;
     Ok((Dyn::Signed((n as u8).cast_signed() as i128), rest))
 }
 
-/// A number of 16 bits with a sign, and the rest.
+/// An integer of 16 bits with a sign, and the rest.
 fn signed_16(input: &[u8]) -> Result<(Dyn, &[u8]), ValueError>
     ensures ok { IfOk result (λ found. signed w16 input.now ≡ decoded found.0 found.1.now) }
     ensures err { IfErr result (IsErrorOf (signed w16 input.now)) }
 {
-    let (n, rest) = number(2, input)?;
+    let (n, rest) = integer(2, input)?;
     Ok((Dyn::Signed((n as u16).cast_signed() as i128), rest))
 }
 
-/// A number of 32 bits with a sign, and the rest.
+/// An integer of 32 bits with a sign, and the rest.
 fn signed_32(input: &[u8]) -> Result<(Dyn, &[u8]), ValueError>
     ensures ok { IfOk result (λ found. signed w32 input.now ≡ decoded found.0 found.1.now) }
     ensures err { IfErr result (IsErrorOf (signed w32 input.now)) }
 {
-    let (n, rest) = number(4, input)?;
+    let (n, rest) = integer(4, input)?;
     Ok((Dyn::Signed((n as u32).cast_signed() as i128), rest))
 }
 
-/// A number of 64 bits with a sign, and the rest.
+/// An integer of 64 bits with a sign, and the rest.
 fn signed_64(input: &[u8]) -> Result<(Dyn, &[u8]), ValueError>
     ensures ok { IfOk result (λ found. signed w64 input.now ≡ decoded found.0 found.1.now) }
     ensures err { IfErr result (IsErrorOf (signed w64 input.now)) }
 {
-    let (n, rest) = number(8, input)?;
+    let (n, rest) = integer(8, input)?;
     Ok((Dyn::Signed((n as u64).cast_signed() as i128), rest))
 }
 
-/// A number of 128 bits with a sign, and the rest.
+/// An integer of 128 bits with a sign, and the rest.
 fn signed_128(input: &[u8]) -> Result<(Dyn, &[u8]), ValueError>
     ensures ok { IfOk result (λ found. signed w128 input.now ≡ decoded found.0 found.1.now) }
     ensures err { IfErr result (IsErrorOf (signed w128 input.now)) }
 {
-    let (n, rest) = number(16, input)?;
+    let (n, rest) = integer(16, input)?;
     Ok((Dyn::Signed(n.cast_signed()), rest))
 }
 
@@ -126,7 +126,7 @@ pub(crate) fn primitive<'a>(
     }
 }
 
-/// A compact number that fits a primitive type, and the rest.
+/// A compact integer that fits a primitive type, and the rest.
 pub(crate) fn compact_primitive<'a>(
     kind: &TypeDefPrimitive,
     input: &'a [u8],

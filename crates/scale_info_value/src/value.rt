@@ -13,9 +13,9 @@ use thiserror::Error;
 pub enum Dyn {
     /// A truth value.
     Bool(bool),
-    /// A number of an unsigned type, compact or not.
+    /// An integer of an unsigned type, compact or not.
     Unsigned(u128),
-    /// A number of a signed type.
+    /// An integer of a signed type.
     Signed(i128),
     /// A text.
     Text(Text),
@@ -42,7 +42,7 @@ pub enum ValueError {
     #[error("NoSuchType")]
     NoSuchType,
     /// A type whose values are not decoded: `char`, `u256`, `i256`, bit sequences, and compact
-    /// types that are no unsigned number of up to 128 bits.
+    /// types that are no unsigned integer of up to 128 bits.
     #[error("Unsupported")]
     Unsupported,
     /// A value more than 128 deep.

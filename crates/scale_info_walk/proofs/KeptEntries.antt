@@ -10,7 +10,7 @@ use Rattle.scale_info_numberings.specs.Numberings.{IsNumbering}
 use Rattle.scale_info_numberings.specs.Systems.{next}
 use Rattle.scale_info_numberings.specs.Tables.{ArePlaces, IsTable}
 use Rattle.scale_info_references.proofs.Replaced.{shape_stays, ids_replaced}
-use Rattle.scale_info_types.specs.Entries.{kept_entry}
+use Rattle.scale_info_types.specs.KeptEntries.{kept_entry}
 use Rattle.scale_info_types.specs.Portable.{Id, Text}
 use Rattle.scale_info_types.specs.References.{references}
 use Rattle.scale_info_types.specs.declared.ty.PortableType.{PortableType}

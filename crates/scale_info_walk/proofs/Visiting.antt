@@ -1,27 +1,34 @@
 -- A walk, reference by reference.
-use Rattle.std.proofs.Common.{◌≡◌, ◌≢◌, set, ℕ, ◌+◌, ◌-◌, ◌^◌, ◌<◌, ◌≤◌, List, [], ◌∷◌, ◌++◌, length, Some, None}
-use Rattle.std.proofs.Common.{slice_get, get_or, sum_by, refl, ap, sym, ◌∙◌, subst, arith, ◌⊎◌, inl, inr}
+use Rattle.std.proofs.Common.{◌≡◌, ◌≢◌, set, ℕ, ◌+◌, ◌-◌, ◌^◌, ◌<◌, ◌≤◌, List, [], ◌∷◌, ◌++◌}
+use Rattle.std.proofs.Common.{length, Some, None}
+use Rattle.std.proofs.Common.{slice_get, get_or, sum_by, refl, ap, sym, ◌∙◌, subst, arith, ◌⊎◌, inl}
+use Rattle.std.proofs.Common.{inr}
 use Rattle.std.proofs.Common.{Contains, length-append, suc, take, take_all}
 use Rattle.std.proofs.lemmas.Bool.{cases_lt}
-use Rattle.std.proofs.lemmas.List.{length_push, length-set, get_or-set_same, get_or-set_other, take_more}
+use Rattle.std.proofs.lemmas.List.{length_push, length-set, get_or-set_same, get_or-set_other}
+use Rattle.std.proofs.lemmas.List.{take_more}
 use Rattle.std.proofs.lemmas.List.FromFn.{length-range_with_len}
 use Rattle.std.proofs.lemmas.List.Sums.{sum_by_push, sum_by-cons}
-use Rattle.std.proofs.lemmas.Option.{slice_get-get_or, same_Some, none-some, slice_get_within, slice_get_past}
+use Rattle.std.proofs.lemmas.Option.{slice_get-get_or, same_Some, none-some, slice_get_within}
+use Rattle.std.proofs.lemmas.Option.{slice_get_past}
 use Rattle.std.specs.List.{range_with_len}
 use Rattle.scale_info_numberings.proofs.ExtensionOfExtension.{extension_composes}
 use Rattle.scale_info_numberings.proofs.Extensions.{numbering_of_extension}
 use Rattle.scale_info_numberings.proofs.FirstReference.{extends_by_none}
-use Rattle.scale_info_numberings.proofs.Places.{place_of, contains_at, contains_head, contains_tail, contains_cases}
+use Rattle.scale_info_numberings.proofs.Places.{place_of, contains_at, contains_head, contains_tail}
+use Rattle.scale_info_numberings.proofs.Places.{contains_cases}
 use Rattle.scale_info_numberings.proofs.Places.{at_range, at_seam, from_left, at_left}
 use Rattle.scale_info_numberings.proofs.Reached.{extension_holds}
 use Rattle.scale_info_numberings.specs.Extensions.{IsExtension}
 use Rattle.scale_info_numberings.specs.Numberings.{AreDistinct, IsNumbering}
-use Rattle.scale_info_numberings.specs.Systems.{Entry, System, IsReachedPast, root, next, looks, refs_in}
+use Rattle.scale_info_numberings.specs.Systems.{Entry, System, IsReachedPast, root, next, looks}
+use Rattle.scale_info_numberings.specs.Systems.{refs_in}
 use Rattle.scale_info_numberings.proofs.WorkLists.{IsWalking, walk_adds, walk_passes}
 use Rattle.scale_info_numberings.proofs.Weights.{weight, weight_in, distinct_sums}
 use Rattle.scale_info_walk.specs.Walks.{AreNumbers, IsWalkError, IsLook, IsNextOf, IsWalk}
 use Rattle.scale_info_walk.specs.declared.walk.RetainError.{RetainError}
-use Rattle.scale_info_walk.specs.declared.walk.RetainError.TheVariants.{Dangling, TooManyTypes, Memory}
+use Rattle.scale_info_walk.specs.declared.walk.RetainError.TheVariants.{Dangling, TooManyTypes}
+use Rattle.scale_info_walk.specs.declared.walk.RetainError.TheVariants.{Memory}
 
 -- ---- the references that are left
 

@@ -1,7 +1,7 @@
 -- Entries that are kept, one by one.
 use Rattle.std.specs.Prelude.{◌≡◌, ℕ, List, Some, length, slice_get}
 use Rattle.scale_info_references.specs.Conversions.{symbol}
-use Rattle.scale_info_types.specs.Entries.{kept_entry}
+use Rattle.scale_info_types.specs.KeptEntries.{kept_entry}
 use Rattle.scale_info_types.specs.Portable.{Id}
 use Rattle.scale_info_types.specs.declared.ty.PortableType.{PortableType}
 

@@ -11,7 +11,7 @@ ghost use Rattle.scale_info_walk.specs.TypeSystems.{types_system};
 ghost use Rattle.scale_info_walk.specs.Walks.{AreNumbers, IsWalkError, IsWalk, IsLook};
 ghost use Rattle.scale_info_walk.specs.declared.walk.RetainError.TheVariants as retain;
 
-use crate::references::{References, TypeReferences};
+use crate::graph::{References, TypeReferences};
 use crate::refs::Refs;
 use scale_info_types::ty::PortableType;
 use std::alloc::{AllocError, AllocFailed, Global};

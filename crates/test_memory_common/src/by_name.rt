@@ -151,7 +151,7 @@ fn for_list<V: Described>(call: V, name: &str) -> Option<V::Returned> {
     }
 }
 
-/// Makes a call for an array or a compact number.
+/// Makes a call for an array or a compact integer.
 fn for_array<V: Described>(call: V, name: &str) -> Option<V::Returned> {
     match name {
         "[u8; 4]" => Some(call.of::<[u8; 4]>()),

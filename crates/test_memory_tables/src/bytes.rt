@@ -39,7 +39,7 @@ pub fn decode(rt: &HostRuntime, row: &str) -> Result<Outcome, Fail> {
     Outcome::of(decoded(rt.alloc(), returned))
 }
 
-/// Decodes a compact number, and encodes it again.
+/// Decodes a compact integer, and encodes it again.
 pub fn decode_compact(rt: &HostRuntime, row: &str) -> Result<Outcome, Fail> {
     let bytes = bytes_of(rt.alloc(), row)?;
     begin(rt);

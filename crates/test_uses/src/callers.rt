@@ -1,8 +1,8 @@
 //! Programs of `docs/CALLING.md` that write and read tables, and that convert their values.
 use crate::asserts::is;
-use example_callers::build::write_point;
 use example_callers::call::{Call, PortableCall};
 use example_callers::inspect::inspect;
+use example_callers::point::write_point;
 use example_callers::register::{table_in_two_steps, write_numbers};
 use scale_info::impls::meta_type;
 use scale_info::meta_type::{Catalogue, CatalogueError, HasIdentity};

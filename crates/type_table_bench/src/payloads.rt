@@ -118,7 +118,7 @@ fn push_calls(out: &mut Vec<u8>, random: &mut Random) -> Result<(), AllocError> 
     Ok(())
 }
 
-/// Appends a list of compact numbers of each width.
+/// Appends a list of compact integers of each width.
 fn push_compacts(out: &mut Vec<u8>, random: &mut Random, count: u32) -> Result<(), AllocError> {
     push_compact(out, count)?;
     for _ in 0..count {

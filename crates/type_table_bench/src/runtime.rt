@@ -89,7 +89,7 @@ struct Making {
 }
 
 /// A table of so many types: first the built-in ones, then structs and enums, and some sequences,
-/// arrays, tuples and compact numbers.
+/// arrays, tuples and compact integers.
 pub fn runtime_table(alloc: Global, random: Random, count: u32) -> Result<Documented, AllocError> {
     let mut making = Making {
         table: TableBytes::new(alloc),

@@ -1,7 +1,7 @@
 //! SCALE bytes that inputs are made of.
 use std::alloc::AllocError;
 
-/// Appends a compact number.
+/// Appends a compact integer.
 pub fn push_compact(out: &mut Vec<u8>, number: u32) -> Result<(), AllocError> {
     if number < 64 {
         out.push((number * 4) as u8)?;
@@ -42,7 +42,7 @@ pub fn push_word(out: &mut Vec<u8>, number: u64) -> Result<(), AllocError> {
     out.extend_from_slice(&number.to_le_bytes())
 }
 
-/// Appends a compact number of 63 bits with its highest bit, which takes nine bytes.
+/// Appends a compact integer of 63 bits with its highest bit, which takes nine bytes.
 pub fn push_compact_word(out: &mut Vec<u8>, number: u64) -> Result<(), AllocError> {
     out.push(19)?;
     push_word(out, number >> 1 | 0x4000_0000_0000_0000)

@@ -103,7 +103,7 @@ impl TableBytes {
         self.end()
     }
 
-    /// A compact number of the type with this id.
+    /// A compact integer of the type with this id.
     pub fn compact(&mut self, number: u32) -> Result<u32, AllocError> {
         self.begin(&[], 6)?;
         push_compact(&mut self.entries, number)?;

@@ -1,5 +1,8 @@
 -- What a line on the writer for errors says.
-use Rattle.std.proofs.Common.{◌≡◌, ℕ, zero, suc, ◌+◌, ◌*◌, ◌<◌, ◌≤◌, ◌^◌, List, [], ◌∷◌, ◌++◌, Option, None, Some, Bool, true, false, get_or, if◌then◌else◌, ◌==◌, refl, sym, ap, ◌∙◌, arith, append-nil, append_assoc, take, drop, take-append-drop, codes, subst}
+use Rattle.std.proofs.Common.{◌≡◌, ℕ, zero, suc, ◌+◌, ◌*◌, ◌<◌, ◌≤◌, ◌^◌, List, [], ◌∷◌, ◌++◌}
+use Rattle.std.proofs.Common.{Option, None, Some, Bool, true, false, get_or, if◌then◌else◌, ◌==◌}
+use Rattle.std.proofs.Common.{refl, sym, ap, ◌∙◌, arith, append-nil, append_assoc, take, drop}
+use Rattle.std.proofs.Common.{take-append-drop, codes, subst}
 use Rattle.std.proofs.lemmas.Bool.{false≢true}
 use Rattle.std.proofs.lemmas.Fmt.{decimal_injective, decimal_is_IsNumeral}
 use Rattle.std.proofs.lemmas.List.{append_cancel_left}
@@ -8,7 +11,9 @@ use Rattle.std.specs.Fmt.{decimal}
 use Rattle.std.specs.Str.Parse.{AllDigits}
 use Rattle.type_table_io.specs.Commands.{HasCommand}
 use Rattle.type_table_io.specs.declared.error.RunError.{RunError}
-use Rattle.type_table_io.specs.declared.error.RunError.TheVariants.{Malformed, TrailingBytes, NoSuchType, Dangling, Memory, Input, Output}
+use Rattle.type_table_io.specs.declared.error.RunError.TheVariants.{Malformed, TrailingBytes}
+use Rattle.type_table_io.specs.declared.error.RunError.TheVariants.{NoSuchType, Dangling, Memory}
+use Rattle.type_table_io.specs.declared.error.RunError.TheVariants.{Input, Output}
 use Rattle.type_table_io.specs.Lines.{HasSmallId, line_of, usage_line}
 use Rattle.type_table_run.specs.Refusals.{Explains, Refuses}
 use Rattle.type_table_io.specs.Reports.{AppendsPrefix, Reported}

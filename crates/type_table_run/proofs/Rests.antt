@@ -1,5 +1,6 @@
 -- Nothing comes after a table.
-use Rattle.std.proofs.Common.{List, ℕ, [], ◌≡◌, ◌++◌, ◌==◌, true, ◌∙◌, length, sym, subst, ap, append-nil}
+use Rattle.std.proofs.Common.{List, ℕ, [], ◌≡◌, ◌++◌, ◌==◌, true, ◌∙◌, length, sym, subst, ap}
+use Rattle.std.proofs.Common.{append-nil}
 use Rattle.std.proofs.lemmas.Bool.{eqb-true}
 use Rattle.std.proofs.lemmas.List.{nil_from_length}
 use Rattle.scale_info_grammar.specs.Ty.{EncodesTypes}

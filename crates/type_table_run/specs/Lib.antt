@@ -1,9 +1,9 @@
 pub mod Errors
-pub mod Tables
+pub mod OneTable
 pub mod Outputs
 pub mod Refusals
 pub use Rattle.scale_info_grammar.specs.Ty
-pub use Rattle.scale_info_json_trees.specs.Entries
+pub use Rattle.scale_info_json_trees.specs.EntryTrees
 pub use Rattle.scale_info_prune.specs.Prunes
 pub use Rattle.scale_info_prune.specs.TableIndexes
 pub use Rattle.type_table_io.specs.Commands

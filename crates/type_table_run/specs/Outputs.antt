@@ -5,13 +5,13 @@ use Rattle.std.specs.Io.KnownBytes.{Appends}
 use Rattle.serde_json.specs.Written.{compact_text}
 use Rattle.scale_info_bytes.specs.Encodings.{HasPrefix}
 use Rattle.scale_info_grammar.specs.Ty.{EncodesTypes}
-use Rattle.scale_info_json_trees.specs.Entries.{types_tree}
+use Rattle.scale_info_json_trees.specs.EntryTrees.{types_tree}
 use Rattle.scale_info_prune.specs.Prunes.{IsPrunedEncoding}
 use Rattle.scale_info_types.specs.declared.ty.PortableType.{PortableType}
 use Rattle.type_table_io.specs.Commands.{given_ids}
 use Rattle.type_table_io.specs.declared.command.Command.{Command}
 use Rattle.type_table_io.specs.declared.command.Command.TheVariants.{Check, Prune, Json}
-use Rattle.type_table_run.specs.Tables.{IsOneTable}
+use Rattle.type_table_run.specs.OneTable.{IsOneTable}
 use Rattle.type_table_io.specs.Reports.{AppendsPrefix}
 
 -- the input encodes one table, and the output is an encoding of the table of the numbering of it

@@ -3,7 +3,7 @@ ghost use Rattle.std.specs.Prelude.{IfErr, IfOk};
 ghost use Rattle.scale_info_bytes.specs.Encodings.{HasNoPrefix, IfMalformed};
 ghost use Rattle.scale_info_grammar.specs.Ty.{EncodesTypes};
 ghost use Rattle.type_table_run.specs.Outputs.{BeginsWithJson, IsJsonOf};
-ghost use Rattle.type_table_run.specs.Tables.{IsCheckError};
+ghost use Rattle.type_table_run.specs.OneTable.{IsCheckError};
 
 use scale_info_bytes::error::DecodeError;
 use scale_info_transcode::append_json_of;

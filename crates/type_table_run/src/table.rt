@@ -1,6 +1,6 @@
 //! Whether bytes are one table.
 ghost use Rattle.std.specs.Prelude.{IfErr, OnOk};
-ghost use Rattle.type_table_run.specs.Tables.{IsOneTable, IsCheckError};
+ghost use Rattle.type_table_run.specs.OneTable.{IsOneTable, IsCheckError};
 
 use scale_info_collections::items::Items;
 use scale_info_passes::visitors::skip;

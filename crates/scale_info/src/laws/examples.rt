@@ -6,4 +6,4 @@ pub use scale_info_numberings::laws::examples::{
     two_registrations, unfoldings,
 };
 pub use scale_info_tables::laws::examples::indices_are_nodes;
-pub use scale_info_value::laws::examples::{depths, fields, lists, maps, numbers};
+pub use scale_info_value::laws::examples::{depths, fields, integers, lists, maps};

@@ -4,7 +4,7 @@
 //! The composites are `struct C {}`, `struct A { b: B, c: C }`, `struct B { d: D }` and
 //! `struct D { a: A }`.
 
-ghost use Rattle.scale_info_numberings.specs.Examples.{
+ghost use Rattle.scale_info_numberings.specs.NumberingExamples.{
   A,
   B,
   C,
@@ -25,7 +25,7 @@ ghost use Rattle.scale_info_numberings.specs.Extensions.{IsExtension};
 ghost use Rattle.scale_info_numberings.specs.Matches.{IsMatch};
 ghost use Rattle.scale_info_numberings.specs.Numberings.{IsNumbering, IsNumberingWith};
 ghost use Rattle.scale_info_numberings.specs.Paths.{IsPath};
-ghost use Rattle.scale_info_numberings.specs.Registrations.{AreRegistrations};
+ghost use Rattle.scale_info_numberings.specs.RegistrationLists.{AreRegistrations};
 ghost use Rattle.scale_info_numberings.specs.Systems.{Entry, IsReached, IsReachedPast, looks};
 ghost use Rattle.scale_info_numberings.specs.Tables.{IsTable, table_system};
 ghost use Rattle.scale_info_numberings.specs.Unfoldings.{cut, missing, no_trees, node, tree};

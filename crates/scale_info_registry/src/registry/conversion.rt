@@ -5,7 +5,7 @@ ghost use Rattle.scale_info_references.specs.Gathered.{targets};
 ghost use Rattle.scale_info_types.specs.MetaDescriptions.{type_term};
 ghost use Rattle.scale_info_types.specs.References.{definition_references, references};
 ghost use Rattle.scale_info_types.specs.declared.meta_type.MetaType.{MetaType};
-ghost use Rattle.scale_info_registry.specs.Parts.{
+ghost use Rattle.scale_info_registry.specs.RegistryParts.{
   composite_types,
   composite_with_ids,
   definition_with_ids,
@@ -83,7 +83,7 @@ fn optional_copy(alloc: Global, source: &Option<&'static str>) -> Result<Option<
 }
 
 /// Copies of strings, in order.
-fn copies_of(alloc: Global, sources: &Items<&'static str>) -> Result<Items<Text>, AllocError>
+fn copied_texts(alloc: Global, sources: &Items<&'static str>) -> Result<Items<Text>, AllocError>
     ensures { IfOk result (λ copies. copies ≡ map (λ text. text.now) sources.now) }
 {
     let mut copies = Items::with_capacity(alloc, sources.len())?;
@@ -111,7 +111,10 @@ fn all_with_ids<P: HasTypes>(
 }
 
 /// The list of one type.
-pub(super) fn alone<'a>(alloc: Global, ty: &'a MetaType) -> Result<Vec<&'a MetaType>, AllocError>
+pub(super) fn list_of_one<'a>(
+    alloc: Global,
+    ty: &'a MetaType,
+) -> Result<Vec<&'a MetaType>, AllocError>
     ensures ok { IfOk result (λ types. stacked types.items ≡ type_term ty.now ∷ []) }
     ensures list { IfOk result (λ types. targets types.items ≡ ty.now ∷ []) }
 {
@@ -162,7 +165,7 @@ impl HasTypes for Type {
             path: self.path.with_ids(alloc, ids)?,
             type_params: all_with_ids(alloc, ids, &self.type_params)?,
             type_def: self.type_def.with_ids(alloc, ids)?,
-            docs: copies_of(alloc, &self.docs)?,
+            docs: copied_texts(alloc, &self.docs)?,
         })
     }
 }
@@ -183,7 +186,7 @@ impl HasTypes for Path {
         alloc: Global,
         _ids: &Identities<'_>,
     ) -> Result<Path<PortableForm>, AllocError> {
-        Ok(Path::from(copies_of(alloc, &self.segments)?))
+        Ok(Path::from(copied_texts(alloc, &self.segments)?))
     }
 }
 
@@ -197,7 +200,7 @@ impl HasTypes for TypeParameter {
     fn types<'a>(&'a self, alloc: Global) -> Result<Vec<&'a MetaType>, AllocError> {
         match &self.ty {
             None => Ok(Vec::new(alloc)),
-            Some(ty) => alone(alloc, ty),
+            Some(ty) => list_of_one(alloc, ty),
         }
     }
 
@@ -264,7 +267,7 @@ impl HasTypes for Field {
     ghost with_ids = { field_with_ids };
 
     fn types<'a>(&'a self, alloc: Global) -> Result<Vec<&'a MetaType>, AllocError> {
-        alone(alloc, &self.ty)
+        list_of_one(alloc, &self.ty)
     }
 
     fn with_ids(
@@ -276,7 +279,7 @@ impl HasTypes for Field {
             name: optional_copy(alloc, &self.name)?,
             ty: ids.id(&self.ty),
             type_name: optional_copy(alloc, &self.type_name)?,
-            docs: copies_of(alloc, &self.docs)?,
+            docs: copied_texts(alloc, &self.docs)?,
         })
     }
 }
@@ -301,7 +304,7 @@ impl HasTypes for Variant {
             name: copy_of(alloc, &self.name)?,
             fields: all_with_ids(alloc, ids, &self.fields)?,
             index: self.index,
-            docs: copies_of(alloc, &self.docs)?,
+            docs: copied_texts(alloc, &self.docs)?,
         })
     }
 }

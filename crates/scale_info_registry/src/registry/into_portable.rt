@@ -2,7 +2,7 @@
 ghost use Rattle.std.specs.Prelude.{◌≡◌, ℕ, [], ◌∷◌, List, OnOk, OnErr, IfErr, IfOk};
 ghost use Rattle.scale_info_identities.specs.TypeIds.{Term};
 ghost use Rattle.scale_info_types.specs.References.{definition_references, references};
-ghost use Rattle.scale_info_registry.specs.Parts.{
+ghost use Rattle.scale_info_registry.specs.RegistryParts.{
   array_types,
   array_with_ids,
   bit_sequence_types,

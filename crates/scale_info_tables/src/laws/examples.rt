@@ -1,7 +1,7 @@
 //! Tables as reference systems, tried on a small table.
 ghost use Rattle.scale_info_tables.specs.TableSystems.{system_of};
 ghost use Rattle.scale_info_tables.specs.TableExamples.{ids_that_are_not_indices};
-ghost use Rattle.scale_info_types.specs.Examples.{key_values, plain};
+ghost use Rattle.scale_info_types.specs.TypeExamples.{key_values, plain};
 ghost use Rattle.scale_info_types.specs.Shapes.{shape};
 ghost use Rattle.scale_info_types.specs.declared.ty.TypeDef.TheVariants as def;
 ghost use Rattle.scale_info_primitives.specs.declared.primitive.TypeDefPrimitive.TheVariants as kind;

@@ -23,7 +23,7 @@ pub struct Entries<'a> {
 impl<'a> Model for Entries<'a> {
     ghost use Rattle.std.specs.Prelude.{ℕ, List, length, ◌+◌, ◌≤◌};
     ghost use Rattle.scale_info_types.specs.Portable.{Description};
-    ghost use Rattle.scale_info_tables.specs.Entries.{indexed_from};
+    ghost use Rattle.scale_info_tables.specs.IndexedEntries.{indexed_from};
 
     ghost Value = { List (ℕ × Description) };
 

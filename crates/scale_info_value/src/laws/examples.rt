@@ -4,10 +4,11 @@ ghost use Rattle.std.specs.Prelude.{◌≡◌, ◌∷◌, [], Some, codes, negsu
 ghost use Rattle.scale_info_types.specs.declared.ty.TypeDef.TheVariants as def;
 ghost use Rattle.scale_info_primitives.specs.declared.primitive.TypeDefPrimitive.TheVariants as kind;
 ghost use Rattle.scale_info_value.specs.declared.value.Dyn.TheVariants as dyn;
-ghost use Rattle.scale_info_value.specs.Examples.{table_of, list_of_u32, own_field, compact_of};
-ghost use Rattle.scale_info_value.specs.Examples.{array_of_missing, map_of_u32_to_bool};
-ghost use Rattle.scale_info_value.specs.Examples.{named_fields, equal_indices};
-ghost use Rattle.scale_info_value.specs.Examples.{compact_of_wrapped, map_of_maps};
+ghost use Rattle.scale_info_value.specs.ValueExamples.{table_of, list_of_u32, own_field};
+ghost use Rattle.scale_info_value.specs.ValueExamples.{compact_of};
+ghost use Rattle.scale_info_value.specs.ValueExamples.{array_of_missing, map_of_u32_to_bool};
+ghost use Rattle.scale_info_value.specs.ValueExamples.{named_fields, equal_indices};
+ghost use Rattle.scale_info_value.specs.ValueExamples.{compact_of_wrapped, map_of_maps};
 ghost use Rattle.scale_info_value.specs.Outcomes.{decoded, failed, malformed, too_deep};
 ghost use Rattle.scale_info_value.specs.Outcomes.{no_such_type, unsupported};
 ghost use Rattle.scale_info_value.specs.Readings.{reading};
@@ -33,8 +34,8 @@ pub fn depths()
     ensures past { reading list_of_u32 0 129 (0 ∷ []) ≡ failed too_deep }
 {}
 
-/// Compact numbers, also of a type that two composites of one field hold, and numbers with a sign.
-pub fn numbers()
+/// Compact integers, also of a type that two composites of one field hold, and integers with a sign.
+pub fn integers()
     ensures one { reading (compact_of kind.U64) 0 1 (4 ∷ []) ≡ decoded (dyn.Unsigned 1) [] }
     ensures four_bytes { reading (compact_of kind.U64) 0 1 (3 ∷ 0 ∷ 0 ∷ 0 ∷ 64 ∷ [])
         ≡ decoded (dyn.Unsigned 1073741824) [] }

@@ -1,4 +1,5 @@
-use Rattle.std.proofs.Common.{rules, ◌≡◌, ◌∙◌, ◌∷◌, ◌++◌, [], ap, append-nil, get_or, ◌+◌, length, map, refl}
+use Rattle.std.proofs.Common.{rules, ◌≡◌, ◌∙◌, ◌∷◌, ◌++◌, [], ap, append-nil, get_or, ◌+◌, length}
+use Rattle.std.proofs.Common.{map, refl}
 use Rattle.std.proofs.Common.{subst, sym, take}
 use Rattle.std.proofs.lemmas.List.{map-append, take_all, take_more}
 use Rattle.scale_info.specs.Headline.{AreAccepted, History, IsTableOf, IsWritten, Pruning}

@@ -1,6 +1,8 @@
-use Rattle.std.proofs.Common.{◌≡◌, ◌∙◌, ◌%◌, ◌^◌, sym, ap, leb, leb-false, eqb-true, map, replicate, w8, arith}
+use Rattle.std.proofs.Common.{◌≡◌, ◌∙◌, ◌%◌, ◌^◌, sym, ap, leb, leb-false, eqb-true, map, replicate}
+use Rattle.std.proofs.Common.{w8, arith}
 use Rattle.std.proofs.lemmas.List.{length-map}
-use Rattle.std.proofs.lemmas.Simd.{length-chunk, tops_compared, zip2_splat_left, mask_l-mod, none_from_empty_mask}
+use Rattle.std.proofs.lemmas.Simd.{length-chunk, tops_compared, zip2_splat_left, mask_l-mod}
+use Rattle.std.proofs.lemmas.Simd.{none_from_empty_mask}
 use lib.Lanes.{chunk, mask_l}
 use Rattle.scale_info_bytes.proofs.utf8.is_ascii_block.Goals as goal
 

@@ -4,7 +4,8 @@ use Rattle.std.specs.Option.{option_copied}
 use Rattle.scale_info_catalogue.specs.CatalogueSystems.{catalogue_system}
 use Rattle.scale_info_catalogue.specs.Discoveries.{nodes_of, stacked, IsNumbered}
 use Rattle.scale_info_numberings.proofs.WorkLists.{walk_starts}
-use Rattle.scale_info_catalogue.proofs.Discovered.{kept_more, found_more, passes, adds, shrinks, ends, fails}
+use Rattle.scale_info_catalogue.proofs.Discovered.{kept_more, found_more, passes, adds, shrinks}
+use Rattle.scale_info_catalogue.proofs.Discovered.{ends, fails}
 use Rattle.scale_info_catalogue.proofs.Terms.{distinct_nodes}
 use Rattle.scale_info_catalogue.proofs.discovery.discover.Goals as goal
 

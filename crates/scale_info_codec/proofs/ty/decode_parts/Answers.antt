@@ -2,9 +2,11 @@ use Rattle.std.proofs.Common.{arith}
 use Rattle.scale_info_grammar.specs.Ty.{composite, variant, sequence, array, tuple, primitive}
 use Rattle.scale_info_grammar.specs.Ty.{compact, bit_sequence, map}
 use Rattle.scale_info_bytes.proofs.Errors.{passed_malformed}
-use Rattle.scale_info_grammar.proofs.Definitions.{prefix_map, prefix_at, no_prefix_map, no_prefix_at}
+use Rattle.scale_info_grammar.proofs.Definitions.{prefix_map, prefix_at, no_prefix_map}
+use Rattle.scale_info_grammar.proofs.Definitions.{no_prefix_at}
 use Rattle.scale_info_grammar.proofs.Definitions.{at_composite, at_variant, at_sequence, at_array}
-use Rattle.scale_info_grammar.proofs.Definitions.{at_tuple, at_primitive, at_compact, at_bit_sequence}
+use Rattle.scale_info_grammar.proofs.Definitions.{at_tuple, at_primitive, at_compact}
+use Rattle.scale_info_grammar.proofs.Definitions.{at_bit_sequence}
 use Rattle.scale_info_grammar.proofs.Definitions.{at_map}
 use Rattle.scale_info_codec.proofs.ty.decode_parts.Goals as goal
 

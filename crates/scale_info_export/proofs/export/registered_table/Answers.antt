@@ -29,8 +29,8 @@ returns-clause-ok c =
     let table =
     c.registered_tables.ensures S roots after c.in_ok-table.table made c.in_ok-table.ensures.entries c.in_ok-table.ensures.long in
     let is_id : Id → ℕ = λ symbol. symbol.id in
-    let ids : map is_id c.in_ok-symbols.symbols.items ≡ c.in_ok-ids_of.field-0.items =
-    sym (c.in_ok-ids_of.ensures.ok ∙ ap (map is_id) c.deref.ensures.value) in
+    let ids : map is_id c.in_ok-symbols.symbols.items ≡ c.in_ok-ids_of_symbols.field-0.items =
+    sym (c.in_ok-ids_of_symbols.ensures.ok ∙ ap (map is_id) c.deref.ensures.value) in
     record {
       order = nodes_of after.identities;
       numbering = table.0;

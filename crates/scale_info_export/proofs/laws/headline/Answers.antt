@@ -1,6 +1,7 @@
 use Rattle.std.proofs.Common.{[], refl}
 use Rattle.scale_info_numberings.proofs.Reached.{reached_exactly}
-use Rattle.scale_info_export.proofs.Headline.{chosen_types, kept_is_afresh, kept_is_numbered, written_match}
+use Rattle.scale_info_export.proofs.Headline.{chosen_types, kept_is_afresh, kept_is_numbered}
+use Rattle.scale_info_export.proofs.Headline.{written_match}
 use Rattle.scale_info_export.proofs.laws.headline.Goals as goal
 
 pub returns-clause-only_text : goal.returns-clause-only_text

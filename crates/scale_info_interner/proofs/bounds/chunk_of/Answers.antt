@@ -1,4 +1,5 @@
-use Rattle.std.proofs.Common.{◌≡◌, ◌≢◌, ◌≤◌, ◌<◌, ◌+◌, ◌*◌, ◌-◌, ◌%◌, ◌^◌, ◌↔◌, ℕ, suc, Bool, true, false, IsTrue, List, None, slice_get, arith, subst, ap, refl, ◌∙◌}
+use Rattle.std.proofs.Common.{◌≡◌, ◌≢◌, ◌≤◌, ◌<◌, ◌+◌, ◌*◌, ◌-◌, ◌%◌, ◌^◌, ◌↔◌, ℕ, suc, Bool, true}
+use Rattle.std.proofs.Common.{false, IsTrue, List, None, slice_get, arith, subst, ap, refl, ◌∙◌}
 use Rattle.std.proofs.Math.Pow.{pow_mono}
 use Rattle.std.proofs.Math.Nat.{pow-suc}
 use Rattle.std.proofs.lemmas.Nat.{one_shl, pow_pos}
@@ -6,7 +7,7 @@ use Rattle.std.proofs.lemmas.Option.{slice_get_past}
 use Rattle.std.specs.Option.{option_map, unwrap_or}
 use Rattle.std.specs.declared.cmp.Ordering.{Ordering}
 use Rattle.std.specs.declared.cmp.Ordering.TheVariants.{Greater}
-use Rattle.scale_info_interner.specs.Orders.{against}
+use Rattle.scale_info_interner.specs.ElementOrders.{against}
 use Rattle.scale_info_interner.proofs.bounds.chunk_of.Goals as goal
 use mathlib.Core.Bool.{not}
 use mir.Val.{bool_byte}

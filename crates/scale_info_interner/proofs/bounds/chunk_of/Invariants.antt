@@ -1,6 +1,6 @@
 use Rattle.std.proofs.Common.{◌-◌, ◌≡◌, ◌≢◌, ◌+◌, ◌≤◌, ◌^◌, ℕ}
 use Rattle.std.specs.declared.cmp.Ordering.TheVariants.{Greater}
-use Rattle.scale_info_interner.specs.Orders.{against}
+use Rattle.scale_info_interner.specs.ElementOrders.{against}
 use Rattle.scale_info_interner.proofs.bounds.chunk_of.Given as goal
 
 abbrev pub invariant-loop-bits : goal.invariant-loop-bits

@@ -1,6 +1,7 @@
-use Rattle.std.proofs.Common.{rules, ◌≡◌, ◌++◌, ◌∷◌, [], ◌-◌, Some, map, length, slice_get, suc, refl, ap, subst, ◌∙◌}
+use Rattle.std.proofs.Common.{rules, ◌≡◌, ◌++◌, ◌∷◌, [], ◌-◌, Some, map, length, slice_get, suc}
+use Rattle.std.proofs.Common.{refl, ap, subst, ◌∙◌}
 use Rattle.std.proofs.lemmas.Option.{slice_get_within}
-use Rattle.scale_info_interner.specs.Orders.{IsElementOrder, IsFoundAt, after}
+use Rattle.scale_info_interner.specs.ElementOrders.{IsElementOrder, IsFoundAt, after}
 use Rattle.scale_info_interner.proofs.LastElement.{last_taken}
 use Rattle.scale_info_interner.proofs.Orders.{equal_index, one_index, last_index, after_at}
 use Rattle.scale_info_interner.proofs.Orders.{gap_absent}

@@ -1,7 +1,8 @@
-use Rattle.std.proofs.Common.{rules, ◌≡◌, ◌<◌, ◌+◌, ◌-◌, ◌/◌, map, subst, Some, slice_get, length, arith, refl, sym, ◌∙◌, ap}
+use Rattle.std.proofs.Common.{rules, ◌≡◌, ◌<◌, ◌+◌, ◌-◌, ◌/◌, map, subst, Some, slice_get, length}
+use Rattle.std.proofs.Common.{arith, refl, sym, ◌∙◌, ap}
 use Rattle.std.specs.declared.cmp.Ordering.TheVariants.{Greater}
 use Rattle.std.proofs.lemmas.Option.{slice_get_read}
-use Rattle.scale_info_interner.specs.Orders.{first_against}
+use Rattle.scale_info_interner.specs.ElementOrders.{first_against}
 use Rattle.scale_info_interner.proofs.Chunks.{row_at}
 use Rattle.scale_info_interner.proofs.order.chunks_before.Goals as goal
 

@@ -1,6 +1,6 @@
 use Rattle.std.proofs.Common.{◌-◌, ◌≡◌, ◌≢◌, ◌+◌, ◌≤◌, ℕ, List, Some, length, map, slice_get}
 use Rattle.std.specs.declared.cmp.Ordering.TheVariants.{Greater}
-use Rattle.scale_info_interner.specs.Orders.{first_against}
+use Rattle.scale_info_interner.specs.ElementOrders.{first_against}
 use Rattle.scale_info_interner.proofs.order.chunks_before.Given as goal
 
 abbrev pub invariant-loop-low : goal.invariant-loop-low

@@ -2,7 +2,7 @@ use Rattle.std.proofs.Common.{rules, ◌≡◌, ◌+◌, Some, slice_get, sym, �
 use Rattle.std.specs.declared.cmp.Ordering.TheVariants.{Greater}
 use Rattle.std.proofs.lemmas.Grind.{common_steps}
 use Rattle.std.proofs.lemmas.Option.{gets}
-use Rattle.scale_info_interner.specs.Orders.{first_against}
+use Rattle.scale_info_interner.specs.ElementOrders.{first_against}
 use Rattle.scale_info_interner.proofs.Chunks.{row_at, row_within}
 use Rattle.scale_info_interner.proofs.order.ends_below.Goals as goal
 

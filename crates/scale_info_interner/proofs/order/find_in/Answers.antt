@@ -4,7 +4,8 @@ use Rattle.std.proofs.lemmas.Option.{gets}
 use Rattle.scale_info_interner.proofs.Orders.{gap_here}
 use Rattle.scale_info_interner.proofs.Chunks.{row_there}
 use Rattle.scale_info_interner.proofs.order.find_in.Goals as goal
-use Rattle.scale_info_interner.proofs.order.find_in.Goals.{then-chunk-eq0, else-chunk-eq0, then-at-len, else-at-len}
+use Rattle.scale_info_interner.proofs.order.find_in.Goals.{then-chunk-eq0, else-chunk-eq0}
+use Rattle.scale_info_interner.proofs.order.find_in.Goals.{then-at-len, else-at-len}
 
 pub returns-then-ends_below-clause-absent : goal.returns-then-ends_below-clause-absent
 returns-then-ends_below-clause-absent g c =

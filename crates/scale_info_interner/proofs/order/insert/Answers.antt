@@ -1,8 +1,10 @@
-use Rattle.std.proofs.Common.{rules, ◌≡◌, ◌≢◌, ◌++◌, ◌∷◌, [], Some, None, slice_get, take, drop, arith, subst, sym}
+use Rattle.std.proofs.Common.{rules, ◌≡◌, ◌≢◌, ◌++◌, ◌∷◌, [], Some, None, slice_get, take, drop}
+use Rattle.std.proofs.Common.{arith, subst, sym}
 use Rattle.std.specs.List.{insert}
 use Rattle.std.proofs.lemmas.Grind.{common_steps}
 use Rattle.std.proofs.lemmas.Option.{gets, slice_get_past}
-use Rattle.scale_info_interner.proofs.Chunks.{insert_joined, push_joined, same_rows, set_filled, filled_insert}
+use Rattle.scale_info_interner.proofs.Chunks.{insert_joined, push_joined, same_rows, set_filled}
+use Rattle.scale_info_interner.proofs.Chunks.{filled_insert}
 use Rattle.scale_info_interner.proofs.order.insert.Goals as goal
 
 pub returns-in_err-insert-in-Some-clause-err : goal.returns-in_err-insert-in-Some-clause-err

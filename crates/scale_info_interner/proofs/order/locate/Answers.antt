@@ -1,7 +1,7 @@
 use Rattle.std.proofs.Common.{◌≡◌, Some, slice_get, refl, sym, subst, ◌∙◌}
 use Rattle.std.specs.declared.cmp.Ordering.TheVariants.{Equal}
 use Rattle.std.proofs.lemmas.Option.{slice_get_read, slice_get_within, same_Some}
-use Rattle.scale_info_interner.specs.Orders.{against}
+use Rattle.scale_info_interner.specs.ElementOrders.{against}
 use Rattle.scale_info_interner.proofs.Chunks.{row_at, row_within}
 use Rattle.scale_info_interner.proofs.order.locate.Goals as goal
 

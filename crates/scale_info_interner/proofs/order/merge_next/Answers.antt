@@ -1,4 +1,5 @@
-use Rattle.std.proofs.Common.{rules, ◌≡◌, ◌≢◌, ◌++◌, ◌+◌, ℕ, Vec, suc, [], Some, slice_get, get_or, arith}
+use Rattle.std.proofs.Common.{rules, ◌≡◌, ◌≢◌, ◌++◌, ◌+◌, ℕ, Vec, suc, [], Some, slice_get, get_or}
+use Rattle.std.proofs.Common.{arith}
 use Rattle.std.proofs.Common.{ap, subst, sym, ◌∙◌, IsTrue, Global}
 use Rattle.std.specs.List.{remove}
 use Rattle.std.proofs.lemmas.List.Edits.{get_or-remove_below}

@@ -1,6 +1,6 @@
 use Rattle.std.proofs.Common.{◌-◌, ◌≡◌, ◌+◌, ◌≤◌, ℕ, Some, length, slice_get}
 use Rattle.std.specs.declared.cmp.Ordering.TheVariants.{Less, Greater}
-use Rattle.scale_info_interner.specs.Orders.{against}
+use Rattle.scale_info_interner.specs.ElementOrders.{against}
 use Rattle.scale_info_interner.proofs.order.search.Given as goal
 
 abbrev pub invariant-loop-low : goal.invariant-loop-low

@@ -3,7 +3,8 @@ use Rattle.std.proofs.lemmas.Result.{err_from_is_err_and}
 use Rattle.scale_info_passes.specs.Entries.{AreAtOffsets}
 use Rattle.scale_info_passes.specs.Visits.{renumbered}
 use Rattle.scale_info_types.specs.declared.ty.PortableType.{PortableType}
-use Rattle.scale_info_prune.proofs.Pruning.{index_error, is_pruned, order_few, order_within, starts_count}
+use Rattle.scale_info_prune.proofs.Pruning.{index_error, is_pruned, order_few, order_within}
+use Rattle.scale_info_prune.proofs.Pruning.{starts_count}
 use Rattle.scale_info_prune.specs.TableIndexes.{AppendsKeptTable}
 use Rattle.scale_info_prune.proofs.prune.append_pruned.Goals as goal
 

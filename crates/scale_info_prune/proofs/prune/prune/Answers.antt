@@ -1,11 +1,13 @@
-use Rattle.std.proofs.Common.{◌≡◌, ◌≢◌, ◌↔◌, ◌<◌, ℕ, List, Some, All, length, slice_get, sym, subst, arith}
+use Rattle.std.proofs.Common.{◌≡◌, ◌≢◌, ◌↔◌, ◌<◌, ℕ, List, Some, All, length, slice_get, sym, subst}
+use Rattle.std.proofs.Common.{arith}
 use Rattle.std.proofs.lemmas.Result.{err_from_is_err_and}
 use Rattle.std.specs.BTreeMap.{get}
 use Rattle.std.specs.Ordering.{nat_cmp}
 use Rattle.scale_info_passes.specs.Entries.{AreAtOffsets}
 use Rattle.scale_info_passes.specs.Visits.{renumbered}
 use Rattle.scale_info_types.specs.declared.ty.PortableType.{PortableType}
-use Rattle.scale_info_prune.proofs.Pruning.{index_error, is_pruned, new_ids_of, order_few, order_within, starts_count}
+use Rattle.scale_info_prune.proofs.Pruning.{index_error, is_pruned, new_ids_of, order_few}
+use Rattle.scale_info_prune.proofs.Pruning.{order_within, starts_count}
 use Rattle.scale_info_prune.specs.TableIndexes.{AppendsKeptTable}
 use Rattle.scale_info_prune.proofs.prune.prune.Goals as goal
 

@@ -1,6 +1,6 @@
 use Rattle.std.proofs.Common.{rules, ◌≡◌, ℕ, List, length, subst, OnOk, Result, Ok, Err}
 use Rattle.scale_info_bytes.specs.Encodings.{AppendsEncoding}
-use Rattle.scale_info_bytes.specs.Numbers.{EncodesCompact}
+use Rattle.scale_info_bytes.specs.Integers.{EncodesCompact}
 use Rattle.scale_info_passes.specs.Entries.{AreAtOffsets, AppendsKeptEntries}
 use Rattle.scale_info_passes.specs.Visits.{renumbered}
 use Rattle.scale_info_types.specs.declared.ty.PortableType.{PortableType}

@@ -1,4 +1,5 @@
-use Rattle.std.proofs.Common.{rules, ◌≡◌, ◌++◌, ◌∷◌, ◌+◌, [], ℕ, Some, slice_get, take, map, ap, sym, ◌∙◌, subst, arith, length}
+use Rattle.std.proofs.Common.{rules, ◌≡◌, ◌++◌, ◌∷◌, ◌+◌, [], ℕ, Some, slice_get, take, map, ap}
+use Rattle.std.proofs.Common.{sym, ◌∙◌, subst, arith, length}
 use Rattle.std.proofs.lemmas.Grind.{common_steps}
 use Rattle.std.proofs.lemmas.List.{length_push, map-append}
 use Rattle.scale_info_identities.specs.TypeIds.{term_of}

@@ -1,7 +1,8 @@
 use Rattle.std.proofs.Common.{◌≡◌, ℕ, List, arith, refl, sym, subst}
 use Rattle.scale_info_grammar.proofs.Definitions.{no_prefix_at, no_prefix_map}
 use Rattle.scale_info_grammar.proofs.Definitions.{at_composite, at_variant, at_sequence, at_array}
-use Rattle.scale_info_grammar.proofs.Definitions.{at_tuple, at_primitive, at_compact, at_bit_sequence}
+use Rattle.scale_info_grammar.proofs.Definitions.{at_tuple, at_primitive, at_compact}
+use Rattle.scale_info_grammar.proofs.Definitions.{at_bit_sequence}
 use Rattle.scale_info_grammar.proofs.Definitions.{at_map}
 use Rattle.scale_info_bytes.proofs.Steps.{no_prefix_through}
 use Rattle.scale_info_grammar.specs.Ty.{composite, variant, sequence, array, tuple, primitive}

@@ -1,7 +1,7 @@
 use Rattle.std.proofs.Common.{◌∙◌}
 use Rattle.scale_info_bytes.proofs.Errors.{passed_malformed}
 use Rattle.scale_info_json_trees.proofs.Texts.{whole_text}
-use Rattle.scale_info_json_trees.specs.Entries.{types_tree}
+use Rattle.scale_info_json_trees.specs.EntryTrees.{types_tree}
 use Rattle.scale_info_transcode.proofs.Tables.{types_tokens}
 use Rattle.scale_info_transcode.proofs.table_text.append_json_of.Goals as goal
 

@@ -2,11 +2,14 @@ use Rattle.std.proofs.Common.{◌≡◌, ◌-◌, Some, None, find, ◌==◌, ar
 use Rattle.std.proofs.lemmas.Grind.{common_steps}
 use Rattle.scale_info_value.specs.declared.value.Dyn.TheVariants as dyn
 use Rattle.scale_info_value.specs.Outcomes.{decoded, outcome_map}
-use Rattle.scale_info_value.specs.Readings.{type_at, value_within, definition_within, pair_within, fields_within}
+use Rattle.scale_info_value.specs.Readings.{type_at, value_within, definition_within, pair_within}
+use Rattle.scale_info_value.specs.Readings.{fields_within}
 use Rattle.scale_info_value.proofs.Errors.{passed}
 use Rattle.scale_info_value.proofs.InOrder.{done_more, done_fails, all_fail}
-use Rattle.scale_info_value.proofs.Steps.{value_too_deep, value_no_type, value_of_type, composite_is}
-use Rattle.scale_info_value.proofs.Steps.{variant_missing, variant_found, items_of_type, primitives_are}
+use Rattle.scale_info_value.proofs.Steps.{value_too_deep, value_no_type, value_of_type}
+use Rattle.scale_info_value.proofs.Steps.{composite_is}
+use Rattle.scale_info_value.proofs.Steps.{variant_missing, variant_found, items_of_type}
+use Rattle.scale_info_value.proofs.Steps.{primitives_are}
 use Rattle.scale_info_value.proofs.decode.+value.Goals as goal
 
 pub value_within-returns-then-left-eq0-clause-err : goal.value_within-returns-then-left-eq0-clause-err

@@ -1,5 +1,6 @@
 use Rattle.std.proofs.Common.{◌≡◌, ◌-◌, ◌*◌, drop}
-use Rattle.scale_info_value.specs.Readings.{definition_within, members_within, fields_within, pair_within}
+use Rattle.scale_info_value.specs.Readings.{definition_within, members_within, fields_within}
+use Rattle.scale_info_value.specs.Readings.{pair_within}
 use Rattle.scale_info_value.proofs.InOrder.{preceded, Done}
 use Rattle.scale_info_value.proofs.decode.+value.Given as goal
 

@@ -1,5 +1,5 @@
 use Rattle.std.proofs.Common.{arith}
-use Rattle.scale_info_value.specs.Definitions.{primitive}
+use Rattle.scale_info_value.specs.ValueDefinitions.{primitive}
 use Rattle.scale_info_value.proofs.Errors.{passed}
 use Rattle.scale_info_value.proofs.InOrder.{done_more, done_fails}
 use Rattle.scale_info_value.proofs.list.each.Goals as goal

@@ -1,4 +1,4 @@
-use Rattle.scale_info_value.specs.Definitions.{primitive}
+use Rattle.scale_info_value.specs.ValueDefinitions.{primitive}
 use Rattle.scale_info_value.proofs.InOrder.{Done}
 use Rattle.scale_info_value.proofs.list.each.Given as goal
 

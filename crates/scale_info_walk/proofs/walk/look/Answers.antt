@@ -1,8 +1,10 @@
-use Rattle.std.proofs.Common.{rules, arith, ◌≡◌, ◌≢◌, ◌<◌, ◌≤◌, ◌∷◌, ◌++◌, [], Some, length, slice_get, inl, inr, refl, ap, ◌∙◌, get_or}
+use Rattle.std.proofs.Common.{rules, arith, ◌≡◌, ◌≢◌, ◌<◌, ◌≤◌, ◌∷◌, ◌++◌, [], Some, length}
+use Rattle.std.proofs.Common.{slice_get, inl, inr, refl, ap, ◌∙◌, get_or}
 use Rattle.std.proofs.lemmas.Option.{slice_get_read}
 use Rattle.scale_info_numberings.proofs.Places.{contains_head}
 use Rattle.scale_info_numberings.specs.Systems.{root}
-use Rattle.scale_info_walk.proofs.Visiting.{known, unknown, numbers_long, numbers_within, walk_more, short_before}
+use Rattle.scale_info_walk.proofs.Visiting.{known, unknown, numbers_long, numbers_within, walk_more}
+use Rattle.scale_info_walk.proofs.Visiting.{short_before}
 use Rattle.scale_info_walk.proofs.walk.look.Goals as goal
 
 pub returns-in_default-clause-cause : goal.returns-in_default-clause-cause

@@ -4,7 +4,8 @@ use Rattle.std.proofs.lemmas.Result.{err_from_is_err_and}
 use Rattle.scale_info_numberings.proofs.Extensions.{one_numbering}
 use Rattle.scale_info_numberings.specs.Systems.{looks}
 use Rattle.scale_info_walk.specs.TypeSystems.{types_system}
-use Rattle.scale_info_walk.proofs.Visiting.{roots_none, roots_more, roots_all, cause_at_root, cause_before}
+use Rattle.scale_info_walk.proofs.Visiting.{roots_none, roots_more, roots_all, cause_at_root}
+use Rattle.scale_info_walk.proofs.Visiting.{cause_before}
 use Rattle.scale_info_walk.proofs.walk.number_recursive.Goals as goal
 
 pub returns-in_err-found-clause-cause : goal.returns-in_err-found-clause-cause

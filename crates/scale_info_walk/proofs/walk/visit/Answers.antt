@@ -2,7 +2,8 @@ use Rattle.std.proofs.Common.{arith, ◌≡◌, ◌∷◌, [], ℕ, List, suc, l
 use Rattle.std.proofs.lemmas.Result.{err_from_is_err_and}
 use Rattle.scale_info_walk.specs.Walks.{IsLook}
 use Rattle.scale_info_numberings.proofs.WorkLists.{IsWalking, walk_starts, walk_ends}
-use Rattle.scale_info_walk.proofs.Visiting.{next_some, next_none, numbers_distinct, walk_inside, walk_looks, look_counts}
+use Rattle.scale_info_walk.proofs.Visiting.{next_some, next_none, numbers_distinct, walk_inside}
+use Rattle.scale_info_walk.proofs.Visiting.{walk_looks, look_counts}
 use Rattle.scale_info_walk.proofs.Visiting.{look_shrinks, cause_through}
 use Rattle.scale_info_walk.proofs.walk.visit.Goals as goal
 

@@ -1,6 +1,6 @@
 use Rattle.std.proofs.Common.{refl, sym, subst}
 use Rattle.type_table_run.specs.Outputs.{Outputs}
-use Rattle.type_table_run.specs.Tables.{IsOneTable}
+use Rattle.type_table_run.specs.OneTable.{IsOneTable}
 use Rattle.type_table_io.specs.declared.command.Command.{Command}
 use Rattle.type_table_run.proofs.output.output_of.Goals as goal
 

@@ -1,5 +1,7 @@
 use Rattle.std.proofs.Common.{rules}
-use Rattle.type_table_io.specs.declared.error.RunError.TheVariants.{Malformed, TrailingBytes, NoSuchType, Dangling, Memory, Input, Output}
+use Rattle.type_table_io.specs.declared.error.RunError.TheVariants.{Malformed, TrailingBytes}
+use Rattle.type_table_io.specs.declared.error.RunError.TheVariants.{NoSuchType, Dangling, Memory}
+use Rattle.type_table_io.specs.declared.error.RunError.TheVariants.{Input, Output}
 use Rattle.type_table_run.proofs.Reports.{explained}
 use Rattle.type_table_run.proofs.program.run.Goals as goal
 

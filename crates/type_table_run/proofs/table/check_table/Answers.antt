@@ -1,8 +1,9 @@
-use Rattle.std.proofs.Common.{List, ℕ, [], ◌≡◌, ◌++◌, ◌≢◌, ◌==◌, false, ◌∙◌, length, sym, subst, ap, append-nil}
+use Rattle.std.proofs.Common.{List, ℕ, [], ◌≡◌, ◌++◌, ◌≢◌, ◌==◌, false, ◌∙◌, length, sym, subst, ap}
+use Rattle.std.proofs.Common.{append-nil}
 use Rattle.scale_info_bytes.specs.Parts.{EncodesList}
 use Rattle.scale_info_grammar.specs.Ty.{EncodesPortableType}
 use Rattle.scale_info_passes.specs.Pieces.{HasSomePrefix}
-use Rattle.type_table_run.specs.Tables.{IsOneTable}
+use Rattle.type_table_run.specs.OneTable.{IsOneTable}
 use Rattle.type_table_run.proofs.Rests.{is_empty}
 use Rattle.type_table_run.proofs.table.check_table.Goals as goal
 

@@ -1,7 +1,7 @@
 use Rattle.std.proofs.Common.{Some, map, refl, ap, subst, ◌∙◌}
 use Rattle.std.proofs.lemmas.Option.{same_Some}
 use Rattle.scale_info_interner.specs.Interned.{IsIndexOf, IsKnown}
-use Rattle.scale_info_interner.specs.Orders.{IsElementOrder}
+use Rattle.scale_info_interner.specs.ElementOrders.{IsElementOrder}
 use Rattle.scale_info_interner.proofs.Orders.{equal_index, one_index, gap_absent}
 use Rattle.scale_info_interner.proofs.interner.Interner.index_of.Given as given
 use Rattle.scale_info_interner.proofs.interner.Interner.index_of.Goals as goal

@@ -1,7 +1,8 @@
-use Rattle.std.proofs.Common.{◌≡◌, ◌++◌, ◌∷◌, [], map, length, refl, sym, ap, subst, arith, ◌∙◌, ◌<◌}
+use Rattle.std.proofs.Common.{◌≡◌, ◌++◌, ◌∷◌, [], map, length, refl, sym, ap, subst, arith, ◌∙◌}
+use Rattle.std.proofs.Common.{◌<◌}
 use Rattle.std.proofs.lemmas.List.{length-append}
 use Rattle.scale_info_interner.specs.Interned.{IsIndexOf, IsKnown}
-use Rattle.scale_info_interner.specs.Orders.{IsElementOrder, IsGapFor}
+use Rattle.scale_info_interner.specs.ElementOrders.{IsElementOrder, IsGapFor}
 use Rattle.scale_info_interner.proofs.Orders.{equal_index, one_index, gap_absent, last_index}
 use Rattle.scale_info_interner.proofs.Orders.{order_push}
 use Rattle.scale_info_interner.proofs.interner.Interner.intern_or_get.Given as given

@@ -1,5 +1,5 @@
 use Rattle.std.proofs.Common.{◌≡◌, ◌≤◌, length, map, take}
-use Rattle.scale_info_interner.specs.Orders.{IsElementOrder}
+use Rattle.scale_info_interner.specs.ElementOrders.{IsElementOrder}
 use Rattle.scale_info_interner.proofs.interner.Interner.truncate.Given as goal
 
 abbrev pub invariant-loop-self : goal.invariant-loop-self

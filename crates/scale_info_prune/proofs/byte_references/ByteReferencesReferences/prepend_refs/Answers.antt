@@ -1,9 +1,11 @@
-use Rattle.std.proofs.Common.{rules, ◌≡◌, ◌+◌, ◌-◌, ◌≤◌, ◌∙◌, length, min, get_or, slice_index_or, ap, sym, drop, take}
+use Rattle.std.proofs.Common.{rules, ◌≡◌, ◌+◌, ◌-◌, ◌≤◌, ◌∙◌, length, min, get_or, slice_index_or}
+use Rattle.std.proofs.Common.{ap, sym, drop, take}
 use Rattle.std.proofs.lemmas.Option.{slice_get-get_or, slice_get_past, unwrap_or-slice_get}
 use Rattle.std.specs.Option.{unwrap_or}
 use Rattle.scale_info_prune.proofs.ByteIndexes.{prepended}
 use Rattle.scale_info_prune.proofs.byte_references.ByteReferencesReferences.prepend_refs.Goals as goal
-use Rattle.scale_info_prune.proofs.byte_references.ByteReferencesReferences.prepend_refs.Goals.{in-Some, in-None}
+use Rattle.scale_info_prune.proofs.byte_references.ByteReferencesReferences.prepend_refs.Goals.{in-Some}
+use Rattle.scale_info_prune.proofs.byte_references.ByteReferencesReferences.prepend_refs.Goals.{in-None}
 
 pub returns-clause-refs : goal.returns-clause-refs
 returns-clause-refs c =

@@ -1,4 +1,5 @@
-use Rattle.std.proofs.Common.{rules, ◌≡◌, ◌∙◌, ◌-◌, [], ℕ, ap, drop, length, map, subst, sym, take, append-nil}
+use Rattle.std.proofs.Common.{rules, ◌≡◌, ◌∙◌, ◌-◌, [], ℕ, ap, drop, length, map, subst, sym, take}
+use Rattle.std.proofs.Common.{append-nil}
 use Rattle.std.proofs.lemmas.List.{nil_from_length}
 use Rattle.std.proofs.lemmas.Result.{IfErr-weaker, IfOk-weaker}
 use Rattle.scale_info_numberings.specs.Tables.{ArePlaces}
@@ -6,7 +7,8 @@ use Rattle.scale_info_types.specs.Portable.{Id}
 use Rattle.scale_info_catalogue.specs.CatalogueSystems.{catalogue_system}
 use Rattle.scale_info_catalogue.specs.Discoveries.{IsCause, nodes_of, roots_of}
 use Rattle.scale_info_registry.specs.Registrations.{IsRegistration}
-use Rattle.scale_info_registry.proofs.Composed.{FirstKnown, first_known, rest_cause, rest_registered, take_rest}
+use Rattle.scale_info_registry.proofs.Composed.{FirstKnown, first_known, rest_cause}
+use Rattle.scale_info_registry.proofs.Composed.{rest_registered, take_rest}
 use Rattle.scale_info_registry.proofs.Registered.{registers_nothing}
 use Rattle.scale_info_registry.proofs.registry.Registry.register_all.Goals as goal
 

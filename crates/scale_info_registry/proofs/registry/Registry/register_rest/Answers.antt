@@ -6,7 +6,8 @@ use Rattle.scale_info_catalogue.specs.CatalogueSystems.{catalogue_system}
 use Rattle.scale_info_catalogue.specs.Discoveries.{nodes_of, roots_of, stacked, IsCause}
 use Rattle.scale_info_registry.specs.Registrations.{index_in, registered, IsRegistration}
 use Rattle.scale_info_catalogue.proofs.Discovered.{stacked_alone}
-use Rattle.scale_info_registry.proofs.Registered.{cut_kept, cut_same, keeps, keeps_itself, root_indices}
+use Rattle.scale_info_registry.proofs.Registered.{cut_kept, cut_same, keeps, keeps_itself}
+use Rattle.scale_info_registry.proofs.Registered.{root_indices}
 use Rattle.scale_info_registry.proofs.registry.Registry.register_rest.Goals as goal
 
 pub returns-in_err-register-clause-cause : goal.returns-in_err-register-clause-cause

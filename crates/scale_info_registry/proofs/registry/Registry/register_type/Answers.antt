@@ -26,8 +26,8 @@ returns-in-Some-clause-id c =
     (subst (λ i. slice_get (nodes_of c.args.self.now.identities) c.in-Some.number ≡ Some (term_of i)) c.type_id.ensures
     (subst (λ v. slice_get (nodes_of v.identities) c.in-Some.number ≡ Some (term_of id)) c.self.view_is p))
 
-pub returns-in_err-alone-clause-known : goal.returns-in_err-alone-clause-known
-returns-in_err-alone-clause-known c = λ k.
+pub returns-in_err-list_of_one-clause-known : goal.returns-in_err-list_of_one-clause-known
+returns-in_err-list_of_one-clause-known c = λ k.
     absurd
     (unknown (registered c.self.inside.identities c.self.inside.types.items) c.args.self.now c.type_id.result.now c.self.view_is (λ h. false≢true (c.in_default.ensures.known.1 h))
     (subst (λ i. Contains (nodes_of c.args.self.now.identities) (term_of i)) (sym c.type_id.ensures) k))
@@ -48,13 +48,13 @@ pub returns-in_err-register-clause-cause : goal.returns-in_err-register-clause-c
 returns-in_err-register-clause-cause c =
     let p = err_from_is_err_and c.from_residual-in_err-register.result c.from_residual-in_err-register.ensures.1 in
     rw (p.1, p.2)
-    (subst (λ ns. IsCause (catalogue_system c.args.catalogue.now) (nodes_of c.args.self.now.identities) ns c.in_err-register.field-0.0) c.in_ok-alone.ensures.ok c.in_err-register.ensures.cause)
+    (subst (λ ns. IsCause (catalogue_system c.args.catalogue.now) (nodes_of c.args.self.now.identities) ns c.in_err-register.field-0.0) c.in_ok-list_of_one.ensures.ok c.in_err-register.ensures.cause)
 
 pub returns-clause-id : goal.returns-clause-id
 returns-clause-id c =
     let id = c.args.ty.now.identity in
     let S = catalogue_system c.args.catalogue.now in
-    let x = subst (λ ns. IsRegistration S c.args.self.now ns c.register.new.self) c.in_ok-alone.ensures.ok c.in_ok-register.ensures.ok in
+    let x = subst (λ ns. IsRegistration S c.args.self.now ns c.register.new.self) c.in_ok-list_of_one.ensures.ok c.in_ok-register.ensures.ok in
     rw c.id.ensures
     (subst (λ v. slice_get (nodes_of c.register.new.self.identities) (index_in equals.eq v.identities id) ≡ Some (term_of id)) (sym c.self-2.view_is)
     (root_index S c.args.self.now c.register.new.self id x))

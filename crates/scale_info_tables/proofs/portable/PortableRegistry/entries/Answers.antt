@@ -1,5 +1,5 @@
 use Rattle.std.proofs.Common.{ap, ◌∙◌, take}
-use Rattle.scale_info_tables.specs.Entries.{indexed_from}
+use Rattle.scale_info_tables.specs.IndexedEntries.{indexed_from}
 use Rattle.scale_info_tables.proofs.IndexedEntries.{taken_within}
 use Rattle.scale_info_tables.proofs.portable.PortableRegistry.entries.Goals as goal
 

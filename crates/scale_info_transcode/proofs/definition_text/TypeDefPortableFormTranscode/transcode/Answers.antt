@@ -3,7 +3,7 @@ use Rattle.scale_info_bytes.proofs.Errors.{passed_malformed}
 use Rattle.scale_info_bytes.proofs.Index.{begins}
 use Rattle.scale_info_grammar.proofs.Definitions.{prefix_definition, no_prefix_definition}
 use Rattle.scale_info_grammar.specs.Ty.{EncodesTypeDef}
-use Rattle.scale_info_json_trees.specs.Definitions.{type_def_rows}
+use Rattle.scale_info_json_trees.specs.DefinitionTrees.{type_def_rows}
 use Rattle.scale_info_transcode.proofs.Objects.{one_row, whole_object}
 use Rattle.scale_info_transcode.proofs.definition_text.TypeDefPortableFormTranscode.transcode.Goals as goal
 

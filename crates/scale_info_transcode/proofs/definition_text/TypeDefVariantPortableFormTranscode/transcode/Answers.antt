@@ -1,7 +1,7 @@
 use Rattle.scale_info_bytes.proofs.Errors.{passed_malformed}
 use Rattle.scale_info_bytes.proofs.Steps.{no_prefix_through}
 use Rattle.scale_info_grammar.specs.Ty.{EncodesVariants}
-use Rattle.scale_info_json_trees.specs.Definitions.{variant_type_rows}
+use Rattle.scale_info_json_trees.specs.DefinitionTrees.{variant_type_rows}
 use Rattle.scale_info_transcode.proofs.Objects.{one_row, whole_object}
 use Rattle.scale_info_types.specs.Portable as portable
 use Rattle.scale_info_transcode.proofs.definition_text.TypeDefVariantPortableFormTranscode.transcode.Goals as goal

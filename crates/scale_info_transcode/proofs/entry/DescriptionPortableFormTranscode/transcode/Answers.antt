@@ -6,7 +6,7 @@ use Rattle.scale_info_bytes.specs.Strings.{EncodesText}
 use Rattle.scale_info_grammar.specs.Ty.{EncodesDescription, EncodesParameter, EncodesPath}
 use Rattle.scale_info_grammar.specs.Ty.{EncodesTypeDef, description_parts}
 use Rattle.scale_info_grammar.specs.TyLaws.{type_def_law}
-use Rattle.scale_info_json_trees.specs.Entries.{description_rows}
+use Rattle.scale_info_json_trees.specs.EntryTrees.{description_rows}
 use Rattle.scale_info_transcode.proofs.Objects.{four_rows, whole_object}
 use Rattle.scale_info_transcode.proofs.Parts.{four_parts, no_first, no_second}
 use Rattle.scale_info_transcode.proofs.Parts.{no_third, no_fourth}

@@ -1,8 +1,9 @@
 use Rattle.scale_info_bytes.proofs.Errors.{passed_malformed}
 use Rattle.scale_info_bytes.proofs.Steps.{no_prefix_first, no_prefix_second, no_prefix_through}
 use Rattle.scale_info_bytes.proofs.Steps.{prefix_pair}
-use Rattle.scale_info_grammar.specs.Ty.{EncodesDescription, EncodesPortableType, portable_type_parts}
-use Rattle.scale_info_json_trees.specs.Entries.{entry_rows}
+use Rattle.scale_info_grammar.specs.Ty.{EncodesDescription, EncodesPortableType}
+use Rattle.scale_info_grammar.specs.Ty.{portable_type_parts}
+use Rattle.scale_info_json_trees.specs.EntryTrees.{entry_rows}
 use Rattle.scale_info_transcode.proofs.Objects.{two_rows, whole_object}
 use Rattle.scale_info_transcode.proofs.Parts.{EncodesNumber, number_law}
 use Rattle.scale_info_types.specs.declared.ty.PortableType.{PortableType}

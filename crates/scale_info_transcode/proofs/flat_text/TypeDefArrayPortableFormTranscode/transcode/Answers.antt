@@ -1,10 +1,10 @@
 use Rattle.scale_info_bytes.proofs.Errors.{passed_malformed}
 use Rattle.scale_info_bytes.proofs.Steps.{no_prefix_first, no_prefix_second, no_prefix_through}
 use Rattle.scale_info_bytes.proofs.Steps.{prefix_pair}
-use Rattle.scale_info_bytes.specs.NumberLaws.{u32_law}
-use Rattle.scale_info_bytes.specs.Numbers.{EncodesU32}
+use Rattle.scale_info_bytes.specs.IntegerLaws.{u32_law}
+use Rattle.scale_info_bytes.specs.Integers.{EncodesU32}
 use Rattle.scale_info_grammar.specs.Ty.{EncodesArray, EncodesId, array_parts}
-use Rattle.scale_info_json_trees.specs.Definitions.{array_rows}
+use Rattle.scale_info_json_trees.specs.DefinitionTrees.{array_rows}
 use Rattle.scale_info_transcode.proofs.Objects.{two_rows, whole_object}
 use Rattle.scale_info_types.specs.Portable as portable
 use Rattle.scale_info_transcode.proofs.flat_text.TypeDefArrayPortableFormTranscode.transcode.Goals as goal

@@ -3,7 +3,7 @@ use Rattle.scale_info_bytes.proofs.Steps.{no_prefix_first, no_prefix_second, no_
 use Rattle.scale_info_bytes.proofs.Steps.{prefix_pair}
 use Rattle.scale_info_grammar.specs.Ty.{EncodesId, EncodesMap, map_parts}
 use Rattle.scale_info_grammar.specs.TyLaws.{id_law}
-use Rattle.scale_info_json_trees.specs.Definitions.{map_rows}
+use Rattle.scale_info_json_trees.specs.DefinitionTrees.{map_rows}
 use Rattle.scale_info_transcode.proofs.Objects.{two_rows, whole_object}
 use Rattle.scale_info_types.specs.Portable as portable
 use Rattle.scale_info_transcode.proofs.flat_text.TypeDefMapPortableFormTranscode.transcode.Goals as goal

@@ -1,7 +1,7 @@
 use Rattle.scale_info_bytes.proofs.Errors.{passed_malformed}
 use Rattle.scale_info_bytes.proofs.Steps.{no_prefix_through}
 use Rattle.scale_info_grammar.specs.Ty.{EncodesSequence}
-use Rattle.scale_info_json_trees.specs.Definitions.{sequence_rows}
+use Rattle.scale_info_json_trees.specs.DefinitionTrees.{sequence_rows}
 use Rattle.scale_info_transcode.proofs.Objects.{one_row, whole_object}
 use Rattle.scale_info_types.specs.Portable as portable
 use Rattle.scale_info_transcode.proofs.flat_text.TypeDefSequencePortableFormTranscode.transcode.Goals as goal

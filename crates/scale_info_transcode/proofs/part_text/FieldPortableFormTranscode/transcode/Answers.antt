@@ -6,7 +6,7 @@ use Rattle.scale_info_bytes.specs.StringLaws.{text_law}
 use Rattle.scale_info_bytes.specs.Strings.{EncodesText}
 use Rattle.scale_info_grammar.specs.Ty.{EncodesField, EncodesId, field_parts}
 use Rattle.scale_info_grammar.specs.TyLaws.{id_law}
-use Rattle.scale_info_json_trees.specs.Described.{field_rows}
+use Rattle.scale_info_json_trees.specs.PartTrees.{field_rows}
 use Rattle.scale_info_transcode.proofs.Objects.{four_rows, whole_object}
 use Rattle.scale_info_transcode.proofs.Parts.{four_parts, no_first, no_second, no_third, no_fourth}
 use Rattle.scale_info_transcode.proofs.Skips.{only_rest}

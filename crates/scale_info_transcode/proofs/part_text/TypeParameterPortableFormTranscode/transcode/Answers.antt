@@ -5,7 +5,7 @@ use Rattle.scale_info_bytes.specs.Parts.{EncodesOption}
 use Rattle.scale_info_bytes.specs.StringLaws.{text_law}
 use Rattle.scale_info_bytes.specs.Strings.{EncodesText}
 use Rattle.scale_info_grammar.specs.Ty.{EncodesId, EncodesParameter, parameter_parts}
-use Rattle.scale_info_json_trees.specs.Described.{parameter_rows}
+use Rattle.scale_info_json_trees.specs.PartTrees.{parameter_rows}
 use Rattle.scale_info_transcode.proofs.Objects.{two_rows, whole_object}
 use Rattle.scale_info_types.specs.Portable as portable
 use Rattle.scale_info_transcode.proofs.part_text.TypeParameterPortableFormTranscode.transcode.Goals as goal

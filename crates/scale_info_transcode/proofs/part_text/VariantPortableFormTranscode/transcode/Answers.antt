@@ -1,12 +1,12 @@
 use Rattle.scale_info_bytes.proofs.Errors.{passed_malformed}
 use Rattle.scale_info_bytes.proofs.Steps.{no_prefix_through}
-use Rattle.scale_info_bytes.specs.NumberLaws.{u8_law}
-use Rattle.scale_info_bytes.specs.Numbers.{EncodesU8}
+use Rattle.scale_info_bytes.specs.IntegerLaws.{u8_law}
+use Rattle.scale_info_bytes.specs.Integers.{EncodesU8}
 use Rattle.scale_info_bytes.specs.Parts.{EncodesList}
 use Rattle.scale_info_bytes.specs.StringLaws.{text_law}
 use Rattle.scale_info_bytes.specs.Strings.{EncodesText}
 use Rattle.scale_info_grammar.specs.Ty.{EncodesField, EncodesVariant, variant_parts}
-use Rattle.scale_info_json_trees.specs.Described.{variant_rows}
+use Rattle.scale_info_json_trees.specs.PartTrees.{variant_rows}
 use Rattle.scale_info_transcode.proofs.Objects.{four_rows, whole_object}
 use Rattle.scale_info_transcode.proofs.Parts.{four_parts, no_first, no_second}
 use Rattle.scale_info_transcode.proofs.Parts.{no_third, no_fourth}

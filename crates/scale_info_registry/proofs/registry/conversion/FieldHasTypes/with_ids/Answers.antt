@@ -6,5 +6,5 @@ returns c = λ i.
       name = c.in_ok-optional_copy.ensures i;
       ty = record { id = c.id.ensures i; marker = record {} };
       type_name = c.in_ok-optional_copy-2.ensures i;
-      docs = c.in_ok-copies_of.ensures i;
+      docs = c.in_ok-copied_texts.ensures i;
     }

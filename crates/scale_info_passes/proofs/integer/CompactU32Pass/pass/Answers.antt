@@ -1,0 +1,15 @@
+use Rattle.std.proofs.Common.{refl}
+use Rattle.scale_info_bytes.proofs.Steps.{no_prefix_through}
+use Rattle.scale_info_passes.proofs.Passes.{visited_verbatim}
+use Rattle.scale_info_bytes.proofs.Options.{none_is}
+use Rattle.scale_info_passes.proofs.integer.CompactU32Pass.pass.Goals as goal
+
+pub returns-in_err-rest-clause-none : goal.returns-in_err-rest-clause-none
+returns-in_err-rest-clause-none g c =
+    none_is c.from_residual.result (no_prefix_through (λ v. v.0) c.in_err-rest.ensures.none)
+
+pub returns-clause-some : goal.returns-clause-some
+returns-clause-some g c =
+    visited_verbatim (record { 0 = c.in_ok-rest.field-0-0 })
+    (record { encoding = c.in_ok-rest.ensures.some.encoding; encodes = c.in_ok-rest.ensures.some.encodes; parts = c.in_ok-rest.ensures.some.parts }) c.visit_verbatim.ensures refl
+    (λ f. refl)

@@ -1,5 +1,0 @@
-use Rattle.std.proofs.Common.{rules}
-use Rattle.scale_info_passes.proofs.visitors.RenumberingVisitor.reference.Goals as goal
-
-pub returns-else-is_err : goal.returns-else-is_err
-returns-else-is_err c = search rules

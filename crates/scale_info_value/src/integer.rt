@@ -1,0 +1,136 @@
+//! Integers at the start of bytes.
+ghost use Rattle.std.specs.Prelude.{◌≡◌, ◌<◌, ◌≤◌, ◌^◌, ◌+◌, length, IfOk, IfErr};
+ghost use Rattle.scale_info_value.specs.Outcomes.{decoded, IsErrorOf};
+ghost use Rattle.scale_info_value.specs.IntegerDecoders.{byte, bytes, little_endian, integer};
+ghost use Rattle.scale_info_value.specs.IntegerDecoders.{at_least};
+ghost use Rattle.scale_info_value.specs.IntegerDecoders.{compact_after, compact, compact_below};
+ghost use Rattle.scale_info_value.specs.IntegerDecoders.{count};
+
+use crate::value::ValueError;
+
+/// The first byte, and the rest.
+pub(crate) fn byte(input: &[u8]) -> Result<(u8, &[u8]), ValueError>
+    ensures ok { IfOk result (λ found. byte input.now ≡ decoded found.0 found.1.now) }
+    ensures err { IfErr result (IsErrorOf (byte input.now)) }
+{
+    match input {
+        [] => Err(ValueError::Malformed),
+        [first, rest @ ..] => Ok((*first, rest)),
+    }
+}
+
+/// So many bytes, and the rest.
+pub(crate) fn bytes(count: usize, input: &[u8]) -> Result<(&[u8], &[u8]), ValueError>
+    ensures ok { IfOk result (λ found. bytes count input.now ≡ decoded found.0.now found.1.now) }
+    ensures len { IfOk result (λ found. length found.0.now ≡ count) }
+    ensures err { IfErr result (IsErrorOf (bytes count input.now)) }
+{
+    if input.len() < count {
+        return Err(ValueError::Malformed);
+    }
+    Ok(input.split_at(count))
+}
+
+/// An integer by its bytes, the lowest first. Where they are as many as those of a built-in type,
+/// they are taken at once.
+pub(crate) fn little_endian(bytes: &[u8]) -> u128
+    requires { length bytes.now ≤ 16 }
+    ensures integer { result ≡ little_endian bytes.now }
+    ensures bound { result < 256 ^ length bytes.now }
+{
+    match bytes {
+        [] => 0,
+        [only] => *only as u128,
+        [a, b] => u16::from_le_bytes([*a, *b]) as u128,
+        [a, b, c, d] => u32::from_le_bytes([*a, *b, *c, *d]) as u128,
+        [a, b, c, d, e, f, g, h] => { u64::from_le_bytes([*a, *b, *c, *d, *e, *f, *g, *h]) as u128 }
+        halves if halves.len() == 16 => {
+            let (low, high) = halves.split_at(8);
+            little_endian(low) + 18446744073709551616 * little_endian(high)
+        }
+        [low, high @ ..] => *low as u128 + 256 * little_endian(high),
+    }
+}
+
+/// An integer in so many bytes, the lowest first, and the rest.
+pub(crate) fn integer(width: usize, input: &[u8]) -> Result<(u128, &[u8]), ValueError>
+    requires { width ≤ 16 }
+    ensures ok { IfOk result (λ found. integer width input.now ≡ decoded found.0 found.1.now) }
+    ensures bound { IfOk result (λ found. found.0 < 256 ^ width) }
+    ensures err { IfErr result (IsErrorOf (integer width input.now)) }
+{
+    let (all, rest) = bytes(width, input)?;
+    Ok((little_endian(all), rest))
+}
+
+/// What follows the first byte of a compact integer.
+fn compact_after(mode: u8, high: u8, input: &[u8]) -> Result<(u128, &[u8]), ValueError>
+    requires mode { mode < 4 }
+    requires high { high < 64 }
+    ensures ok { IfOk result
+        (λ found. compact_after mode high input.now ≡ decoded found.0 found.1.now) }
+    ensures err { IfErr result (IsErrorOf (compact_after mode high input.now)) }
+{
+    match mode {
+        0 => Ok((high as u128, input)),
+        1 => {
+            let (more, rest) = integer(1, input)?;
+            at_least(64, high as u128 + 64 * more, rest)
+        }
+        2 => {
+            let (more, rest) = integer(3, input)?;
+            at_least(16384, high as u128 + 64 * more, rest)
+        }
+        _ => {
+            if high > 12 {
+                return Err(ValueError::Malformed);
+            }
+            let (n, rest) = integer(high as usize + 4, input)?;
+            let least = 256u128.pow(high as u32 + 3);
+            at_least(least.max(1073741824), n, rest)
+        }
+    }
+}
+
+/// The integer, where it is not below the least.
+fn at_least(least: u128, n: u128, rest: &[u8]) -> Result<(u128, &[u8]), ValueError>
+    ensures ok { IfOk result (λ found. at_least least n rest.now ≡ decoded found.0 found.1.now) }
+    ensures err { IfErr result (IsErrorOf (at_least least n rest.now)) }
+{
+    if n < least {
+        return Err(ValueError::Malformed);
+    }
+    Ok((n, rest))
+}
+
+/// A compact integer, and the rest.
+fn compact(input: &[u8]) -> Result<(u128, &[u8]), ValueError>
+    ensures ok { IfOk result (λ found. compact input.now ≡ decoded found.0 found.1.now) }
+    ensures err { IfErr result (IsErrorOf (compact input.now)) }
+{
+    let (first, rest) = byte(input)?;
+    compact_after(first % 4, first / 4, rest)
+}
+
+/// A compact integer that is at most this one, and the rest.
+pub(crate) fn compact_up_to(most: u128, input: &[u8]) -> Result<(u128, &[u8]), ValueError>
+    ensures ok { IfOk result
+        (λ found. compact_below (most + 1) input.now ≡ decoded found.0 found.1.now) }
+    ensures bound { IfOk result (λ found. found.0 ≤ most) }
+    ensures err { IfErr result (IsErrorOf (compact_below (most + 1) input.now)) }
+{
+    let (n, rest) = compact(input)?;
+    if n > most {
+        return Err(ValueError::Malformed);
+    }
+    Ok((n, rest))
+}
+
+/// How many items or bytes follow, and the rest.
+pub(crate) fn count(input: &[u8]) -> Result<(u32, &[u8]), ValueError>
+    ensures ok { IfOk result (λ found. count input.now ≡ decoded found.0 found.1.now) }
+    ensures err { IfErr result (IsErrorOf (count input.now)) }
+{
+    let (n, rest) = compact_up_to(4294967295, input)?;
+    Ok((n as u32, rest))
+}
