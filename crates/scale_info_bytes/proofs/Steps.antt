@@ -4,6 +4,7 @@ use Rattle.std.proofs.Common.{sym, ap, subst, ◌∙◌, arith, append_assoc}
 use Rattle.std.proofs.lemmas.List.{append_cancel_left, append-nil}
 use Rattle.scale_info_bytes.specs.Encodings.{IsEncoding, AppendsEncoding, HasPrefix, HasNoPrefix}
 use Rattle.scale_info_bytes.specs.Encodings.{HasNoEncoding}
+use Rattle.scale_info_bytes.specs.PartLaws.{after_first, by_parts, concatenation}
 use Rattle.scale_info_bytes.specs.Parts.{IsConcatenation, EncodesPair, EncodesItems}
 
 -- ---- writing
@@ -14,13 +15,7 @@ pub appends_both :
     → AppendsEncoding (IsConcatenation P Q) a c
 appends_both {P} {Q} {a} p q = record {
   encoding = p.encoding ++ q.encoding;
-  encodes = record {
-    first = p.encoding;
-    second = q.encoding;
-    encodes_first = p.encodes;
-    encodes_second = q.encodes;
-    parts = refl;
-  };
+  encodes = concatenation _ _ p.encodes q.encodes;
   parts = q.parts ∙ ap (λ t. t ++ q.encoding) p.parts ∙ append_assoc a p.encoding q.encoding;
 }
 
@@ -32,13 +27,7 @@ pub prefix_both :
     → HasPrefix (IsConcatenation P Q) a c
 prefix_both {P} {Q} {a} {b} {c} p q = record {
   encoding = p.encoding ++ q.encoding;
-  encodes = record {
-    first = p.encoding;
-    second = q.encoding;
-    encodes_first = p.encodes;
-    encodes_second = q.encodes;
-    parts = refl;
-  };
+  encodes = concatenation _ _ p.encodes q.encodes;
   parts = p.parts ∙ ap (λ t. p.encoding ++ t) q.parts ∙ sym (append_assoc p.encoding q.encoding c);
 }
 
@@ -207,14 +196,9 @@ module _ {A : Type 0} (S : A → List ℕ → Type 0) where
         }
     next_item (x ∷ xs) [] b c r t l p q e = absurd (omega arith)
     next_item (x ∷ xs) (y ∷ ys) b c r t l p q e =
-        let h : p.first ++ (p.second ++ r) ≡ q.first ++ (q.second ++ t) =
-        sym (append_assoc p.first p.second r) ∙ sym (ap (λ k. k ++ r) p.parts) ∙ e
-        ∙ ap (λ k. k ++ t) q.parts ∙ append_assoc q.first q.second t in
-        let f = s.prefix_free x y _ _ _ _ p.encodes_first q.encodes_first h in
-        let h' : p.first ++ (p.second ++ r) ≡ p.first ++ (q.second ++ t) =
-        h ∙ sym (ap (λ k. k ++ (q.second ++ t)) f.0) in
+        let f = s.prefix_free x y _ _ _ _ p.encodes_first q.encodes_first (by_parts p q _ _ e) in
         next_item xs ys p.second q.second r t (omega arith) p.encodes_second q.encodes_second
-        (append_cancel_left p.first _ _ h')
+        (after_first p q _ _ e f.0)
 
     -- where no item is next, no list of the wanted length begins the input
     pub no_next :

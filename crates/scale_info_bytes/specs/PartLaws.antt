@@ -15,6 +15,32 @@ pub all_bytes :
 all_bytes [] c p q = q
 all_bytes (n ∷ b) c p q = (p.0, all_bytes b c p.1 q)
 
+-- two encodings, one after the other
+pub concatenation :
+    {P Q : List ℕ → Type 0} (x y : List ℕ) → P x → Q y → IsConcatenation P Q (x ++ y)
+concatenation x y p q =
+    record { first = x; second = y; encodes_first = p; encodes_second = q; parts = refl }
+
+-- two concatenations, each with some rest after it
+module _ {P Q P' Q' : List ℕ → Type 0} {b c : List ℕ} (p : IsConcatenation P Q b)
+    (q : IsConcatenation P' Q' c) where
+  -- the same bytes by parts
+  pub by_parts :
+      (x y : List ℕ) → b ++ x ≡ c ++ y → p.first ++ (p.second ++ x) ≡ q.first ++ (q.second ++ y)
+  by_parts x y e =
+      sym (append_assoc p.first p.second x) ∙ sym (ap (λ t. t ++ x) p.parts) ∙ e
+      ∙ ap (λ t. t ++ y) q.parts ∙ append_assoc q.first q.second y
+
+  -- the same bytes after the same first part
+  pub after_first :
+      (x y : List ℕ) → b ++ x ≡ c ++ y → p.first ≡ q.first → p.second ++ x ≡ q.second ++ y
+  after_first x y e f =
+      append_cancel_left p.first _ _ (by_parts x y e ∙ sym (ap (λ t. t ++ (q.second ++ y)) f))
+
+  -- the same parts make the same bytes
+  pub of_parts : p.first ≡ q.first → p.second ≡ q.second → b ≡ c
+  of_parts f g = p.parts ∙ ap (λ t. t ++ p.second) f ∙ ap (λ t. q.first ++ t) g ∙ sym q.parts
+
 -- two values, one after the other
 module _ {A B : Type 0} {S : A → List ℕ → Type 0} {R : B → List ℕ → Type 0} (s : IsEncoding S)
     (r : IsEncoding R) where
@@ -22,24 +48,17 @@ module _ {A B : Type 0} {S : A → List ℕ → Type 0} {R : B → List ℕ → 
       (v : A) (w : B) (b c : List ℕ) → IsConcatenation (S v) (R w) b → IsConcatenation (S v) (R w) c
       → b ≡ c
   both_one v w b c p q =
-      let f = s.one v _ _ p.encodes_first q.encodes_first in
-      let g = r.one w _ _ p.encodes_second q.encodes_second in
-      p.parts ∙ ap (λ t. t ++ p.second) f ∙ ap (λ t. q.first ++ t) g ∙ sym q.parts
+      of_parts p q (s.one v _ _ p.encodes_first q.encodes_first)
+      (r.one w _ _ p.encodes_second q.encodes_second)
 
   both_prefix_free :
       (v v' : A) (w w' : B) (b c x y : List ℕ) → IsConcatenation (S v) (R w) b
       → IsConcatenation (S v') (R w') c → b ++ x ≡ c ++ y → (b ≡ c) × (v ≡ v') × (w ≡ w')
   both_prefix_free v v' w w' b c x y p q e =
-      let h : p.first ++ (p.second ++ x) ≡ q.first ++ (q.second ++ y) =
-      sym (append_assoc p.first p.second x) ∙ sym (ap (λ t. t ++ x) p.parts) ∙ e
-      ∙ ap (λ t. t ++ y) q.parts ∙ append_assoc q.first q.second y in
-      let f = s.prefix_free v v' _ _ _ _ p.encodes_first q.encodes_first h in
-      let h' : p.first ++ (p.second ++ x) ≡ p.first ++ (q.second ++ y) =
-      h ∙ sym (ap (λ t. t ++ (q.second ++ y)) f.0) in
+      let f = s.prefix_free v v' _ _ _ _ p.encodes_first q.encodes_first (by_parts p q _ _ e) in
       let g =
-      r.prefix_free w w' _ _ _ _ p.encodes_second q.encodes_second
-      (append_cancel_left p.first _ _ h') in
-      (p.parts ∙ ap (λ t. t ++ p.second) f.0 ∙ ap (λ t. q.first ++ t) g.0 ∙ sym q.parts, f.1, g.1)
+      r.prefix_free w w' _ _ _ _ p.encodes_second q.encodes_second (after_first p q _ _ e f.0) in
+      (of_parts p q f.0 g.0, f.1, g.1)
 
   both_bytes :
       (v : A) (w : B) (b : List ℕ) → IsConcatenation (S v) (R w) b → AllByRecursion IsByte b
@@ -110,9 +129,8 @@ module _ {A : Type 0} {S : A → List ℕ → Type 0} (s : IsEncoding S) where
   items_one : (v : List A) (b c : List ℕ) → EncodesItems S v b → EncodesItems S v c → b ≡ c
   items_one [] b c p q = p ∙ sym q
   items_one (v ∷ vs) b c p q =
-      let f = s.one v _ _ p.encodes_first q.encodes_first in
-      let g = items_one vs _ _ p.encodes_second q.encodes_second in
-      p.parts ∙ ap (λ t. t ++ p.second) f ∙ ap (λ t. q.first ++ t) g ∙ sym q.parts
+      of_parts p q (s.one v _ _ p.encodes_first q.encodes_first)
+      (items_one vs _ _ p.encodes_second q.encodes_second)
 
   -- lists of the same length
   items_prefix_free :
@@ -122,18 +140,11 @@ module _ {A : Type 0} {S : A → List ℕ → Type 0} (s : IsEncoding S) where
   items_prefix_free [] (w ∷ ws) b c x y n p q e = absurd (omega arith)
   items_prefix_free (v ∷ vs) [] b c x y n p q e = absurd (omega arith)
   items_prefix_free (v ∷ vs) (w ∷ ws) b c x y n p q e =
-      let h : p.first ++ (p.second ++ x) ≡ q.first ++ (q.second ++ y) =
-      sym (append_assoc p.first p.second x) ∙ sym (ap (λ t. t ++ x) p.parts) ∙ e
-      ∙ ap (λ t. t ++ y) q.parts ∙ append_assoc q.first q.second y in
-      let f = s.prefix_free v w _ _ _ _ p.encodes_first q.encodes_first h in
-      let h' : p.first ++ (p.second ++ x) ≡ p.first ++ (q.second ++ y) =
-      h ∙ sym (ap (λ t. t ++ (q.second ++ y)) f.0) in
+      let f = s.prefix_free v w _ _ _ _ p.encodes_first q.encodes_first (by_parts p q _ _ e) in
       let g =
       items_prefix_free vs ws _ _ _ _ (omega arith) p.encodes_second q.encodes_second
-      (append_cancel_left p.first _ _ h') in (
-        p.parts ∙ ap (λ t. t ++ p.second) f.0 ∙ ap (λ t. q.first ++ t) g.0 ∙ sym q.parts,
-        ap (λ a. a ∷ vs) f.1 ∙ ap (λ t. w ∷ t) g.1,
-      )
+      (after_first p q _ _ e f.0) in
+      (of_parts p q f.0 g.0, ap (λ a. a ∷ vs) f.1 ∙ ap (λ t. w ∷ t) g.1)
 
   items_bytes : (v : List A) (b : List ℕ) → EncodesItems S v b → AllByRecursion IsByte b
   items_bytes [] b p = rw p tt
@@ -146,22 +157,16 @@ module _ {A : Type 0} {S : A → List ℕ → Type 0} (s : IsEncoding S) where
       (v w : List A) (b c x y : List ℕ) → EncodesList S v b → EncodesList S w c → b ++ x ≡ c ++ y
       → (b ≡ c) × (v ≡ w)
   list_prefix_free v w b c x y p q e =
-      let h : p.first ++ (p.second ++ x) ≡ q.first ++ (q.second ++ y) =
-      sym (append_assoc p.first p.second x) ∙ sym (ap (λ t. t ++ x) p.parts) ∙ e
-      ∙ ap (λ t. t ++ y) q.parts ∙ append_assoc q.first q.second y in
-      let f = compact_law.prefix_free _ _ _ _ _ _ p.encodes_first q.encodes_first h in
-      let h' : p.first ++ (p.second ++ x) ≡ p.first ++ (q.second ++ y) =
-      h ∙ sym (ap (λ t. t ++ (q.second ++ y)) f.0) in
+      let f =
+      compact_law.prefix_free _ _ _ _ _ _ p.encodes_first q.encodes_first (by_parts p q _ _ e) in
       let g =
-      items_prefix_free v w _ _ _ _ f.1 p.encodes_second q.encodes_second
-      (append_cancel_left p.first _ _ h') in
-      (p.parts ∙ ap (λ t. t ++ p.second) f.0 ∙ ap (λ t. q.first ++ t) g.0 ∙ sym q.parts, g.1)
+      items_prefix_free v w _ _ _ _ f.1 p.encodes_second q.encodes_second (after_first p q _ _ e f.0) in
+      (of_parts p q f.0 g.0, g.1)
 
   list_one : (v : List A) (b c : List ℕ) → EncodesList S v b → EncodesList S v c → b ≡ c
   list_one v b c p q =
-      let f = compact_law.one _ _ _ p.encodes_first q.encodes_first in
-      let g = items_one v _ _ p.encodes_second q.encodes_second in
-      p.parts ∙ ap (λ t. t ++ p.second) f ∙ ap (λ t. q.first ++ t) g ∙ sym q.parts
+      of_parts p q (compact_law.one _ _ _ p.encodes_first q.encodes_first)
+      (items_one v _ _ p.encodes_second q.encodes_second)
 
   list_bytes : (v : List A) (b : List ℕ) → EncodesList S v b → AllByRecursion IsByte b
   list_bytes v b p =

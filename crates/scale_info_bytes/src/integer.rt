@@ -118,7 +118,8 @@ pub fn decode_compact(input: &[u8]) -> Option<(u32, &[u8])>
 ///
 /// Errors: `AllocError`, if an allocation failed; then the output is as before.
 pub fn encode_compact(out: &mut Vec<u8>, integer: u32) -> Result<(), AllocError>
-    ensures ok { OnOk result (AppendsEncoding (EncodesCompact integer) out.old.items out.new.items) }
+    ensures ok { OnOk result
+        (AppendsEncoding (EncodesCompact integer) out.old.items out.new.items) }
     ensures err { OnErr result (out.new.items ≡ out.old.items) }
 {
     if integer < 64 {

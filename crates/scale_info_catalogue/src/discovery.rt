@@ -9,7 +9,7 @@ ghost use Rattle.scale_info_numberings.specs.Extensions.{IsExtension};
 ghost use Rattle.scale_info_catalogue.specs.CatalogueSystems.{catalogue_system};
 ghost use Rattle.scale_info_catalogue.specs.Discoveries.{nodes_of, stacked, AreFound};
 ghost use Rattle.scale_info_catalogue.specs.Discoveries.{IsCause, IsNumbered, IsNumberError};
-ghost use Rattle.scale_info_catalogue.specs.declared.discovery.RegisterError.TheVariants.{Memory};
+ghost use Rattle.scale_info_catalogue.specs.declared.discovery.RegisterError.TheVariants as error;
 
 use crate::catalogue::Catalogue;
 use crate::number_cache::NumberCache;
@@ -37,7 +37,7 @@ pub enum RegisterError {
 }
 
 impl From<AllocError> for RegisterError {
-    ghost from_gives = { λ _ e. e ≡ Memory };
+    ghost from_gives = { λ _ e. e ≡ error.Memory };
 
     fn from(_e: AllocError) -> RegisterError {
         RegisterError::Memory
@@ -45,7 +45,7 @@ impl From<AllocError> for RegisterError {
 }
 
 impl<T: Drop> From<AllocFailed<T>> for RegisterError {
-    ghost from_gives = { λ _ e. e ≡ Memory };
+    ghost from_gives = { λ _ e. e ≡ error.Memory };
 
     fn from(_e: AllocFailed<T>) -> RegisterError {
         RegisterError::Memory
@@ -61,7 +61,7 @@ pub fn stack_up<'a>(
 ) -> Result<Vec<&'a MetaType>, RegisterError>
     ensures ok { IfOk result
         (λ all. reverse all.items ≡ found.entry.items ++ reverse pending.entry.items) }
-    ensures err { IfErr result (λ e. e ≡ Memory) }
+    ensures err { IfErr result (λ e. e ≡ error.Memory) }
 {
     while let Some(last) = found.pop() {
         pending.push(last)?;
@@ -131,7 +131,7 @@ fn none_of<'a>(alloc: Global, _catalogue: &'a Catalogue) -> Vec<&'a Type>
 /// Errors: `Memory`, if an allocation failed.
 fn with_one<'a>(mut list: Vec<&'a Type>, one: &'a Type) -> Result<Vec<&'a Type>, RegisterError>
     ensures ok { IfOk result (λ all. all.items ≡ list.entry.items ++ one.entry ∷ []) }
-    ensures err { IfErr result (λ e. e ≡ Memory) }
+    ensures err { IfErr result (λ e. e ≡ error.Memory) }
 {
     list.push(one)?;
     Ok(list)

@@ -46,6 +46,7 @@ use Rattle.scale_info_bytes.specs.Integers.{
   in_one,
   in_two,
 }
+use Rattle.scale_info_bytes.specs.PartLaws.{concatenation}
 use Rattle.scale_info_bytes.specs.Parts.{EncodesItems, EncodesList, EncodesOption, EncodesPair}
 use Rattle.scale_info_bytes.specs.Strings.{EncodesText}
 
@@ -79,13 +80,7 @@ has_pair :
 has_pair v w first second = record {
   bytes = first.bytes ++ second.bytes;
   encodes = record {
-    both = record {
-      first = first.bytes;
-      second = second.bytes;
-      encodes_first = first.encodes;
-      encodes_second = second.encodes;
-      parts = refl;
-    };
+    both = concatenation _ _ first.encodes second.encodes;
   };
 }
 
@@ -109,13 +104,7 @@ has_items each (v ∷ vs) within =
     let rest = has_items each vs within.1 in
     record {
       bytes = first.bytes ++ rest.bytes;
-      encodes = record {
-        first = first.bytes;
-        second = rest.bytes;
-        encodes_first = first.encodes;
-        encodes_second = rest.encodes;
-        parts = refl;
-      };
+      encodes = concatenation _ _ first.encodes rest.encodes;
     }
 
 has_list :
@@ -126,13 +115,7 @@ has_list each vs within =
     let items = has_items each vs within.1 in
     record {
       bytes = count.bytes ++ items.bytes;
-      encodes = record {
-        first = count.bytes;
-        second = items.bytes;
-        encodes_first = count.encodes;
-        encodes_second = items.encodes;
-        parts = refl;
-      };
+      encodes = concatenation _ _ count.encodes items.encodes;
     }
 
 has_text : (v : Text) → IsTextWithinLimits v → HasEncoding EncodesText v
@@ -142,13 +125,7 @@ has_text v within =
       bytes = count.bytes ++ v;
       encodes = record {
         utf8 = within.0;
-        counted = record {
-          first = count.bytes;
-          second = v;
-          encodes_first = count.encodes;
-          encodes_second = refl;
-          parts = refl;
-        };
+        counted = concatenation _ _ count.encodes refl;
       };
     }
 
@@ -268,13 +245,7 @@ has_portable_type v within =
     record {
       bytes = id.bytes ++ ty.bytes;
       encodes = record {
-        both = record {
-          first = id.bytes;
-          second = ty.bytes;
-          encodes_first = id.encodes;
-          encodes_second = ty.encodes;
-          parts = refl;
-        };
+        both = concatenation _ _ id.encodes ty.encodes;
       };
     }
 

@@ -7,7 +7,7 @@ ghost use Rattle.std.specs.Option.{option_copied};
 ghost use Rattle.std.specs.Cmp.Lexicographic.{pointwise, lists_equiv, lists_per};
 ghost use Rattle.scale_info_interner.specs.Interned.{IsIndexOf, IsKnown, IsNew, AreDistinctBy};
 ghost use Rattle.scale_info_interner.specs.ElementOrders.{IsElementOrder, before, after};
-ghost use Rattle.scale_info_interner.specs.declared.interner.InternError.TheVariants.{Memory};
+ghost use Rattle.scale_info_interner.specs.declared.interner.InternError.TheVariants as error;
 
 use crate::order::{Place, find, insert, locate, merge_small, remove, split_full};
 use crate::rooms::{narrow, widen};
@@ -58,7 +58,7 @@ pub enum InternError {
 }
 
 impl From<AllocError> for InternError {
-    ghost from_gives = { λ _ e. e ≡ Memory };
+    ghost from_gives = { λ _ e. e ≡ error.Memory };
 
     fn from(_e: AllocError) -> InternError {
         InternError::Memory
@@ -66,7 +66,7 @@ impl From<AllocError> for InternError {
 }
 
 impl<T: Drop> From<AllocFailed<T>> for InternError {
-    ghost from_gives = { λ _ e. e ≡ Memory };
+    ghost from_gives = { λ _ e. e ≡ error.Memory };
 
     fn from(_e: AllocFailed<T>) -> InternError {
         InternError::Memory
@@ -255,7 +255,7 @@ fn push_new<T: TryClone>(
     ensures err { OnErr result (elements.new.items ≡ elements.old.items) }
     ensures err_order { OnErr result
         (map (λ v. v.items) chunks.new.items ≡ map (λ v. v.items) chunks.old.items) }
-    ensures memory { IfErr result (λ e. e ≡ Memory) }
+    ensures memory { IfErr result (λ e. e ≡ error.Memory) }
 {
     let index = elements.len() as u32;
     let alloc = *elements.allocator();

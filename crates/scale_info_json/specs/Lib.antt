@@ -1,9 +1,7 @@
 pub mod JsonErrors
 pub mod Laws
-pub mod DescribedLaws
-pub mod DefinitionLaws
+pub mod ObjectLaws
 pub mod JsonTables
-pub mod TableLaws
 pub mod JsonExamples
 pub use Rattle.scale_info_json_trees.specs.Meaning
 pub use Rattle.scale_info_json_trees.specs.Written

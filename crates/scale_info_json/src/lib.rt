@@ -4,18 +4,17 @@
 //! writes the text of that tree without making it.
 #![tactic(auto)]
 
-mod definition;
-mod described;
 mod error;
+mod interner;
 pub mod laws;
 mod list;
 mod members;
 mod number;
 mod portable;
 mod read_members;
-mod table;
 mod text;
 mod tree;
+mod ty;
 
 pub use error::JsonError;
 pub use portable::{append_json, from_json, to_json};

@@ -5,7 +5,7 @@ ghost use Rattle.serde_json.specs.Written.{compact_text};
 ghost use Rattle.scale_info_json.specs.JsonErrors.{IfShape};
 ghost use Rattle.scale_info_json_trees.specs.Meaning.{IsMeaningless};
 ghost use Rattle.scale_info_json.specs.JsonTables.{table_rows, table_tree, MeansTable};
-ghost use Rattle.scale_info_json.specs.TableLaws.{table_law};
+ghost use Rattle.scale_info_json.specs.ObjectLaws.{table_law};
 
 use crate::error::JsonError;
 use crate::members::{Object, ObjectWriter};

@@ -2,6 +2,7 @@
 use Rattle.std.specs.Prelude.{◌≡◌, ℕ, List, [], ◌∷◌, ◌++◌}
 use Rattle.std.proofs.Common.{refl, sym, ap, subst, ◌∙◌, append_assoc}
 use Rattle.scale_info_types.specs.Portable.{Id}
+use Rattle.scale_info_bytes.specs.PartLaws.{concatenation}
 use Rattle.scale_info_bytes.specs.Parts.{IsConcatenation}
 use Rattle.scale_info_passes.specs.Pieces.{Piece, verbatim, reference, references_in, EncodesPieces}
 
@@ -21,13 +22,7 @@ module _ {P Q R : List ℕ → Type 0} where
   regroup w k = record {
     first = w.first ++ k.first;
     second = k.second;
-    encodes_first = record {
-      first = w.first;
-      second = k.first;
-      encodes_first = w.encodes_first;
-      encodes_second = k.encodes_first;
-      parts = refl;
-    };
+    encodes_first = concatenation _ _ w.encodes_first k.encodes_first;
     encodes_second = k.encodes_second;
     parts = w.parts ∙ ap (λ x. w.first ++ x) k.parts ∙ sym (append_assoc w.first k.first k.second);
   }
@@ -48,13 +43,7 @@ module _ {P Q R : List ℕ → Type 0} where
 pub split_pieces :
     (f : Id → Id) (ps qs : List Piece) (b : List ℕ)
     → EncodesPieces f (ps ++ qs) b → IsConcatenation (EncodesPieces f ps) (EncodesPieces f qs) b
-split_pieces f [] qs b w = record {
-  first = [];
-  second = b;
-  encodes_first = refl;
-  encodes_second = w;
-  parts = refl;
-}
+split_pieces f [] qs b w = concatenation _ _ refl w
 split_pieces f (verbatim t ∷ ps) qs b w = regroup w (split_pieces f ps qs w.second w.encodes_second)
 split_pieces f (reference i ∷ ps) qs b w =
     regroup w (split_pieces f ps qs w.second w.encodes_second)

@@ -6,9 +6,7 @@ ghost use Rattle.scale_info_segments.specs.Identifiers.{IsIdentifier};
 ghost use Rattle.scale_info_segments.specs.TypePaths.{AreDeclared, ArePathSegments};
 ghost use Rattle.scale_info_segments.specs.TypePaths.{IsFirstInvalidIndex, IsPieces, replaced};
 ghost use Rattle.scale_info_segments.specs.TypePaths.{text_pairs, texts};
-ghost use Rattle.scale_info_segments.specs.declared.segments.PathError.TheVariants.{
-  Memory as memory,
-};
+ghost use Rattle.scale_info_segments.specs.declared.segments.PathError.TheVariants as error;
 
 use crate::utils::is_rust_identifier;
 use std::alloc::{AllocError, AllocFailed, Global};
@@ -37,7 +35,7 @@ pub enum PathError {
 }
 
 impl From<AllocError> for PathError {
-    ghost from_gives = { λ _ e. e ≡ memory };
+    ghost from_gives = { λ _ e. e ≡ error.Memory };
 
     fn from(_e: AllocError) -> PathError {
         PathError::Memory
@@ -45,7 +43,7 @@ impl From<AllocError> for PathError {
 }
 
 impl<T: Drop> From<AllocFailed<T>> for PathError {
-    ghost from_gives = { λ _ e. e ≡ memory };
+    ghost from_gives = { λ _ e. e ≡ error.Memory };
 
     fn from(_e: AllocFailed<T>) -> PathError {
         PathError::Memory

@@ -16,6 +16,7 @@ use Rattle.scale_info_json_trees.proofs.Objects.{object_text, text_before}
 use Rattle.scale_info_json_trees.specs.Steps.{after_rows, append_row, tokens_of}
 use Rattle.scale_info_json_trees.specs.Written.{Row, list_tree, object_tree, unless_empty}
 use Rattle.scale_info_transcode.specs.Transcodings.{state_of, AppendsRow, WritesOne, WritesRow}
+use Rattle.scale_info_transcode.specs.Transcodings.{WritesRows}
 
 -- a key and the tokens of a tree are a row
 pub member_row :
@@ -82,6 +83,30 @@ whole_object S R v {old = old} {begun} {given} {new} p b rows e = record {
         object_text (R v) old.tokens begun.tokens new.tokens begun.before (state_of given) b.ok rows
         e.ok;
   };
+}
+
+-- the rows of a value that is made of another
+pub rows_into :
+    {A B : Type 0} {S : B → List ℕ → Type 0} {T : A → List ℕ → Type 0} {Q : B → List Row}
+    {R : A → List Row} {a b : List ℕ} {old new : Written} (make : B → A)
+    → ((p : B) (x : List ℕ) → S p x → T (make p) x) → ((p : B) → Q p ≡ R (make p))
+    → WritesRows S Q a b old new → WritesRows T R a b old new
+rows_into {old = old} make k e p = record {
+  value = make p.value;
+  read = prefix_map (k p.value) p.read;
+  append = p.append ∙ ap (λ rows. after_rows append_row rows (state_of old)) (e p.value);
+}
+
+-- the one row of a value that is made of another
+pub row_alone :
+    {A B : Type 0} {S : B → List ℕ → Type 0} {T : A → List ℕ → Type 0} {Q : B → Row}
+    {R : A → List Row} {a b : List ℕ} {old new : Written} (make : B → A)
+    → ((p : B) (x : List ℕ) → S p x → T (make p) x) → ((p : B) → Q p ∷ [] ≡ R (make p))
+    → WritesRow S Q a b old new → WritesRows T R a b old new
+row_alone {old = old} make k e p = record {
+  value = make p.value;
+  read = prefix_map (k p.value) p.read;
+  append = one_row p.appends ∙ ap (λ rows. after_rows append_row rows (state_of old)) (e p.value);
 }
 
 -- a row of a value that is made of another

@@ -1,11 +1,7 @@
 -- Structs of four parts at the start of the input.
 use Rattle.std.proofs.Common.{ℕ, List}
-use Rattle.scale_info_bytes.specs.Encodings.{IsEncoding, HasPrefix, HasNoPrefix}
-use Rattle.scale_info_bytes.specs.CompactLaws.{compact_law}
-use Rattle.scale_info_bytes.specs.Integers.{EncodesCompact}
-use Rattle.scale_info_bytes.specs.PartLaws.{through_law}
+use Rattle.scale_info_bytes.specs.Encodings.{HasPrefix, HasNoPrefix}
 use Rattle.scale_info_bytes.specs.Parts.{EncodesPair}
-use Rattle.scale_info_type_ids.specs.declared.impls.Compact.{Compact}
 use Rattle.scale_info_bytes.proofs.Steps.{prefix_pair, no_prefix_first}
 use Rattle.scale_info_transcode.proofs.Skips.{no_second_part}
 use Rattle.scale_info_transcode.specs.Skips.{IsOnlyRest}
@@ -46,11 +42,3 @@ module _ {A B C D : Type 0} (S : A → List ℕ → Type 0) (R : B → List ℕ 
       (a b c d : List ℕ) → IsOnlyRest S a b → IsOnlyRest R b c → IsOnlyRest T c d
       → HasNoPrefix U d → HasNoPrefix EncodesFour a
   no_fourth a b c d p q h n = no_second_part p (no_second_part q (no_second_part h n))
-
--- a compact integer by its encoding
-abbrev pub EncodesNumber : Compact ℕ → List ℕ → Type 0
-EncodesNumber n b = EncodesCompact n.0 b
-
--- EncodesNumber is an encoding of compact integers
-pub number_law : IsEncoding EncodesNumber
-number_law = through_law (λ v. v.0) (λ v w e i. record { 0 = e i }) compact_law

@@ -1,5 +1,5 @@
 -- What is read from bytes and written as JSON.
-use Rattle.std.specs.Prelude.{◌≡◌, ℕ, List, [], ◌∷◌, ◌++◌, length}
+use Rattle.std.specs.Prelude.{◌≡◌, ℕ, List, [], ◌∷◌, ◌++◌, Some, length}
 use Rattle.json.specs.Token.{Token}
 use Rattle.json.specs.Written.{Written}
 use Rattle.serde_json.specs.Data.{Data}
@@ -8,7 +8,7 @@ use Rattle.scale_info_bytes.specs.Encodings.{HasPrefix}
 use Rattle.scale_info_bytes.specs.Parts.{EncodesItems, EncodesList}
 use Rattle.scale_info_grammar.specs.Ty.{EncodesTypes}
 use Rattle.scale_info_json_trees.specs.EntryTrees.{types_tree}
-use Rattle.scale_info_json_trees.specs.Steps.{append_row, tokens_of}
+use Rattle.scale_info_json_trees.specs.Steps.{after_rows, append_row, tokens_of}
 use Rattle.scale_info_json_trees.specs.Written.{list_tree, Row}
 use Rattle.scale_info_types.specs.declared.ty.PortableType.{PortableType}
 
@@ -38,6 +38,18 @@ pub record WritesRow {A : Type 0} (S : A → List ℕ → Type 0) (R : A → Row
   pub value : A
   pub read : HasPrefix (S value) input rest
   pub appends : AppendsRow (R value) old new
+
+-- the input begins with a value, this is the rest, and the value's rows were appended
+pub record WritesRows {A : Type 0} (S : A → List ℕ → Type 0) (R : A → List Row)
+    (input rest : List ℕ) (old new : Written) : Type 0 where
+  pub value : A
+  pub read : HasPrefix (S value) input rest
+  pub append : state_of new ≡ after_rows append_row (R value) (state_of old)
+
+-- the rows of a pair: each part under its key
+abbrev pub two_rows_of :
+    {A B : Type 0} → List ℕ → List ℕ → (A → Data) → (B → Data) → A × B → List Row
+two_rows_of first second W V v = (first, Some (W v.0)) ∷ (second, Some (V v.1)) ∷ []
 
 -- the input begins with so many values, this is the rest, and the tokens grew by those of their
 -- trees

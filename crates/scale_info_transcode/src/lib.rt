@@ -1,20 +1,18 @@
 //! A table's bytes as JSON text, part by part.
 //!
 //! [`append_json_of`] writes the JSON text of each part of the table as it reads that part's bytes.
-//! No string, list or entry is made: only a number, as an id, is decoded before it is written.
+//! No string, list or entry is made: only an integer, as an id, is decoded before it is written.
 #![tactic(auto)]
 
-mod definition_text;
-mod entry;
-mod flat_text;
-mod later;
-mod list_text;
-mod member_text;
-mod number;
-mod part_text;
+mod integer;
+mod interner;
+mod list;
+mod members;
+mod option;
+mod portable;
 mod skip;
-mod string;
-mod table_text;
+mod text;
 mod transcode;
+mod ty;
 
-pub use table_text::append_json_of;
+pub use portable::append_json_of;

@@ -1,13 +1,14 @@
 //! Values that are skipped by the counts in their encodings.
 //!
 //! What is skipped is read later, and its strings are tested then. So each string is tested once.
-ghost use Rattle.std.specs.Prelude.{List, ℕ, IfSome, IfNone};
-ghost use Rattle.scale_info_bytes.specs.Encodings.{HasNoPrefix};
+ghost use Rattle.std.specs.Prelude.{List, ℕ, IfErr, IfNone, IfOk, IfSome};
+ghost use Rattle.scale_info_bytes.specs.Encodings.{HasNoPrefix, IfMalformed};
 ghost use Rattle.scale_info_transcode.specs.Skips.{IsOnlyRest, IsOnlyRestOfItems};
 ghost use Rattle.scale_info_bytes.specs.Parts.{EncodesList, EncodesOption, EncodesPair, HasNoItems};
 ghost use Rattle.scale_info_bytes.specs.Strings.{EncodesText};
 ghost use Rattle.scale_info_grammar.specs.Ty.{EncodesField, EncodesId, EncodesParameter};
 
+use scale_info_bytes::error::DecodeError;
 use scale_info_bytes::integer::decode_compact;
 use scale_info_collections::items::Items;
 use scale_info_collections::text::Text;
@@ -29,6 +30,20 @@ pub trait Skip {
     fn skip(input: &[u8]) -> Option<&[u8]>
         ensures some { IfSome result (λ rest. IsOnlyRest encodes input.now rest.now) }
         ensures none { IfNone result (HasNoPrefix encodes input.now) };
+}
+
+/// What comes after the value, where the input begins with one. It does not allocate.
+///
+/// Error: `Malformed`, if no prefix of the input encodes a value; but where a string of it is no
+/// UTF-8, that is found when it is read.
+pub fn skip_part<T: Skip>(input: &[u8]) -> Result<&[u8], DecodeError>
+    ensures ok { IfOk result (λ rest. IsOnlyRest T.encodes input.now rest.now) }
+    ensures malformed { IfErr result (IfMalformed (HasNoPrefix T.encodes input.now)) }
+{
+    match T::skip(input) {
+        Some(rest) => Ok(rest),
+        None => Err(DecodeError::Malformed),
+    }
 }
 
 impl Skip for Text {

@@ -7,7 +7,6 @@ ghost use Rattle.scale_info_transcode.specs.Transcodings.{WritesOne};
 
 use json::Writer;
 use scale_info_bytes::error::DecodeError;
-use std::alloc::Global;
 
 /// A value whose JSON text is written straight from its bytes.
 pub trait Transcode {
@@ -21,11 +20,7 @@ pub trait Transcode {
     ///
     /// Errors: `Malformed`, if no prefix of the input encodes a value; `Memory`, if an allocation
     /// failed.
-    fn transcode<'a>(
-        alloc: Global,
-        input: &'a [u8],
-        out: &mut Writer,
-    ) -> Result<&'a [u8], DecodeError>
+    fn transcode<'a>(input: &'a [u8], out: &mut Writer) -> Result<&'a [u8], DecodeError>
         ensures before { OnOk result (out.new.before ≡ out.old.before) }
         ensures ok { IfOk result (λ rest. WritesOne encodes written
             input.now rest.now out.old.tokens out.new.tokens) }

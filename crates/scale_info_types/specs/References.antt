@@ -15,7 +15,7 @@ abbrev pub field_references : {F T S : Type 0} → List (Field F T S) → List T
 field_references fields = map (λ f. f.ty) fields
 
 -- a composite has its fields' types; an enum those of its variants' fields, in order; a sequence,
--- an array and a compact integer their one type; a tuple its members; a bit sequence the store, then
+-- an array and a compact type their one type; a tuple its members; a bit sequence the store, then
 -- the order; a map the key, then the value; a primitive none
 abbrev pub definition_references : {F T S : Type 0} → TypeDef F T S → List T
 definition_references (def.Composite d) = field_references d.fields

@@ -11,6 +11,7 @@ use Rattle.std.specs.Prelude.{if◌then◌else◌}
 use Rattle.std.specs.Str.{is_utf8}
 use Rattle.scale_info_bytes.specs.Encodings.{HasPrefix, IsByte}
 use Rattle.scale_info_bytes.specs.Integers.{EncodesCompact}
+use Rattle.scale_info_bytes.specs.PartLaws.{concatenation}
 use Rattle.scale_info_bytes.specs.Strings.{EncodesText}
 use Rattle.scale_info_value.specs.declared.value.Dyn.{Dyn}
 use Rattle.scale_info_value.specs.declared.value.Dyn.TheVariants as dyn
@@ -131,13 +132,8 @@ nothing_else input rest t all e =
       encoding = c.encoding ++ t;
       encodes = record {
         utf8 = p.4;
-        counted = record {
-          first = c.encoding;
-          second = t;
-          encodes_first = subst (λ n. EncodesCompact n c.encoding) (sym b.0) c.encodes;
-          encodes_second = refl;
-          parts = refl;
-        };
+        counted =
+            concatenation _ _ (subst (λ n. EncodesCompact n c.encoding) (sym b.0) c.encodes) refl;
       };
       parts = c.parts ∙ ap (λ x. c.encoding ++ x) (sym b.1) ∙ sym (append_assoc c.encoding t rest);
     }

@@ -12,8 +12,8 @@ use scale_info_collections::items::Items;
 use scale_info_types::ty::TypeDefPrimitive;
 use std::alloc::Global;
 
-/// So many integers of an unsigned type with so many bytes, and the rest. All bytes are there before
-/// room is made, so the room is bounded by the input.
+/// So many integers of an unsigned type with so many bytes, and the rest. All bytes are there
+/// before room is made, so the room is bounded by the input.
 #[inline(always)]
 fn integers(
     alloc: Global,
@@ -24,8 +24,8 @@ fn integers(
     requires some { 1 ≤ width }
     requires fits { width ≤ 16 }
     ensures ok { IfOk result (λ found.
-        in_turn (replicate count (λ bytes. outcome_map dyn.Unsigned (integer width bytes))) input.now
-        ≡ decoded found.0 found.1.now) }
+        in_turn (replicate count (λ bytes. outcome_map dyn.Unsigned (integer width bytes)))
+        input.now ≡ decoded found.0 found.1.now) }
     ensures err { IfErr result (IsErrorOf
         (in_turn (replicate count (λ bytes. outcome_map dyn.Unsigned (integer width bytes)))
         input.now)) }

@@ -43,8 +43,8 @@ fn truth(input: &[u8]) -> Result<(Dyn, &[u8]), ValueError>
 /// An integer of an unsigned type with so many bytes, and the rest.
 fn unsigned(width: usize, input: &[u8]) -> Result<(Dyn, &[u8]), ValueError>
     requires { width ≤ 16 }
-    ensures ok { IfOk result
-        (λ found. outcome_map dyn.Unsigned (integer width input.now) ≡ decoded found.0 found.1.now) }
+    ensures ok { IfOk result (λ found.
+        outcome_map dyn.Unsigned (integer width input.now) ≡ decoded found.0 found.1.now) }
     ensures err { IfErr result (IsErrorOf (outcome_map dyn.Unsigned (integer width input.now))) }
 {
     let (n, rest) = integer(width, input)?;
