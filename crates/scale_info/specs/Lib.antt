@@ -75,5 +75,7 @@ pub use Rattle.scale_info_transcode.specs.Transcodings
 pub use Rattle.scale_info_value.specs.Readings
 pub use Rattle.scale_info_value.specs.Outcomes
 pub use Rattle.scale_info_value.specs.ValueDefinitions
-pub use Rattle.scale_info_value.specs.IntegerDecoders as ValueNumbers
+pub use Rattle.scale_info_value.specs.IntegerDecoders
 pub use Rattle.scale_info_value.specs.ValueExamples
+pub use Rattle.scale_info_visit.specs.Events
+pub use Rattle.scale_info_visit.specs.Visits

@@ -43,7 +43,7 @@ pub use scale_info_types::laws::{
     shape_and_references, shape_and_references_of,
 };
 pub use scale_info_value::laws::{
-    counts_as_in_tables, equal_value_errors, equal_values, reads_alike, texts_as_in_tables,
-    unfolding_decides,
+    counts_as_in_tables, equal_failures, equal_value_errors, equal_values, reads_alike,
+    texts_as_in_tables, unfolding_decides,
 };
 pub use scale_info_walk::laws::{equal_numberings, equal_retain_errors};

@@ -6,6 +6,7 @@ pub mod impls;
 pub mod laws;
 pub mod macros;
 pub mod meta_type;
+pub mod visit;
 pub mod walk;
 
 pub use scale_info_build as build;

@@ -2,8 +2,10 @@
 use Rattle.std.proofs.Common.{◌≡◌, Result, Ok, Err, sym, subst}
 use Rattle.std.specs.Prelude.{IfErr}
 use Rattle.std.specs.Result.{IsErrAnd}
+use Rattle.scale_info_value.specs.declared.value.Failure.{Failure}
+use Rattle.scale_info_value.specs.declared.value.Failure.TheVariants as failure
 use Rattle.scale_info_value.specs.declared.value.ValueError.{ValueError}
-use Rattle.scale_info_value.specs.Outcomes.{Failure, Outcome, failed, IsErrorOf}
+use Rattle.scale_info_value.specs.Outcomes.{Outcome, failed, error_of, IsErrorOf}
 use Rattle.scale_info_value.proofs.InOrder.{passes}
 
 -- an error of a part is an error of the whole
@@ -13,3 +15,17 @@ pub passed :
     → ((why : Failure) → part ≡ failed why → whole ≡ failed why) → IsErrorOf part e → IfErr r (IsErrorOf whole)
 passed (Ok x) e h part whole f p = tt
 passed (Err d) e h part whole f p = passes part whole d f (subst (λ t. IsErrorOf part t) (sym h) p)
+
+-- a failure is the error that it becomes
+fails_as : {A : Type 0} (whole : Outcome A) (why : Failure) → whole ≡ failed why → IsErrorOf whole (error_of why)
+fails_as whole failure.NoSuchType f = f
+fails_as whole failure.Unsupported f = f
+fails_as whole failure.TooDeep f = f
+fails_as whole failure.Malformed f = f
+
+-- the failure of the whole, passed on as an error
+pub failed_as :
+    {X A : Type 0} (r : Result X ValueError) (why : Failure) → IsErrAnd r (λ d. d ≡ error_of why)
+    → (whole : Outcome A) → whole ≡ failed why → IfErr r (IsErrorOf whole)
+failed_as (Ok x) why h whole f = tt
+failed_as (Err d) why h whole f = subst (λ t. IsErrorOf whole t) (sym h) (fails_as whole why f)

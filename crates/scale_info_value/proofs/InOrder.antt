@@ -3,9 +3,10 @@ use Rattle.std.proofs.Common.{◌≡◌, ℕ, zero, suc, ◌+◌, ◌-◌, ◌<�
 use Rattle.std.proofs.Common.{refl, ap}
 use Rattle.std.proofs.Common.{sym, ◌∙◌, append_assoc, arith}
 use Rattle.std.proofs.lemmas.List.{append-nil}
+use Rattle.scale_info_value.specs.declared.value.Failure.{Failure}
 use Rattle.scale_info_value.specs.declared.value.ValueError.{ValueError}
 use Rattle.scale_info_value.specs.declared.value.ValueError.TheVariants as error
-use Rattle.scale_info_value.specs.Outcomes.{Failure, Outcome, decoded, failed, Decoder, and_then}
+use Rattle.scale_info_value.specs.Outcomes.{Outcome, decoded, failed, Decoder, and_then}
 use Rattle.scale_info_value.specs.Outcomes.{outcome_map, in_turn, IsErrorOf}
 
 -- the outcome, where its list begins with what was decoded before

@@ -1,10 +1,10 @@
-mod Bounds
-mod Counts
-mod Decoded
-mod Errors
-mod InOrder
-mod Integers
-mod Steps
-mod Texts
-mod Unfolded
-mod Equal
+pub mod Bounds
+pub mod Counts
+pub mod Decoded
+pub mod Errors
+pub mod InOrder
+pub mod Integers
+pub mod Steps
+pub mod Texts
+pub mod Unfolded
+pub mod Equal

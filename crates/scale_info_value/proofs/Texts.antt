@@ -56,10 +56,12 @@ pub text_failed :
 text_failed input rest all after n e f u =
     by_bytes input rest all after n e f ∙ not_utf8 (is_utf8 all) all after (λ h. u (IsUtf8-from_is_utf8 all h))
 
-bytes_whole : (n : ℕ) (input : List ℕ) → n ≤ length input → bytes n input ≡ decoded (take n input) (drop n input)
+-- so many bytes, where they are there
+pub bytes_whole : (n : ℕ) (input : List ℕ) → n ≤ length input → bytes n input ≡ decoded (take n input) (drop n input)
 bytes_whole n input h = grind (arith, common_steps)
 
-bytes_long : (n : ℕ) (input all after : List ℕ) → bytes n input ≡ decoded all after → n ≤ length input
+-- where so many bytes are decoded, they are there
+pub bytes_long : (n : ℕ) (input all after : List ℕ) → bytes n input ≡ decoded all after → n ≤ length input
 bytes_long n input all after h = grind (arith, common_steps)
 
 bytes_of : (t rest : List ℕ) → bytes (length t) (t ++ rest) ≡ decoded t rest

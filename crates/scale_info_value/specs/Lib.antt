@@ -2,4 +2,5 @@ pub mod ValueDefinitions
 pub mod ValueExamples
 pub mod IntegerDecoders
 pub mod Outcomes
+pub mod PrimitiveValues
 pub mod Readings

@@ -1,14 +1,25 @@
 -- What comes of decoding bytes.
 use Rattle.std.specs.Prelude.{◌≡◌, ℕ, List, [], ◌∷◌}
+use Rattle.scale_info_value.specs.declared.value.Failure.{Failure}
+use Rattle.scale_info_value.specs.declared.value.Failure.TheVariants as failure
 use Rattle.scale_info_value.specs.declared.value.ValueError.{ValueError}
 use Rattle.scale_info_value.specs.declared.value.ValueError.TheVariants as error
 
--- why there is no value
-pub data Failure : Type 0 where
-  no_such_type : Failure
-  unsupported : Failure
-  too_deep : Failure
-  malformed : Failure
+-- an id is no index of the table
+abbrev pub no_such_type : Failure
+no_such_type = failure.NoSuchType
+
+-- values of a type are not decoded
+abbrev pub unsupported : Failure
+unsupported = failure.Unsupported
+
+-- a value is more than 128 deep
+abbrev pub too_deep : Failure
+too_deep = failure.TooDeep
+
+-- no prefix of the bytes is a value of the type
+abbrev pub malformed : Failure
+malformed = failure.Malformed
 
 -- a value and the rest of the bytes, or why there is none
 pub data Outcome (A : Type 0) : Type 0 where
@@ -43,3 +54,10 @@ IsErrorOf outcome error.Unsupported = outcome ≡ failed unsupported
 IsErrorOf outcome error.TooDeep = outcome ≡ failed too_deep
 IsErrorOf outcome error.Malformed = outcome ≡ failed malformed
 IsErrorOf outcome error.Memory = Unit {0}
+
+-- the failure as an error
+abbrev pub error_of : Failure → ValueError
+error_of failure.NoSuchType = error.NoSuchType
+error_of failure.Unsupported = error.Unsupported
+error_of failure.TooDeep = error.TooDeep
+error_of failure.Malformed = error.Malformed

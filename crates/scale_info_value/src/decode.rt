@@ -1,19 +1,19 @@
 //! Values decoded by the definitions of their types.
-ghost use Rattle.std.specs.Prelude.{◌≡◌, ◌≤◌, ◌==◌, ◌∷◌, [], IfOk, IfErr, find, replicate};
-ghost use Rattle.std.specs.Option.{option_copied};
+ghost use Rattle.std.specs.Prelude.{◌≡◌, ◌≤◌, ◌∷◌, [], IfOk, IfErr, replicate};
 ghost use Rattle.scale_info_types.specs.declared.ty.TypeDef.TheVariants as def;
 ghost use Rattle.scale_info_value.specs.declared.value.Dyn.TheVariants as dyn;
 ghost use Rattle.scale_info_value.specs.declared.value.ValueError.TheVariants as error;
 ghost use Rattle.scale_info_value.specs.Outcomes.{decoded, in_turn, IsErrorOf};
-ghost use Rattle.scale_info_value.specs.Readings.{compact_within, compact_definition_within};
 ghost use Rattle.scale_info_value.specs.Readings.{value_within, definition_within, fields_within};
 ghost use Rattle.scale_info_value.specs.Readings.{variant_within, items_within, members_within};
 ghost use Rattle.scale_info_value.specs.Readings.{pair_within, pairs_within, reading};
 
+use crate::compact::compact_within;
 use crate::integer::{byte, count};
 use crate::list::primitives;
-use crate::primitive::{compact_primitive, primitive};
+use crate::primitive::primitive;
 use crate::value::{Dyn, ValueError};
+use crate::variants::variant_with_index;
 use scale_info_collections::items::Items;
 use scale_info_collections::text::Text;
 use scale_info_collections::try_clone::TryClone;
@@ -21,7 +21,6 @@ use scale_info_identities::symbol::UntrackedSymbol;
 use scale_info_identities::type_id::TypeId;
 use scale_info_tables::portable::PortableRegistry;
 use scale_info_types::form::PortableForm;
-use scale_info_types::ty::variant::Variant;
 use scale_info_types::ty::{
     Field, TypeDef, TypeDefArray, TypeDefCompact, TypeDefComposite, TypeDefMap, TypeDefSequence,
     TypeDefTuple, TypeDefVariant,
@@ -61,52 +60,6 @@ pub fn decode_value<'a>(
     ensures err { IfErr result (IsErrorOf (reading table.now id 1 input.now)) }
 {
     value_within(alloc, table, id, 128, input)
-}
-
-/// A compact integer of the type with this id, and the rest, where so many levels are left.
-#[cycle(compact)]
-fn compact_within<'a>(
-    table: &PortableRegistry,
-    id: u32,
-    left: u8,
-    input: &'a [u8],
-) -> Result<(u128, &'a [u8]), ValueError>
-    ensures ok { IfOk result
-        (λ found. compact_within left table.now id input.now ≡ decoded found.0 found.1.now) }
-    ensures err { IfErr result (IsErrorOf (compact_within left table.now id input.now)) }
-{
-    if left == 0 {
-        return Err(ValueError::TooDeep);
-    }
-    match table.resolve(id) {
-        None => Err(ValueError::NoSuchType),
-        Some(ty) => compact_by(table, &ty.type_def, left, input),
-    }
-}
-
-/// A compact integer by the definition of its type, and the rest.
-#[cycle(compact)]
-fn compact_by<'a>(
-    table: &PortableRegistry,
-    definition: &TypeDef<PortableForm>,
-    left: u8,
-    input: &'a [u8],
-) -> Result<(u128, &'a [u8]), ValueError>
-    requires { 1 ≤ left }
-    ensures ok { IfOk result
-        (λ found. compact_definition_within left table.now definition.now input.now
-        ≡ decoded found.0 found.1.now) }
-    ensures err { IfErr result
-        (IsErrorOf (compact_definition_within left table.now definition.now input.now)) }
-{
-    match definition {
-        TypeDef::Composite(composite) => match composite.fields.as_slice() {
-            [field] => compact_within(table, field.ty.id, left - 1, input),
-            _ => Err(ValueError::Unsupported),
-        },
-        TypeDef::Primitive(kind) => compact_primitive(kind, input),
-        _ => Err(ValueError::Unsupported),
-    }
 }
 
 /// A value of the type with this id, and the rest, where so many levels are left.
@@ -202,16 +155,6 @@ fn composite_value<'a>(
 {
     let (values, rest) = fields(alloc, table, composite.fields.as_slice(), left, input)?;
     Ok((Dyn::Record(values), rest))
-}
-
-/// The first variant with this index.
-fn variant_with_index(
-    variants: &[Variant<PortableForm>],
-    index: u8,
-) -> Option<&Variant<PortableForm>>
-    ensures { option_copied result ≡ find (λ v. v.index == index) variants.now }
-{
-    variants.iter().find(|variant| variant.index == index)
 }
 
 /// A value of an enum, and the rest.

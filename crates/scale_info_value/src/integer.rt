@@ -1,39 +1,39 @@
 //! Integers at the start of bytes.
 ghost use Rattle.std.specs.Prelude.{◌≡◌, ◌<◌, ◌≤◌, ◌^◌, ◌+◌, length, IfOk, IfErr};
-ghost use Rattle.scale_info_value.specs.Outcomes.{decoded, IsErrorOf};
+ghost use Rattle.scale_info_value.specs.Outcomes.{decoded, failed};
 ghost use Rattle.scale_info_value.specs.IntegerDecoders.{byte, bytes, little_endian, integer};
 ghost use Rattle.scale_info_value.specs.IntegerDecoders.{at_least};
 ghost use Rattle.scale_info_value.specs.IntegerDecoders.{compact_after, compact, compact_below};
 ghost use Rattle.scale_info_value.specs.IntegerDecoders.{count};
 
-use crate::value::ValueError;
+use crate::value::Failure;
 
-/// The first byte, and the rest.
-pub(crate) fn byte(input: &[u8]) -> Result<(u8, &[u8]), ValueError>
+/// The first byte, and the rest. Error: `Malformed`, where there is none.
+pub fn byte(input: &[u8]) -> Result<(u8, &[u8]), Failure>
     ensures ok { IfOk result (λ found. byte input.now ≡ decoded found.0 found.1.now) }
-    ensures err { IfErr result (IsErrorOf (byte input.now)) }
+    ensures err { IfErr result (λ why. byte input.now ≡ failed why) }
 {
     match input {
-        [] => Err(ValueError::Malformed),
+        [] => Err(Failure::Malformed),
         [first, rest @ ..] => Ok((*first, rest)),
     }
 }
 
-/// So many bytes, and the rest.
-pub(crate) fn bytes(count: usize, input: &[u8]) -> Result<(&[u8], &[u8]), ValueError>
+/// So many bytes, and the rest. Error: `Malformed`, where there are fewer.
+pub fn bytes(count: usize, input: &[u8]) -> Result<(&[u8], &[u8]), Failure>
     ensures ok { IfOk result (λ found. bytes count input.now ≡ decoded found.0.now found.1.now) }
     ensures len { IfOk result (λ found. length found.0.now ≡ count) }
-    ensures err { IfErr result (IsErrorOf (bytes count input.now)) }
+    ensures err { IfErr result (λ why. bytes count input.now ≡ failed why) }
 {
     if input.len() < count {
-        return Err(ValueError::Malformed);
+        return Err(Failure::Malformed);
     }
     Ok(input.split_at(count))
 }
 
 /// An integer by its bytes, the lowest first. Where they are as many as those of a built-in type,
 /// they are taken at once.
-pub(crate) fn little_endian(bytes: &[u8]) -> u128
+pub fn little_endian(bytes: &[u8]) -> u128
     requires { length bytes.now ≤ 16 }
     ensures integer { result ≡ little_endian bytes.now }
     ensures bound { result < 256 ^ length bytes.now }
@@ -53,23 +53,23 @@ pub(crate) fn little_endian(bytes: &[u8]) -> u128
 }
 
 /// An integer in so many bytes, the lowest first, and the rest.
-pub(crate) fn integer(width: usize, input: &[u8]) -> Result<(u128, &[u8]), ValueError>
+pub(crate) fn integer(width: usize, input: &[u8]) -> Result<(u128, &[u8]), Failure>
     requires { width ≤ 16 }
     ensures ok { IfOk result (λ found. integer width input.now ≡ decoded found.0 found.1.now) }
     ensures bound { IfOk result (λ found. found.0 < 256 ^ width) }
-    ensures err { IfErr result (IsErrorOf (integer width input.now)) }
+    ensures err { IfErr result (λ why. integer width input.now ≡ failed why) }
 {
     let (all, rest) = bytes(width, input)?;
     Ok((little_endian(all), rest))
 }
 
 /// What follows the first byte of a compact integer.
-fn compact_after(mode: u8, high: u8, input: &[u8]) -> Result<(u128, &[u8]), ValueError>
+fn compact_after(mode: u8, high: u8, input: &[u8]) -> Result<(u128, &[u8]), Failure>
     requires mode { mode < 4 }
     requires high { high < 64 }
     ensures ok { IfOk result
         (λ found. compact_after mode high input.now ≡ decoded found.0 found.1.now) }
-    ensures err { IfErr result (IsErrorOf (compact_after mode high input.now)) }
+    ensures err { IfErr result (λ why. compact_after mode high input.now ≡ failed why) }
 {
     match mode {
         0 => Ok((high as u128, input)),
@@ -83,7 +83,7 @@ fn compact_after(mode: u8, high: u8, input: &[u8]) -> Result<(u128, &[u8]), Valu
         }
         _ => {
             if high > 12 {
-                return Err(ValueError::Malformed);
+                return Err(Failure::Malformed);
             }
             let (n, rest) = integer(high as usize + 4, input)?;
             let least = 256u128.pow(high as u32 + 3);
@@ -93,43 +93,44 @@ fn compact_after(mode: u8, high: u8, input: &[u8]) -> Result<(u128, &[u8]), Valu
 }
 
 /// The integer, where it is not below the least.
-fn at_least(least: u128, n: u128, rest: &[u8]) -> Result<(u128, &[u8]), ValueError>
+fn at_least(least: u128, n: u128, rest: &[u8]) -> Result<(u128, &[u8]), Failure>
     ensures ok { IfOk result (λ found. at_least least n rest.now ≡ decoded found.0 found.1.now) }
-    ensures err { IfErr result (IsErrorOf (at_least least n rest.now)) }
+    ensures err { IfErr result (λ why. at_least least n rest.now ≡ failed why) }
 {
     if n < least {
-        return Err(ValueError::Malformed);
+        return Err(Failure::Malformed);
     }
     Ok((n, rest))
 }
 
 /// A compact integer, and the rest.
-fn compact(input: &[u8]) -> Result<(u128, &[u8]), ValueError>
+fn compact(input: &[u8]) -> Result<(u128, &[u8]), Failure>
     ensures ok { IfOk result (λ found. compact input.now ≡ decoded found.0 found.1.now) }
-    ensures err { IfErr result (IsErrorOf (compact input.now)) }
+    ensures err { IfErr result (λ why. compact input.now ≡ failed why) }
 {
     let (first, rest) = byte(input)?;
     compact_after(first % 4, first / 4, rest)
 }
 
 /// A compact integer that is at most this one, and the rest.
-pub(crate) fn compact_up_to(most: u128, input: &[u8]) -> Result<(u128, &[u8]), ValueError>
+pub(crate) fn compact_up_to(most: u128, input: &[u8]) -> Result<(u128, &[u8]), Failure>
     ensures ok { IfOk result
         (λ found. compact_below (most + 1) input.now ≡ decoded found.0 found.1.now) }
     ensures bound { IfOk result (λ found. found.0 ≤ most) }
-    ensures err { IfErr result (IsErrorOf (compact_below (most + 1) input.now)) }
+    ensures err { IfErr result (λ why. compact_below (most + 1) input.now ≡ failed why) }
 {
     let (n, rest) = compact(input)?;
     if n > most {
-        return Err(ValueError::Malformed);
+        return Err(Failure::Malformed);
     }
     Ok((n, rest))
 }
 
-/// How many items or bytes follow, and the rest.
-pub(crate) fn count(input: &[u8]) -> Result<(u32, &[u8]), ValueError>
+/// How many items or bytes follow, and the rest. Error: `Malformed`, where no prefix of the input
+/// is the only compact encoding of an integer below 2 to the 32.
+pub fn count(input: &[u8]) -> Result<(u32, &[u8]), Failure>
     ensures ok { IfOk result (λ found. count input.now ≡ decoded found.0 found.1.now) }
-    ensures err { IfErr result (IsErrorOf (count input.now)) }
+    ensures err { IfErr result (λ why. count input.now ≡ failed why) }
 {
     let (n, rest) = compact_up_to(4294967295, input)?;
     Ok((n as u32, rest))

@@ -12,6 +12,7 @@ ghost use Rattle.scale_info_walk.specs.TypeSystems.{entry_of};
 ghost use Rattle.scale_info_tables.specs.declared.portable.PortableRegistry.{PortableRegistry};
 ghost use Rattle.scale_info_value.specs.declared.value.Dyn as dyns;
 ghost use Rattle.scale_info_value.specs.declared.value.Dyn.TheVariants as dyn;
+ghost use Rattle.scale_info_value.specs.declared.value.Failure as failures;
 ghost use Rattle.scale_info_value.specs.declared.value.ValueError as value_errors;
 ghost use Rattle.scale_info_value.specs.ValueDefinitions.{text};
 ghost use Rattle.scale_info_value.specs.IntegerDecoders.{count};
@@ -20,7 +21,7 @@ ghost use Rattle.scale_info_value.specs.Readings.{reading};
 
 pub mod examples;
 
-use crate::value::{Dyn, ValueError};
+use crate::value::{Dyn, Failure, ValueError};
 
 /// What is decoded at an id depends on nothing but what the id unfolds to: where two ids, in one
 /// table or in two, unfold to the same tree, each input is decoded alike at both. At depth 1 the
@@ -87,4 +88,10 @@ fn equals_itself<T: Eq>()
 pub fn equal_value_errors()
     ensures { (a b : value_errors.ValueError)
         → IsTrue (⟦<ValueError as PartialEq>⟧.eq a b) ↔ (a ≡ b) }
+{}
+
+/// Failures of decoding values are equal exactly where they are one value.
+pub fn equal_failures()
+    ensures { (a b : failures.Failure)
+        → IsTrue (⟦<Failure as PartialEq>⟧.eq a b) ↔ (a ≡ b) }
 {}

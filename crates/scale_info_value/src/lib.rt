@@ -4,9 +4,11 @@
 //! returns it as a [`value::Dyn`].
 #![tactic(auto)]
 
+pub mod compact;
 mod decode;
-mod integer;
+pub mod integer;
 pub mod laws;
 mod list;
-mod primitive;
+pub mod primitive;
 pub mod value;
+pub mod variants;

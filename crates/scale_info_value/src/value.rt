@@ -1,6 +1,7 @@
 //! Values decoded by a table, and why there is none.
 ghost use Rattle.std.specs.Prelude.{◌≡◌};
 ghost use Rattle.scale_info_value.specs.declared.value.ValueError.TheVariants as error;
+ghost use Rattle.scale_info_value.specs.Outcomes.{error_of};
 
 pub use crate::decode::decode_value;
 use scale_info_collections::items::Items;
@@ -35,6 +36,24 @@ pub enum Dyn {
     },
 }
 
+/// Why bytes are no value of a type.
+#[derive(Clone, Copy, Debug, PartialEq, Eq, Error)]
+pub enum Failure {
+    /// An id is no index of the table.
+    #[error("NoSuchType")]
+    NoSuchType,
+    /// A type whose values are not decoded: `char`, `u256`, `i256`, bit sequences, and compact
+    /// types that are no unsigned integer of up to 128 bits.
+    #[error("Unsupported")]
+    Unsupported,
+    /// A value more than 128 deep.
+    #[error("TooDeep")]
+    TooDeep,
+    /// No prefix of the input is a value of the type.
+    #[error("Malformed")]
+    Malformed,
+}
+
 /// Why no value could be decoded.
 #[derive(Debug, Drop, PartialEq, Eq, Error)]
 pub enum ValueError {
@@ -54,6 +73,19 @@ pub enum ValueError {
     /// An allocation failed.
     #[error("Memory")]
     Memory,
+}
+
+impl From<Failure> for ValueError {
+    ghost from_gives = { λ why e. e ≡ error_of why };
+
+    fn from(why: Failure) -> ValueError {
+        match why {
+            Failure::NoSuchType => ValueError::NoSuchType,
+            Failure::Unsupported => ValueError::Unsupported,
+            Failure::TooDeep => ValueError::TooDeep,
+            Failure::Malformed => ValueError::Malformed,
+        }
+    }
 }
 
 impl From<AllocError> for ValueError {

@@ -1,10 +1,12 @@
-use Rattle.std.proofs.Common.{◌≡◌, ◌-◌, Some, None, find, ◌==◌, arith, ap, sym, ◌∙◌}
+use Rattle.std.proofs.Common.{◌≡◌, ◌-◌, Some, None, find, ◌==◌, arith, ap, sym, ◌∙◌, map}
 use Rattle.std.proofs.lemmas.Grind.{common_steps}
 use Rattle.scale_info_value.specs.declared.value.Dyn.TheVariants as dyn
-use Rattle.scale_info_value.specs.Outcomes.{decoded, outcome_map}
+use Rattle.scale_info_value.specs.Outcomes.{decoded, outcome_map, and_then}
 use Rattle.scale_info_value.specs.Readings.{type_at, value_within, definition_within, pair_within}
-use Rattle.scale_info_value.specs.Readings.{fields_within}
-use Rattle.scale_info_value.proofs.Errors.{passed}
+use Rattle.scale_info_value.specs.Readings.{fields_within, items_within, pairs_within, part_within}
+use Rattle.scale_info_value.specs.ValueDefinitions.{fields_of}
+use Rattle.scale_info_types.specs.Shapes.{map_variant}
+use Rattle.scale_info_value.proofs.Errors.{passed, failed_as}
 use Rattle.scale_info_value.proofs.InOrder.{done_more, done_fails, all_fail}
 use Rattle.scale_info_value.proofs.Steps.{value_too_deep, value_no_type, value_of_type}
 use Rattle.scale_info_value.proofs.Steps.{composite_is}
@@ -144,3 +146,25 @@ variant_value-returns-in_ok-name-in-Some-clause-ok t c =
     ∙ ap (λ name.
     decoded (dyn.Variant name c.in_ok-index.index c.in_ok-fields-in-Some.fields) c.in_ok-fields-in-Some.rest.now)
     (sym c.in_ok-name-in-Some.ensures)
+
+pub variant_value-returns-in_err-index-clause-err : goal.variant_value-returns-in_err-index-clause-err
+variant_value-returns-in_err-index-clause-err t c =
+    let variants = map (map_variant {G = Unit {0}} (part_within c.args.left c.args.table.now) (λ t. t))
+    c.args.choice.now.variants in
+    failed_as c.from_residual.result c.in_err-index.field-0.0 c.from_residual.ensures.1 _
+    (ap (λ o. and_then o (λ index rest. fields_of index (find (λ v. v.index == index) variants) rest))
+    c.in_err-index.ensures.err)
+
+pub sequence_value-returns-in_err-count-clause-err : goal.sequence_value-returns-in_err-count-clause-err
+sequence_value-returns-in_err-count-clause-err t c =
+    failed_as c.from_residual.result c.in_err-count.field-0.0 c.from_residual.ensures.1 _
+    (ap (λ o. outcome_map dyn.List (and_then o (λ n rest.
+    items_within c.args.left c.args.table.now c.args.sequence.now.type_param n rest)))
+    c.in_err-count.ensures.err)
+
+pub map_value-returns-in_err-count-clause-err : goal.map_value-returns-in_err-count-clause-err
+map_value-returns-in_err-count-clause-err t c =
+    failed_as c.from_residual.result c.in_err-count.field-0.0 c.from_residual.ensures.1 _
+    (ap (λ o. outcome_map dyn.List (and_then o (λ n rest.
+    pairs_within c.args.left c.args.table.now c.args.map.now.key c.args.map.now.value n rest)))
+    c.in_err-count.ensures.err)

@@ -1,5 +1,5 @@
 use Rattle.std.proofs.Common.{rules}
-use Rattle.scale_info_value.proofs.primitive.compact_primitive.Goals as goal
+use Rattle.scale_info_value.proofs.compact.compact_primitive.Goals as goal
 
 pub returns-in-U32-clause-err : goal.returns-in-U32-clause-err
 returns-in-U32-clause-err c = search rules

@@ -1,0 +1,10 @@
+//! Values shown to a visitor as they are decoded from SCALE bytes, with none made.
+//!
+//! [`visit::visit_value`] goes over a value of a type that the program knows only from a table, and
+//! shows it to a [`visitor::ValueVisitor`]. [`skip::skip_value`] finds the rest alone.
+#![tactic(auto)]
+
+mod list;
+pub mod skip;
+pub mod visit;
+pub mod visitor;

@@ -1,0 +1,511 @@
+//! Values shown by the definitions of their types.
+ghost use Rattle.std.specs.Prelude.{◌≡◌, ◌≤◌, IfOk, IfErr, OnErr, replicate};
+ghost use Rattle.std.specs.Bool.{OnTrue};
+ghost use Rattle.std.specs.List.{flat_map};
+ghost use Rattle.scale_info_types.specs.declared.ty.TypeDef.TheVariants as def;
+ghost use Rattle.scale_info_primitives.specs.declared.primitive.TypeDefPrimitive.TheVariants as kind;
+ghost use Rattle.scale_info_value.specs.declared.value.Dyn.TheVariants as dyn;
+ghost use Rattle.scale_info_value.specs.Outcomes.{outcome_map, in_turn};
+ghost use Rattle.scale_info_value.specs.ValueDefinitions.{primitive};
+ghost use Rattle.scale_info_value.specs.Readings.{value_within, definition_within, fields_within};
+ghost use Rattle.scale_info_value.specs.Readings.{variant_within, items_within, members_within};
+ghost use Rattle.scale_info_value.specs.Readings.{compact_within, pair_within, pairs_within};
+ghost use Rattle.scale_info_value.specs.Readings.{reading};
+ghost use Rattle.scale_info_visit.specs.Events.{events_of, field_events};
+ghost use Rattle.scale_info_visit.specs.Visits.{HasVisited, IsVisitErrorOf, field_within};
+ghost use Rattle.scale_info_visit.specs.Visits.{key_then_value};
+
+use crate::list::{primitive, primitives};
+use crate::visitor::{ValueVisitor, VisitError, shown};
+use scale_info_identities::symbol::UntrackedSymbol;
+use scale_info_identities::type_id::TypeId;
+use scale_info_tables::portable::PortableRegistry;
+use scale_info_types::form::PortableForm;
+use scale_info_types::ty::variant::Variant;
+use scale_info_types::ty::{Field, TypeDef, TypeDefPrimitive};
+use scale_info_value::compact::compact_within;
+use scale_info_value::integer::{byte, bytes, count};
+use scale_info_value::value::Failure;
+use scale_info_value::variants::variant_with_index;
+
+/// Shows the visitor one value of the type with this id, at the start of the input, and returns the
+/// rest. It does not allocate.
+///
+/// It decodes what `decode_value` decodes, in the same order, and has the same errors.
+pub fn visit_value<'i, V: ValueVisitor>(
+    table: &PortableRegistry,
+    id: u32,
+    input: &'i [u8],
+    visitor: &mut V,
+) -> Result<&'i [u8], VisitError<V::Error>>
+    ensures ok { IfOk result (λ rest.
+        HasVisited V.visited events_of (reading table.now id 1 input.now)
+        rest.now visitor.old visitor.new) }
+    ensures err { IfErr result
+        (IsVisitErrorOf V.may_stop (reading table.now id 1 input.now) visitor.old) }
+    ensures keeps { OnErr result (V.kept visitor.old visitor.new) }
+{
+    value_within(table, id, 128, input, visitor)
+}
+
+/// Shows a compact integer of the type with this id, and returns the rest.
+fn compact<'i, V: ValueVisitor>(
+    table: &PortableRegistry,
+    id: u32,
+    left: u8,
+    input: &'i [u8],
+    visitor: &mut V,
+) -> Result<&'i [u8], VisitError<V::Error>>
+    ensures ok { IfOk result (λ rest.
+        HasVisited V.visited events_of
+        (outcome_map dyn.Unsigned (compact_within left table.now id input.now))
+        rest.now visitor.old visitor.new) }
+    ensures err { IfErr result (IsVisitErrorOf V.may_stop
+        (outcome_map dyn.Unsigned (compact_within left table.now id input.now)) visitor.old) }
+    ensures keeps { OnErr result (V.kept visitor.old visitor.new) }
+{
+    let (integer, rest) = compact_within(table, id, left, input)?;
+    shown(visitor.unsigned(integer))?;
+    Ok(rest)
+}
+
+/// Shows a value of the type with this id, where so many levels are left.
+#[cycle(visit)]
+fn value_within<'i, V: ValueVisitor>(
+    table: &PortableRegistry,
+    id: u32,
+    left: u8,
+    input: &'i [u8],
+    visitor: &mut V,
+) -> Result<&'i [u8], VisitError<V::Error>>
+    ensures ok { IfOk result (λ rest.
+        HasVisited V.visited events_of (value_within left table.now id input.now)
+        rest.now visitor.old visitor.new) }
+    ensures err { IfErr result
+        (IsVisitErrorOf V.may_stop (value_within left table.now id input.now) visitor.old) }
+    ensures keeps { OnErr result (V.kept visitor.old visitor.new) }
+{
+    if left == 0 {
+        return Err(VisitError::Failed(Failure::TooDeep));
+    }
+    match table.resolve(id) {
+        None => Err(VisitError::Failed(Failure::NoSuchType)),
+        Some(ty) => value_by(table, &ty.type_def, left, input, visitor),
+    }
+}
+
+/// Shows a value by the definition of its type.
+#[cycle(visit)]
+fn value_by<'i, V: ValueVisitor>(
+    table: &PortableRegistry,
+    definition: &TypeDef<PortableForm>,
+    left: u8,
+    input: &'i [u8],
+    visitor: &mut V,
+) -> Result<&'i [u8], VisitError<V::Error>>
+    requires { 1 ≤ left }
+    ensures ok { IfOk result (λ rest.
+        HasVisited V.visited events_of (definition_within left table.now definition.now input.now)
+        rest.now visitor.old visitor.new) }
+    ensures err { IfErr result (IsVisitErrorOf V.may_stop
+        (definition_within left table.now definition.now input.now) visitor.old) }
+    ensures keeps { OnErr result (V.kept visitor.old visitor.new) }
+{
+    match definition {
+        TypeDef::Composite(composite) => {
+            record(table, composite.fields.as_slice(), left, input, visitor)
+        }
+        TypeDef::Variant(choice) => {
+            variant(table, choice.variants.as_slice(), left, input, visitor)
+        }
+        TypeDef::Sequence(sequence) => {
+            let (count, rest) = count(input)?;
+            list(table, &sequence.type_param, count, left, rest, visitor)
+        }
+        TypeDef::Array(array) => list(table, &array.type_param, array.len, left, input, visitor),
+        TypeDef::Tuple(tuple) => members(table, tuple.fields.as_slice(), left, input, visitor),
+        TypeDef::Primitive(kind) => primitive(kind, input, visitor),
+        TypeDef::Compact(inner) => compact(table, inner.type_param.id, left, input, visitor),
+        TypeDef::BitSequence(_) => Err(VisitError::Failed(Failure::Unsupported)),
+        TypeDef::Map(map) => {
+            let (count, rest) = count(input)?;
+            pairs(table, &map.key, &map.value, count, left, rest, visitor)
+        }
+    }
+}
+
+/// Shows the record of these fields.
+#[cycle(visit)]
+fn record<'i, V: ValueVisitor>(
+    table: &PortableRegistry,
+    all: &[Field<PortableForm>],
+    left: u8,
+    input: &'i [u8],
+    visitor: &mut V,
+) -> Result<&'i [u8], VisitError<V::Error>>
+    requires { 1 ≤ left }
+    ensures ok { IfOk result (λ rest.
+        HasVisited V.visited events_of
+        (outcome_map dyn.Record (fields_within left table.now all.now input.now))
+        rest.now visitor.old visitor.new) }
+    ensures err { IfErr result (IsVisitErrorOf V.may_stop
+        (outcome_map dyn.Record (fields_within left table.now all.now input.now)) visitor.old) }
+    ensures keeps { OnErr result (V.kept visitor.old visitor.new) }
+{
+    shown(visitor.begin_record(all))?;
+    let rest = fields(table, all, left, input, visitor)?;
+    shown(visitor.end_record(all))?;
+    Ok(rest)
+}
+
+/// Shows a value of an enum with these variants.
+#[cycle(visit)]
+fn variant<'i, V: ValueVisitor>(
+    table: &PortableRegistry,
+    variants: &[Variant<PortableForm>],
+    left: u8,
+    input: &'i [u8],
+    visitor: &mut V,
+) -> Result<&'i [u8], VisitError<V::Error>>
+    requires { 1 ≤ left }
+    ensures ok { IfOk result (λ rest.
+        HasVisited V.visited events_of (variant_within left table.now variants.now input.now)
+        rest.now visitor.old visitor.new) }
+    ensures err { IfErr result (IsVisitErrorOf V.may_stop
+        (variant_within left table.now variants.now input.now) visitor.old) }
+    ensures keeps { OnErr result (V.kept visitor.old visitor.new) }
+{
+    let (index, rest) = byte(input)?;
+    match variant_with_index(variants, index) {
+        None => Err(VisitError::Failed(Failure::Malformed)),
+        Some(variant) => {
+            shown(visitor.begin_variant(variant))?;
+            let rest = fields(table, variant.fields.as_slice(), left, rest, visitor)?;
+            shown(visitor.end_variant(variant))?;
+            Ok(rest)
+        }
+    }
+}
+
+/// Shows a value of each field's type in order, after the field's name.
+#[cycle(visit)]
+fn fields<'i, V: ValueVisitor>(
+    table: &PortableRegistry,
+    all: &[Field<PortableForm>],
+    left: u8,
+    input: &'i [u8],
+    visitor: &mut V,
+) -> Result<&'i [u8], VisitError<V::Error>>
+    requires { 1 ≤ left }
+    ensures ok { IfOk result (λ rest.
+        HasVisited V.visited (flat_map field_events)
+        (fields_within left table.now all.now input.now) rest.now visitor.old visitor.new) }
+    ensures err { IfErr result
+        (IsVisitErrorOf V.may_stop (fields_within left table.now all.now input.now) visitor.old) }
+    ensures keeps { OnErr result (V.kept visitor.old visitor.new) }
+{
+    let mut rest = input;
+    for next in all {
+        rest = field(table, next, left, rest, visitor)?;
+    }
+    Ok(rest)
+}
+
+/// Shows a field's name, and then its value.
+#[cycle(visit)]
+fn field<'i, V: ValueVisitor>(
+    table: &PortableRegistry,
+    next: &Field<PortableForm>,
+    left: u8,
+    input: &'i [u8],
+    visitor: &mut V,
+) -> Result<&'i [u8], VisitError<V::Error>>
+    requires { 1 ≤ left }
+    ensures ok { IfOk result (λ rest.
+        HasVisited V.visited field_events (field_within left table.now next.now input.now)
+        rest.now visitor.old visitor.new) }
+    ensures err { IfErr result
+        (IsVisitErrorOf V.may_stop (field_within left table.now next.now input.now) visitor.old) }
+    ensures keeps { OnErr result (V.kept visitor.old visitor.new) }
+{
+    shown(visitor.field(next))?;
+    value_within(table, next.ty.id, left - 1, input, visitor)
+}
+
+/// Shows a list of so many values of one type. The type is looked up once for all of them.
+#[cycle(visit)]
+fn list<'i, V: ValueVisitor>(
+    table: &PortableRegistry,
+    ty: &UntrackedSymbol<TypeId>,
+    count: u32,
+    left: u8,
+    input: &'i [u8],
+    visitor: &mut V,
+) -> Result<&'i [u8], VisitError<V::Error>>
+    requires { 1 ≤ left }
+    ensures ok { IfOk result (λ rest.
+        HasVisited V.visited events_of
+        (outcome_map dyn.List (items_within left table.now ty.now count input.now))
+        rest.now visitor.old visitor.new) }
+    ensures err { IfErr result (IsVisitErrorOf V.may_stop
+        (outcome_map dyn.List (items_within left table.now ty.now count input.now)) visitor.old) }
+    ensures keeps { OnErr result (V.kept visitor.old visitor.new) }
+{
+    if count == 0 {
+        shown(visitor.begin_list(0))?;
+        shown(visitor.end_list())?;
+        return Ok(input);
+    }
+    if left == 1 {
+        return Err(VisitError::Failed(Failure::TooDeep));
+    }
+    match table.resolve(ty.id) {
+        None => Err(VisitError::Failed(Failure::NoSuchType)),
+        Some(item) => list_by(table, &item.type_def, count, left - 1, input, visitor),
+    }
+}
+
+/// Whether values of the type are bytes.
+fn is_byte(definition: &TypeDef<PortableForm>) -> bool
+    ensures { OnTrue result (definition.now ≡ def.Primitive kind.U8) }
+{
+    match definition {
+        TypeDef::Primitive(kind) => match kind {
+            TypeDefPrimitive::U8 => true,
+            _ => false,
+        },
+        _ => false,
+    }
+}
+
+/// Shows a list of so many values by the definition of their type.
+#[cycle(visit)]
+fn list_by<'i, V: ValueVisitor>(
+    table: &PortableRegistry,
+    definition: &TypeDef<PortableForm>,
+    count: u32,
+    left: u8,
+    input: &'i [u8],
+    visitor: &mut V,
+) -> Result<&'i [u8], VisitError<V::Error>>
+    requires { 1 ≤ left }
+    ensures ok { IfOk result (λ rest.
+        HasVisited V.visited events_of
+        (outcome_map dyn.List
+        (in_turn (replicate count (definition_within left table.now definition.now)) input.now))
+        rest.now visitor.old visitor.new) }
+    ensures err { IfErr result (IsVisitErrorOf V.may_stop
+        (outcome_map dyn.List
+        (in_turn (replicate count (definition_within left table.now definition.now)) input.now))
+        visitor.old) }
+    ensures keeps { OnErr result (V.kept visitor.old visitor.new) }
+{
+    if is_byte(definition) {
+        return list_of_bytes(count, input, visitor);
+    }
+    shown(visitor.begin_list(count as usize))?;
+    let rest = items(table, definition, count, left, input, visitor)?;
+    shown(visitor.end_list())?;
+    Ok(rest)
+}
+
+/// Shows a list of so many bytes.
+fn list_of_bytes<'i, V: ValueVisitor>(
+    count: u32,
+    input: &'i [u8],
+    visitor: &mut V,
+) -> Result<&'i [u8], VisitError<V::Error>>
+    ensures ok { IfOk result (λ rest.
+        HasVisited V.visited events_of
+        (outcome_map dyn.List (in_turn (replicate count (primitive kind.U8)) input.now))
+        rest.now visitor.old visitor.new) }
+    ensures err { IfErr result (IsVisitErrorOf V.may_stop
+        (outcome_map dyn.List (in_turn (replicate count (primitive kind.U8)) input.now))
+        visitor.old) }
+    ensures keeps { OnErr result (V.kept visitor.old visitor.new) }
+{
+    let (all, rest) = bytes(count as usize, input)?;
+    shown(visitor.bytes(all))?;
+    Ok(rest)
+}
+
+/// Shows so many values by the definition of their type.
+#[cycle(visit)]
+#[inline(never)]
+fn items<'i, V: ValueVisitor>(
+    table: &PortableRegistry,
+    definition: &TypeDef<PortableForm>,
+    count: u32,
+    left: u8,
+    input: &'i [u8],
+    visitor: &mut V,
+) -> Result<&'i [u8], VisitError<V::Error>>
+    requires { 1 ≤ left }
+    ensures ok { IfOk result (λ rest.
+        HasVisited V.visited (flat_map events_of)
+        (in_turn (replicate count (definition_within left table.now definition.now)) input.now)
+        rest.now visitor.old visitor.new) }
+    ensures err { IfErr result (IsVisitErrorOf V.may_stop
+        (in_turn (replicate count (definition_within left table.now definition.now)) input.now)
+        visitor.old) }
+    ensures keeps { OnErr result (V.kept visitor.old visitor.new) }
+{
+    if let TypeDef::Primitive(kind) = definition {
+        return primitives(kind, count, input, visitor);
+    }
+    let mut rest = input;
+    for _ in 0..count {
+        rest = value_by(table, definition, left, rest, visitor)?;
+    }
+    Ok(rest)
+}
+
+/// Shows the list of a value of each type in order.
+#[cycle(visit)]
+fn members<'i, V: ValueVisitor>(
+    table: &PortableRegistry,
+    types: &[UntrackedSymbol<TypeId>],
+    left: u8,
+    input: &'i [u8],
+    visitor: &mut V,
+) -> Result<&'i [u8], VisitError<V::Error>>
+    requires { 1 ≤ left }
+    ensures ok { IfOk result (λ rest.
+        HasVisited V.visited events_of
+        (outcome_map dyn.List (members_within left table.now types.now input.now))
+        rest.now visitor.old visitor.new) }
+    ensures err { IfErr result (IsVisitErrorOf V.may_stop
+        (outcome_map dyn.List (members_within left table.now types.now input.now)) visitor.old) }
+    ensures keeps { OnErr result (V.kept visitor.old visitor.new) }
+{
+    shown(visitor.begin_list(types.len()))?;
+    let rest = each_member(table, types, left, input, visitor)?;
+    shown(visitor.end_list())?;
+    Ok(rest)
+}
+
+/// Shows a value of each type in order.
+#[cycle(visit)]
+fn each_member<'i, V: ValueVisitor>(
+    table: &PortableRegistry,
+    types: &[UntrackedSymbol<TypeId>],
+    left: u8,
+    input: &'i [u8],
+    visitor: &mut V,
+) -> Result<&'i [u8], VisitError<V::Error>>
+    requires { 1 ≤ left }
+    ensures ok { IfOk result (λ rest.
+        HasVisited V.visited (flat_map events_of)
+        (members_within left table.now types.now input.now) rest.now visitor.old visitor.new) }
+    ensures err { IfErr result (IsVisitErrorOf V.may_stop
+        (members_within left table.now types.now input.now) visitor.old) }
+    ensures keeps { OnErr result (V.kept visitor.old visitor.new) }
+{
+    let mut rest = input;
+    for ty in types {
+        rest = value_within(table, ty.id, left - 1, rest, visitor)?;
+    }
+    Ok(rest)
+}
+
+/// Shows the list of so many pairs of a key and a value.
+#[cycle(visit)]
+fn pairs<'i, V: ValueVisitor>(
+    table: &PortableRegistry,
+    key: &UntrackedSymbol<TypeId>,
+    value: &UntrackedSymbol<TypeId>,
+    count: u32,
+    left: u8,
+    input: &'i [u8],
+    visitor: &mut V,
+) -> Result<&'i [u8], VisitError<V::Error>>
+    requires { 1 ≤ left }
+    ensures ok { IfOk result (λ rest.
+        HasVisited V.visited events_of
+        (outcome_map dyn.List (pairs_within left table.now key.now value.now count input.now))
+        rest.now visitor.old visitor.new) }
+    ensures err { IfErr result (IsVisitErrorOf V.may_stop
+        (outcome_map dyn.List (pairs_within left table.now key.now value.now count input.now))
+        visitor.old) }
+    ensures keeps { OnErr result (V.kept visitor.old visitor.new) }
+{
+    shown(visitor.begin_list(count as usize))?;
+    let rest = each_pair(table, key, value, count, left, input, visitor)?;
+    shown(visitor.end_list())?;
+    Ok(rest)
+}
+
+/// Shows so many pairs of a key and a value.
+#[cycle(visit)]
+fn each_pair<'i, V: ValueVisitor>(
+    table: &PortableRegistry,
+    key: &UntrackedSymbol<TypeId>,
+    value: &UntrackedSymbol<TypeId>,
+    count: u32,
+    left: u8,
+    input: &'i [u8],
+    visitor: &mut V,
+) -> Result<&'i [u8], VisitError<V::Error>>
+    requires { 1 ≤ left }
+    ensures ok { IfOk result (λ rest.
+        HasVisited V.visited (flat_map events_of)
+        (pairs_within left table.now key.now value.now count input.now)
+        rest.now visitor.old visitor.new) }
+    ensures err { IfErr result (IsVisitErrorOf V.may_stop
+        (pairs_within left table.now key.now value.now count input.now) visitor.old) }
+    ensures keeps { OnErr result (V.kept visitor.old visitor.new) }
+{
+    let mut rest = input;
+    for _ in 0..count {
+        rest = pair(table, key, value, left, rest, visitor)?;
+    }
+    Ok(rest)
+}
+
+/// Shows the list of a key and a value.
+#[cycle(visit)]
+fn pair<'i, V: ValueVisitor>(
+    table: &PortableRegistry,
+    key: &UntrackedSymbol<TypeId>,
+    value: &UntrackedSymbol<TypeId>,
+    left: u8,
+    input: &'i [u8],
+    visitor: &mut V,
+) -> Result<&'i [u8], VisitError<V::Error>>
+    requires { 1 ≤ left }
+    ensures ok { IfOk result (λ rest.
+        HasVisited V.visited events_of (pair_within left table.now key.now value.now input.now)
+        rest.now visitor.old visitor.new) }
+    ensures err { IfErr result (IsVisitErrorOf V.may_stop
+        (pair_within left table.now key.now value.now input.now) visitor.old) }
+    ensures keeps { OnErr result (V.kept visitor.old visitor.new) }
+{
+    shown(visitor.begin_list(2))?;
+    let rest = key_and_value(table, key, value, left, input, visitor)?;
+    shown(visitor.end_list())?;
+    Ok(rest)
+}
+
+/// Shows a key and a value.
+#[cycle(visit)]
+fn key_and_value<'i, V: ValueVisitor>(
+    table: &PortableRegistry,
+    key: &UntrackedSymbol<TypeId>,
+    value: &UntrackedSymbol<TypeId>,
+    left: u8,
+    input: &'i [u8],
+    visitor: &mut V,
+) -> Result<&'i [u8], VisitError<V::Error>>
+    requires { 1 ≤ left }
+    ensures ok { IfOk result (λ rest.
+        HasVisited V.visited (flat_map events_of)
+        (in_turn (key_then_value left table.now key.now value.now) input.now)
+        rest.now visitor.old visitor.new) }
+    ensures err { IfErr result (IsVisitErrorOf V.may_stop
+        (in_turn (key_then_value left table.now key.now value.now) input.now) visitor.old) }
+    ensures keeps { OnErr result (V.kept visitor.old visitor.new) }
+{
+    let inner = left.saturating_sub(2);
+    let rest = value_within(table, key.id, inner, input, visitor)?;
+    value_within(table, value.id, inner, rest, visitor)
+}
