@@ -14,16 +14,19 @@ use Rattle.scale_info_visit.specs.Events.{Event, truth, unsigned, signed, text, 
 use Rattle.scale_info_visit.specs.Events.{end_record, begin_variant, end_variant, keys, named, events_step, events_of}
 use Rattle.scale_info_visit.specs.Events.{field_events, bytes_events}
 
--- the events of values that have no parts
+-- the event of a truth value
 pub truth_events : (b : _) → events_of (dyn.Bool b) ≡ truth b ∷ []
 truth_events b = ap events_of (sym (rolls-Bool b)) ∙ fold-roll-Dyn (List Event) events_step (layer.Bool b)
 
+-- that of an integer of an unsigned type
 pub unsigned_events : (n : ℕ) → events_of (dyn.Unsigned n) ≡ unsigned n ∷ []
 unsigned_events n = ap events_of (sym (rolls-Unsigned n)) ∙ fold-roll-Dyn (List Event) events_step (layer.Unsigned n)
 
+-- that of an integer of a signed type
 pub signed_events : (n : _) → events_of (dyn.Signed n) ≡ signed n ∷ []
 signed_events n = ap events_of (sym (rolls-Signed n)) ∙ fold-roll-Dyn (List Event) events_step (layer.Signed n)
 
+-- that of a text
 pub text_events : (t : Text) → events_of (dyn.Text t) ≡ text t ∷ []
 text_events t = ap events_of (sym (rolls-Text t)) ∙ fold-roll-Dyn (List Event) events_step (layer.Text t)
 
