@@ -6,6 +6,7 @@ pub mod catalogues;
 pub mod chains;
 pub mod compare;
 pub mod encodings;
+pub mod held;
 pub mod lists;
 pub mod parts;
 pub mod results;

@@ -6,6 +6,7 @@ use scale_info::{
 };
 use std::alloc::{AllocError, Global};
 use std::test::Fail;
+use test_common::held::Held;
 use test_common::lists::list_of;
 use test_common::parts;
 use test_common::rows::numbers;
@@ -21,8 +22,10 @@ use test_memory_common::types::{
 pub fn description(rt: &HostRuntime, name: &str) -> Result<Outcome, Fail> {
     let alloc = rt.alloc();
     let docs = list_of(alloc, "d")?;
-    let (path, params) = (demo_path(alloc)?, parameters(alloc)?);
+    let path = Held(demo_path(alloc)?);
+    let params = Held(parameters(alloc)?);
     let def = description_named(alloc, name)?.type_def;
+    let (path, params) = (path.into_inner(), params.into_inner());
     begin(rt);
     let returned = Type::new(alloc, path, params, def, docs);
     end(rt);
@@ -32,9 +35,10 @@ pub fn description(rt: &HostRuntime, name: &str) -> Result<Outcome, Fail> {
 /// Makes a portable description.
 pub fn portable_description(rt: &HostRuntime) -> Result<Outcome, Fail> {
     let alloc = rt.alloc();
-    let path = parts::path(alloc, &["p", "q"])?;
-    let params = list_of(alloc, parts::parameter(alloc, "T", Some(7))?)?;
+    let path = Held(parts::path(alloc, &["p", "q"])?);
+    let params = Held(list_of(alloc, parts::parameter(alloc, "T", Some(7))?)?);
     let docs = parts::texts(alloc, &["d", "e"])?;
+    let (path, params) = (path.into_inner(), params.into_inner());
     begin(rt);
     let returned = Type::<PortableForm>::new(alloc, path, params, parts::sequence(2), docs);
     end(rt);

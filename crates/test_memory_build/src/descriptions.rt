@@ -4,6 +4,7 @@ use scale_info::form::{MetaForm, PortableForm};
 use scale_info::{Type, TypeDefTuple};
 use std::alloc::AllocError;
 use std::test::Fail;
+use test_common::held::Held;
 use test_common::parts;
 use test_memory_common::answers::{encoded, registered};
 use test_memory_common::marks::{begin, end};
@@ -17,14 +18,14 @@ fn done<T>(value: T) -> Result<T, AllocError> {
 
 /// Gives a description docs.
 pub fn docs(rt: &HostRuntime) -> Result<Outcome, Fail> {
-    let path = demo_path(rt.alloc())?;
+    let path = Held(demo_path(rt.alloc())?);
     let builder = Type::builder(rt.alloc());
     begin(rt);
     let returned = builder.docs(rt.alloc(), &["a struct", ""]);
     end(rt);
     let unit = Fields::unit::<MetaForm>(rt.alloc());
     let ty = match returned {
-        Ok(builder) => Ok(builder.path(path).composite(unit)),
+        Ok(builder) => Ok(builder.path(path.into_inner()).composite(unit)),
         Err(error) => Err(error),
     };
     Outcome::of(registered(rt.alloc(), ty))

@@ -5,6 +5,7 @@ use scale_info::meta_type::HasIdentity;
 use scale_info::{Field, TypeDef, TypeDefComposite};
 use std::alloc::{AllocError, Global};
 use std::test::Fail;
+use test_common::held::Held;
 use test_common::lists::list_of;
 use test_common::parts::text;
 use test_common::shown::text_of;
@@ -156,11 +157,14 @@ pub fn moved(rt: &HostRuntime) -> Result<Outcome, Fail> {
 /// Begins lists of fields, and ends one.
 pub fn empty(rt: &HostRuntime) -> Result<Outcome, Fail> {
     begin(rt);
-    let named = Fields::named::<PortableForm>(rt.alloc()).finalize();
-    let unnamed = Fields::unnamed::<PortableForm>(rt.alloc()).finalize();
-    let unit = Fields::unit::<PortableForm>(rt.alloc()).finalize();
+    let named = Held(Fields::named::<PortableForm>(rt.alloc()).finalize());
+    let unnamed = Held(Fields::unnamed::<PortableForm>(rt.alloc()).finalize());
+    let unit = Held(Fields::unit::<PortableForm>(rt.alloc()).finalize());
     end(rt);
-    let (named, unnamed) = (digits(rt.alloc(), &named)?, digits(rt.alloc(), &unnamed)?);
-    let unit = digits(rt.alloc(), &unit)?;
+    let (named, unnamed) = (
+        digits(rt.alloc(), &named.0)?,
+        digits(rt.alloc(), &unnamed.0)?,
+    );
+    let unit = digits(rt.alloc(), &unit.0)?;
     Outcome::of(done(format!(in rt.alloc(); "{named} {unnamed} {unit}")))
 }

@@ -3,6 +3,7 @@ use scale_info::meta_type::Catalogue;
 use scale_info::{IntoPortable, Path, PathError, Registry};
 use std::alloc::{AllocError, Global};
 use std::test::Fail;
+use test_common::held::Held;
 use test_common::parts;
 use test_memory_common::answers::{Answer, digits, done, encoded, failed, shown};
 use test_memory_common::marks::{begin, end};
@@ -11,8 +12,8 @@ use test_memory_common::texts::{all_of_program, bracketed};
 
 /// The encoding of a path's portable form, and that form as it is displayed.
 fn portable(alloc: Global, path: Path) -> Result<String, AllocError> {
-    let mut registry = Registry::new(alloc);
-    match path.into_portable(alloc, &mut registry, &Catalogue::new(alloc)) {
+    let mut registry = Held(Registry::new(alloc));
+    match path.into_portable(alloc, &mut registry.0, &Catalogue::new(alloc)) {
         Ok(path) => {
             let digits = digits(alloc, &path)?;
             format!(in alloc; "{digits} {path}")

@@ -3,6 +3,7 @@ use crate::types::catalogue;
 use scale_info::{IntoPortable, Registry, Scale};
 use std::alloc::{AllocError, Global};
 use std::fmt::Debug;
+use test_common::held::Held;
 
 /// What a call returned.
 #[derive(Drop)]
@@ -72,8 +73,8 @@ where
 {
     match catalogue(alloc) {
         Ok(known) => {
-            let mut registry = Registry::new(alloc);
-            encoded(alloc, value.into_portable(alloc, &mut registry, &known))
+            let mut registry = Held(Registry::new(alloc));
+            encoded(alloc, value.into_portable(alloc, &mut registry.0, &known))
         }
         Err(error) => failed(alloc, &error),
     }

@@ -36,8 +36,9 @@ fn recursive(alloc: Global) -> Result<Type, AllocError> {
 fn documented_variants(alloc: Global) -> Result<Vec<Variant>, AllocError> {
     let field_docs = with(list_of(alloc, "f"), Ok("g"))?;
     let ty = meta_type::<bool>(alloc)?;
+    let docs = list_of(alloc, "v")?;
     let fields = list_of(alloc, Field::new(Some("n"), ty, Some("N"), field_docs))?;
-    list_of(alloc, Variant::new("V", fields, 7, list_of(alloc, "v")?))
+    list_of(alloc, Variant::new("V", fields, 7, docs))
 }
 
 /// An enum of one variant, with docs of the type, the variant and its field.

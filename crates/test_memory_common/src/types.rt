@@ -14,6 +14,7 @@ use std::marker::PhantomData;
 use std::ops::{Range, RangeInclusive};
 use std::test::Fail;
 use std::time::Duration;
+use test_common::held::Held;
 use test_common::lists::{list_of, with};
 use test_common::results::both;
 
@@ -74,13 +75,13 @@ pub fn type_named(alloc: Global, name: &str) -> Result<MetaType, Fail> {
 
 /// The types of these names, in order, with ` | ` between two; none of an empty text.
 pub fn types_named(alloc: Global, names: &str) -> Result<Vec<MetaType>, Fail> {
-    let mut types = Vec::new(alloc);
+    let mut types = Held(Vec::new(alloc));
     for name in names.split(" | ") {
         if !name.is_empty() {
-            types.push(type_named(alloc, name)?)?;
+            types.0.push(type_named(alloc, name)?)?;
         }
     }
-    Ok(types)
+    Ok(types.into_inner())
 }
 
 /// Makes the identity that the type of a name is known by.
@@ -167,11 +168,11 @@ fn composite_of_two<T: HasIdentity, U: HasIdentity>(alloc: Global) -> Result<Typ
 
 /// A composite of forty fields of `u32`.
 fn wide(alloc: Global) -> Result<Type, AllocError> {
-    let mut fields = Vec::new(alloc);
+    let mut fields = Held(Vec::new(alloc));
     for _ in 0..40 {
-        fields.push(unnamed_field::<u32>(alloc)?)?;
+        fields.0.push(unnamed_field::<u32>(alloc)?)?;
     }
-    Ok(composite(alloc, fields))
+    Ok(composite(alloc, fields.into_inner()))
 }
 
 /// A field with a name, a name of its type, and docs.
@@ -183,8 +184,9 @@ pub fn documented_field(alloc: Global) -> Result<Field, AllocError> {
 
 /// A variant with a field and docs.
 pub fn documented_variant(alloc: Global) -> Result<Variant, AllocError> {
+    let docs = list_of(alloc, "v")?;
     let fields = list_of(alloc, documented_field(alloc)?)?;
-    Ok(Variant::new("Value", fields, 7, list_of(alloc, "v")?))
+    Ok(Variant::new("Value", fields, 7, docs))
 }
 
 /// A parameter that is given `bool`.
@@ -206,12 +208,13 @@ pub fn demo_path(alloc: Global) -> Result<Path, AllocError> {
 /// An enum of itself, with docs of the type, of a variant and of its field.
 fn recursive(alloc: Global) -> Result<Type, AllocError> {
     let docs = with(list_of(alloc, "d"), Ok(""))?;
-    let (params, path) = (parameters(alloc)?, demo_path(alloc)?);
+    let params = Held(parameters(alloc)?);
+    let path = Held(demo_path(alloc)?);
     let variants = list_of(alloc, documented_variant(alloc)?)?;
     Type::new(
         alloc,
-        path,
-        params,
+        path.into_inner(),
+        params.into_inner(),
         TypeDef::from(TypeDefVariant::from(variants)),
         docs,
     )
@@ -272,9 +275,9 @@ pub fn add_all(alloc: Global, known: &mut Catalogue, names: &str) -> Result<(), 
 
 /// The catalogue of the types of these names.
 pub fn catalogue_of(alloc: Global, names: &str) -> Result<Catalogue, CatalogueError> {
-    let mut known = Catalogue::new(alloc);
-    add_all(alloc, &mut known, names)?;
-    Ok(known)
+    let mut known = Held(Catalogue::new(alloc));
+    add_all(alloc, &mut known.0, names)?;
+    Ok(known.into_inner())
 }
 
 /// The catalogue of all types here.

@@ -4,6 +4,7 @@ use scale_info::{IntoPortable, Items, Scale, TryClone};
 use std::alloc::AllocError;
 use std::fmt::Debug;
 use std::test::Fail;
+use test_common::held::Held;
 use test_common::parts;
 use test_memory_common::answers::{encoded, registered, shown};
 use test_memory_common::inputs::table_of;
@@ -98,8 +99,8 @@ pub fn meta_definition(rt: &HostRuntime, name: &str) -> Result<Outcome, Fail> {
 
 /// Copies the description at index 0.
 pub fn description(rt: &HostRuntime, row: &str) -> Result<Outcome, Fail> {
-    let table = table_of(rt.alloc(), row)?;
-    match table.resolve(0) {
+    let table = Held(table_of(rt.alloc(), row)?);
+    match table.0.resolve(0) {
         Some(ty) => copy_of(rt, ty),
         None => Err(Fail::new("the table is empty")),
     }
@@ -107,8 +108,8 @@ pub fn description(rt: &HostRuntime, row: &str) -> Result<Outcome, Fail> {
 
 /// Copies the definition at index 0.
 pub fn definition(rt: &HostRuntime, row: &str) -> Result<Outcome, Fail> {
-    let table = table_of(rt.alloc(), row)?;
-    match table.resolve(0) {
+    let table = Held(table_of(rt.alloc(), row)?);
+    match table.0.resolve(0) {
         Some(ty) => copy_of(rt, ty.type_def()),
         None => Err(Fail::new("the table is empty")),
     }
@@ -140,9 +141,9 @@ pub fn by_form(rt: &HostRuntime, kind: &str) -> Result<Outcome, Fail> {
 
 /// Copies a type of the program.
 fn type_of_program(rt: &HostRuntime) -> Result<Outcome, Fail> {
-    let ty = type_named(rt.alloc(), "Vec<u32>")?;
+    let ty = Held(type_named(rt.alloc(), "Vec<u32>")?);
     begin(rt);
-    let returned = MetaForm::copy_type(rt.alloc(), &ty);
+    let returned = MetaForm::copy_type(rt.alloc(), &ty.0);
     end(rt);
     Outcome::of(registered(rt.alloc(), returned))
 }

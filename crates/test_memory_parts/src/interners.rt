@@ -4,6 +4,7 @@ use scale_info::interner::{InternError, Interner, UntrackedSymbol};
 use scale_info::{Text, TryClone};
 use std::alloc::{AllocError, Global};
 use std::test::Fail;
+use test_common::held::Held;
 use test_common::parts::text;
 use test_common::rows::parted;
 use test_memory_common::answers::{printed, shown};
@@ -27,9 +28,9 @@ fn intern_all(alloc: Global, texts: &mut Interner<Text>, row: &str) -> Result<St
 
 /// The interner of these texts.
 fn interner(alloc: Global, row: &str) -> Result<Interner<Text>, InternError> {
-    let mut texts = Interner::new(alloc);
-    intern_all(alloc, &mut texts, row)?;
-    Ok(texts)
+    let mut texts = Held(Interner::new(alloc));
+    intern_all(alloc, &mut texts.0, row)?;
+    Ok(texts.into_inner())
 }
 
 /// The elements of an interner.
@@ -50,21 +51,21 @@ fn numbered(
 
 /// Interns a text after four.
 pub fn intern_or_get(rt: &HostRuntime, chars: &str) -> Result<Outcome, Fail> {
-    let mut texts = interner(rt.alloc(), FOUR)?;
+    let mut texts = Held(interner(rt.alloc(), FOUR)?);
     let value = text(rt.alloc(), chars)?;
-    let before = state(rt.alloc(), &texts);
+    let before = state(rt.alloc(), &texts.0);
     begin(rt);
-    let returned = texts.intern_or_get(value);
+    let returned = texts.0.intern_or_get(value);
     end(rt);
-    let after = state(rt.alloc(), &texts);
+    let after = state(rt.alloc(), &texts.0);
     Outcome::lending(before, after, shown(rt.alloc(), numbered(returned)))
 }
 
 /// Interns texts, each of which is new or has a number.
 pub fn intern(rt: &HostRuntime, row: &str) -> Result<Outcome, Fail> {
-    let mut texts = Interner::new(rt.alloc());
+    let mut texts = Held(Interner::new(rt.alloc()));
     begin(rt);
-    let returned = intern_all(rt.alloc(), &mut texts, row);
+    let returned = intern_all(rt.alloc(), &mut texts.0, row);
     end(rt);
     Outcome::of(printed(rt.alloc(), returned))
 }
@@ -72,17 +73,17 @@ pub fn intern(rt: &HostRuntime, row: &str) -> Result<Outcome, Fail> {
 /// An interner with a text to look up, and another interner.
 #[derive(Drop)]
 struct Lookup {
-    texts: Interner<Text>,
-    other: Interner<Text>,
+    texts: Held<Interner<Text>>,
+    other: Held<Interner<Text>>,
     value: Text,
 }
 
 impl Lookup {
     /// What the symbol of the text stands for in the other interner, after its number.
     fn push_symbol(&self, text: &mut String) -> Result<(), AllocError> {
-        match self.texts.get(&self.value) {
+        match self.texts.0.get(&self.value) {
             Some(symbol) => {
-                let resolved = self.other.resolve(symbol);
+                let resolved = self.other.0.resolve(symbol);
                 write!(text, "{resolved:?}")
             }
             None => text.push_str("no symbol"),
@@ -93,11 +94,11 @@ impl Lookup {
 impl Asked for Lookup {
     fn push_parts(&self, text: &mut String) -> Result<(), AllocError> {
         let alloc = *text.allocator();
-        if let Some(symbol) = self.texts.get(&self.value) {
+        if let Some(symbol) = self.texts.0.get(&self.value) {
             let copy = symbol.try_clone(alloc)?.into_untracked().id();
             write!(text, "{copy} ")?;
         }
-        let (len, same) = (self.texts.elements().len(), self.texts == self.other);
+        let (len, same) = (self.texts.0.elements().len(), self.texts.0 == self.other.0);
         self.push_symbol(text)?;
         write!(text, " {len} {same}")
     }
@@ -106,8 +107,8 @@ impl Asked for Lookup {
 /// The look-up of a text among these and then, by its symbol, among others.
 fn lookup_of(alloc: Global, chars: &str, row: &str, other: &str) -> Result<Lookup, Fail> {
     let value = text(alloc, chars)?;
-    let texts = interner(alloc, row)?;
-    let other = interner(alloc, other)?;
+    let texts = Held(interner(alloc, row)?);
+    let other = Held(interner(alloc, other)?);
     Ok(Lookup {
         texts,
         other,
@@ -130,8 +131,8 @@ pub fn compare(rt: &HostRuntime, row: &str) -> Result<Outcome, Fail> {
 
 /// Whether an interner is the one of these texts.
 fn is_of(alloc: Global, texts: &Interner<Text>, row: &str) -> Result<bool, InternError> {
-    let anew = interner(alloc, row)?;
-    Ok(*texts == anew)
+    let anew = Held(interner(alloc, row)?);
+    Ok(*texts == anew.0)
 }
 
 /// What shows an interner that was truncated: whether it is the one of the texts that are left, and
@@ -150,13 +151,13 @@ fn truncated(
 /// Keeps the texts before a slash, of all.
 pub fn truncate(rt: &HostRuntime, row: &str) -> Result<Outcome, Fail> {
     let (left, gone) = parted(row, '/')?;
-    let mut texts = interner(rt.alloc(), row)?;
-    let before = state(rt.alloc(), &texts);
+    let mut texts = Held(interner(rt.alloc(), row)?);
+    let before = state(rt.alloc(), &texts.0);
     let len = bracketed(rt.alloc(), left)?.len();
     begin(rt);
-    texts.truncate(len);
+    texts.0.truncate(len);
     end(rt);
-    let after = state(rt.alloc(), &texts);
-    let answer = truncated(rt.alloc(), texts, left, gone);
+    let after = state(rt.alloc(), &texts.0);
+    let answer = truncated(rt.alloc(), texts.into_inner(), left, gone);
     Outcome::lending(before, after, printed(rt.alloc(), answer))
 }

@@ -6,6 +6,7 @@ use scale_info::{Field, Path, PortableType, Scale, Text, Type, TypeDef, TypePara
 use std::alloc::{AllocError, Global};
 use std::hash::{FoldHasher, Hash, Hasher};
 use std::test::Fail;
+use test_common::held::Held;
 use test_common::parts;
 use test_common::rows::row_named;
 use test_memory_common::answers::done;
@@ -186,8 +187,8 @@ fn described(alloc: Global, names: &[&str]) -> Result<Vec<Type>, Fail> {
 
 /// Compares descriptions.
 pub fn compare(rt: &HostRuntime, name: &str) -> Result<Outcome, Fail> {
-    let all = described(rt.alloc(), &[name, name, "(u32, bool)"])?;
-    let [left, right, other] = all.as_slice() else {
+    let all = Held(described(rt.alloc(), &[name, name, "(u32, bool)"])?);
+    let [left, right, other] = all.0.as_slice() else {
         return Err(Fail::new("three names have three descriptions"));
     };
     begin(rt);

@@ -11,6 +11,7 @@ use scale_info::{
 };
 use std::alloc::{AllocError, Global};
 use std::test::Fail;
+use test_common::held::Held;
 use test_common::lists::with;
 use test_common::parts;
 use test_common::results::both;
@@ -111,17 +112,17 @@ pub fn definitions_of_lists(rt: &HostRuntime) -> Result<Outcome, Fail> {
 
 /// Turns four parts into a description, and a pair into a parameter.
 pub fn description(rt: &HostRuntime) -> Result<Outcome, Fail> {
-    let (path, name) = (
-        parts::path(rt.alloc(), &["p"])?,
-        parts::text(rt.alloc(), "T")?,
-    );
+    let path = Held(parts::path(rt.alloc(), &["p"])?);
+    let name = parts::text(rt.alloc(), "T")?;
     let docs = parts::texts(rt.alloc(), &["d"])?;
+    let path = path.into_inner();
     begin(rt);
     let param = TypeParameter::<PortableForm>::from((name, Some(parts::id(7))));
     let params = Vec::new(rt.alloc());
     let made = Type::<PortableForm>::from((path, params, parts::sequence(2), docs));
     end(rt);
-    let (param, made) = (digits(rt.alloc(), &param)?, digits(rt.alloc(), &made)?);
+    let (param, made) = (Held(param), Held(made));
+    let (param, made) = (digits(rt.alloc(), &param.0)?, digits(rt.alloc(), &made.0)?);
     Outcome::of(done(format!(in rt.alloc(); "{param} {made}")))
 }
 
@@ -163,12 +164,12 @@ pub fn empty_parts(rt: &HostRuntime) -> Result<Outcome, Fail> {
 /// Makes an empty registry, catalogue, interner and builder of a table.
 pub fn empty_collections(rt: &HostRuntime) -> Result<Outcome, Fail> {
     begin(rt);
-    let registry = Registry::new(rt.alloc());
-    let catalogue = Catalogue::new(rt.alloc());
+    let registry = Held(Registry::new(rt.alloc()));
+    let catalogue = Held(Catalogue::new(rt.alloc()));
     let interner = Interner::<u32>::new(rt.alloc());
-    let builder = PortableRegistryBuilder::new(rt.alloc());
+    let builder = Held(PortableRegistryBuilder::new(rt.alloc()));
     end(rt);
-    let (types, described) = (registry.types().size_hint().0, catalogue.len());
-    let (elements, next) = (interner.elements().len(), builder.next_type_id());
+    let (types, described) = (registry.0.types().size_hint().0, catalogue.0.len());
+    let (elements, next) = (interner.elements().len(), builder.0.next_type_id());
     Outcome::of(done(format!(in rt.alloc(); "{types} {described} {elements} {next}")))
 }

@@ -4,6 +4,7 @@ use scale_info::interner::InternError;
 use scale_info::{PortableRegistry, PortableRegistryBuilder, Scale, Type};
 use std::alloc::{AllocError, Global};
 use std::test::Fail;
+use test_common::held::Held;
 use test_common::parts::sequence;
 use test_common::rows::row_bytes;
 use test_memory_common::answers::{digits, done, encoded, failed, shown};
@@ -13,26 +14,28 @@ use test_memory_common::outcomes::Outcome;
 
 /// The builder of a table's descriptions.
 fn built(alloc: Global, table: PortableRegistry) -> Result<PortableRegistryBuilder, Fail> {
-    let mut builder = PortableRegistryBuilder::new(alloc);
+    let mut builder = Held(PortableRegistryBuilder::new(alloc));
     for entry in table.types.into_vec() {
-        builder.register_type(entry.ty)?;
+        builder.0.register_type(entry.ty)?;
     }
-    Ok(builder)
+    Ok(builder.into_inner())
 }
 
 /// The builder of a sequence of each type from 1000 on, up to but not including an end.
 fn sequences(alloc: Global, end: u32) -> Result<PortableRegistryBuilder, Fail> {
-    let mut builder = PortableRegistryBuilder::new(alloc);
+    let mut builder = Held(PortableRegistryBuilder::new(alloc));
     for id in 1000..end {
-        builder.register_type(Type::from_def(alloc, sequence(id)))?;
+        builder
+            .0
+            .register_type(Type::from_def(alloc, sequence(id)))?;
     }
-    Ok(builder)
+    Ok(builder.into_inner())
 }
 
 /// The last description of the table of this name.
 fn last_of(alloc: Global, row: &str) -> Result<Type<PortableForm>, Fail> {
-    let mut types = table_of(alloc, row)?.types.into_vec();
-    match types.pop() {
+    let mut types = Held(table_of(alloc, row)?.types.into_vec());
+    match types.0.pop() {
         Some(entry) => Ok(entry.ty),
         None => Err(Fail::new("the table is empty")),
     }
@@ -68,6 +71,7 @@ fn register(
 /// behind which there is room; after sixteen others, which leave no room for one more, and none
 /// for its index; as the first one; or where the builder has it.
 pub fn register_type(rt: &HostRuntime, call: &str, row: &str) -> Result<Outcome, Fail> {
+    let ty = Held(last_of(rt.alloc(), row)?);
     let builder = match call {
         "register_type" => sequences(rt.alloc(), 1015)?,
         "register_seventeenth_type" => sequences(rt.alloc(), 1016)?,
@@ -75,23 +79,23 @@ pub fn register_type(rt: &HostRuntime, call: &str, row: &str) -> Result<Outcome,
         "register_known_type" => built(rt.alloc(), table_of(rt.alloc(), row)?)?,
         _ => return Err(Fail::new("no call of a builder has this name")),
     };
-    register(rt, builder, last_of(rt.alloc(), row)?)
+    register(rt, builder, ty.into_inner())
 }
 
 /// Asks a builder for its next id, and for its first description.
 pub fn look(rt: &HostRuntime, row: &str) -> Result<Outcome, Fail> {
-    let builder = built(rt.alloc(), table_of(rt.alloc(), row)?)?;
+    let builder = Held(built(rt.alloc(), table_of(rt.alloc(), row)?)?);
     begin(rt);
-    let (next, first) = (builder.next_type_id(), builder.get(0).is_some());
+    let (next, first) = (builder.0.next_type_id(), builder.0.get(0).is_some());
     end(rt);
     Outcome::of(done(format!(in rt.alloc(); "{next} {first}")))
 }
 
 /// Makes the table of what was registered.
 pub fn finish(rt: &HostRuntime, row: &str) -> Result<Outcome, Fail> {
-    let builder = built(rt.alloc(), table_of(rt.alloc(), row)?)?;
+    let builder = Held(built(rt.alloc(), table_of(rt.alloc(), row)?)?);
     begin(rt);
-    let returned = builder.finish(rt.alloc());
+    let returned = builder.into_inner().finish(rt.alloc());
     end(rt);
     Outcome::of(encoded(rt.alloc(), returned))
 }
@@ -99,14 +103,14 @@ pub fn finish(rt: &HostRuntime, row: &str) -> Result<Outcome, Fail> {
 /// The descriptions with these encodings, between which stand semicolons; each may have a name
 /// before a colon.
 fn described(alloc: Global, row: &str) -> Result<Vec<Type<PortableForm>>, Fail> {
-    let mut all = Vec::new(alloc);
+    let mut all = Held(Vec::new(alloc));
     for part in row.split(';') {
         let (_, digits) = part.split_once(':').unwrap_or(("", part));
         let bytes = row_bytes(alloc, digits)?;
         let (ty, _) = Type::<PortableForm>::decode_from(alloc, &bytes)?;
-        all.push(ty)?;
+        all.0.push(ty)?;
     }
-    Ok(all)
+    Ok(all.into_inner())
 }
 
 /// The ids of descriptions that are registered in this order, each with the next id after it, and
@@ -115,13 +119,13 @@ fn registered(
     alloc: Global,
     types: Vec<Type<PortableForm>>,
 ) -> Result<(Vec<(u32, u32)>, PortableRegistry), InternError> {
-    let mut builder = PortableRegistryBuilder::new(alloc);
+    let mut builder = Held(PortableRegistryBuilder::new(alloc));
     let mut ids = Vec::new(alloc);
     for ty in types {
-        let id = builder.register_type(ty)?;
-        ids.push((id, builder.next_type_id()))?;
+        let id = builder.0.register_type(ty)?;
+        ids.push((id, builder.0.next_type_id()))?;
     }
-    Ok((ids, builder.finish(alloc)?))
+    Ok((ids, builder.into_inner().finish(alloc)?))
 }
 
 /// Registers descriptions, and makes the table of them.

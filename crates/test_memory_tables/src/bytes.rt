@@ -3,6 +3,7 @@ use scale_info::impls::Compact;
 use scale_info::{DecodeError, PortableRegistry, Scale, TryClone};
 use std::alloc::{AllocError, Global};
 use std::test::Fail;
+use test_common::held::Held;
 use test_memory_common::answers::{Answer, digits, done, encoded, failed, shown};
 use test_memory_common::inputs::{bytes_of, output, table_of};
 use test_memory_common::marks::{begin, end};
@@ -52,11 +53,11 @@ pub fn decode_compact(rt: &HostRuntime, row: &str) -> Result<Outcome, Fail> {
 
 /// Encodes a table.
 pub fn encode(rt: &HostRuntime, row: &str) -> Result<Outcome, Fail> {
-    let table = table_of(rt.alloc(), row)?;
+    let table = Held(table_of(rt.alloc(), row)?);
     let mut out = output(rt.alloc())?;
     let before = hex::encode(rt.alloc(), out.as_slice());
     begin(rt);
-    let returned = table.encode(&mut out);
+    let returned = table.0.encode(&mut out);
     end(rt);
     let after = hex::encode(rt.alloc(), out.as_slice());
     Outcome::lending(before, after, shown(rt.alloc(), returned))
@@ -64,18 +65,18 @@ pub fn encode(rt: &HostRuntime, row: &str) -> Result<Outcome, Fail> {
 
 /// Copies a table.
 pub fn try_clone(rt: &HostRuntime, row: &str) -> Result<Outcome, Fail> {
-    let table = table_of(rt.alloc(), row)?;
+    let table = Held(table_of(rt.alloc(), row)?);
     begin(rt);
-    let returned = table.try_clone(rt.alloc());
+    let returned = table.0.try_clone(rt.alloc());
     end(rt);
     Outcome::of(encoded(rt.alloc(), returned))
 }
 
 /// Copies each entry of a table.
 pub fn try_clone_entries(rt: &HostRuntime, row: &str) -> Result<Outcome, Fail> {
-    let table = table_of(rt.alloc(), row)?;
+    let table = Held(table_of(rt.alloc(), row)?);
     begin(rt);
-    let returned = table.types.try_clone(rt.alloc());
+    let returned = table.0.types.try_clone(rt.alloc());
     end(rt);
     Outcome::of(encoded(rt.alloc(), returned))
 }

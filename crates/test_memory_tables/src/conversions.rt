@@ -7,6 +7,7 @@ use scale_info::{
 };
 use std::alloc::{AllocError, Global};
 use std::test::Fail;
+use test_common::held::Held;
 use test_common::lists::list_of;
 use test_memory_common::outcomes::Outcome;
 use test_memory_common::types::{
@@ -19,8 +20,8 @@ type Known = Result<Catalogue, CatalogueError>;
 
 /// Converts a value of this kind, a part of a description, by a catalogue.
 pub fn part(rt: &HostRuntime, known: Known, kind: &str) -> Result<Outcome, Fail> {
-    let known = known?;
-    part_by(rt, &known, kind)
+    let known = Held(known?);
+    part_by(rt, &known.0, kind)
 }
 
 /// Converts a value of this kind by a catalogue, which is lent.
@@ -71,8 +72,8 @@ fn described<T: IntoPortable + Drop>(rt: &HostRuntime, value: T) -> Result<Outco
 where
     T::Output: Scale,
 {
-    let known = catalogue(rt.alloc())?;
-    into_portable(rt, &known, value)
+    let known = Held(catalogue(rt.alloc())?);
+    into_portable(rt, &known.0, value)
 }
 
 /// Converts the type of this name.

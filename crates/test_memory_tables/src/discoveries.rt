@@ -7,6 +7,7 @@ use scale_info_catalogue::discovery::discover;
 use scale_info_catalogue::number_cache::NumberCache;
 use std::alloc::{AllocError, Global};
 use std::test::Fail;
+use test_common::held::Held;
 use test_common::lists::list_of;
 use test_memory_common::answers::{Answer, done, failed};
 use test_memory_common::marks::{begin, end};
@@ -41,13 +42,19 @@ fn found(
 
 /// Numbers a type and all that is reached from it.
 pub fn discover_type(rt: &HostRuntime, name: &str) -> Result<Outcome, Fail> {
-    let known = catalogue(rt.alloc())?;
-    let ty: MetaType = type_named(rt.alloc(), name)?;
-    let mut identities = Interner::new(rt.alloc());
-    let mut cache = NumberCache::new(rt.alloc());
-    let pending = list_of(rt.alloc(), &ty)?;
+    let known = Held(catalogue(rt.alloc())?);
+    let ty = Held(type_named(rt.alloc(), name)?);
+    let mut identities = Held(Interner::new(rt.alloc()));
+    let mut cache = Held(NumberCache::new(rt.alloc()));
+    let pending = list_of(rt.alloc(), &ty.0)?;
     begin(rt);
-    let returned = discover(rt.alloc(), &mut identities, &mut cache, pending, &known);
+    let returned = discover(
+        rt.alloc(),
+        &mut identities.0,
+        &mut cache.0,
+        pending,
+        &known.0,
+    );
     end(rt);
-    Outcome::of(found(rt.alloc(), returned, &identities, &cache))
+    Outcome::of(found(rt.alloc(), returned, &identities.0, &cache.0))
 }

@@ -7,6 +7,7 @@ use scale_info::{MetaType, Type, TypeDefSequence};
 use std::alloc::{AllocError, Global};
 use std::test::Fail;
 use test_common::catalogues::add_own;
+use test_common::held::Held;
 use test_common::rows::numbers;
 use test_memory_common::answers::{Answer, done, failed};
 use test_memory_common::inputs::output;
@@ -80,9 +81,10 @@ fn chosen(alloc: Global, row: &str) -> Result<(Vec<u32>, Vec<MetaType>), Fail> {
 /// Writes what the chosen types reach. The filter answers by how often it was asked, so that it
 /// chooses these only where it is asked once for each id from 0 up.
 pub fn export_types(rt: &HostRuntime, row: &str) -> Result<Outcome, Fail> {
-    let mut known = catalogue(rt.alloc())?;
-    add_cycle(rt.alloc(), &mut known)?;
+    let mut known = Held(catalogue(rt.alloc())?);
+    add_cycle(rt.alloc(), &mut known.0)?;
     let (ids, types) = chosen(rt.alloc(), row)?;
+    let types = Held(types);
     let mut out = output(rt.alloc())?;
     let before = hex::encode(rt.alloc(), out.as_slice());
     let mut asked = 0u32;
@@ -90,8 +92,8 @@ pub fn export_types(rt: &HostRuntime, row: &str) -> Result<Outcome, Fail> {
     begin(rt);
     let returned = export(
         rt.alloc(),
-        &known,
-        &types,
+        &known.0,
+        &types.0,
         move |_| {
             let id = *noted;
             *noted = id.saturating_add(1);

@@ -3,6 +3,7 @@ use scale_info::Text;
 use scale_info::interner::{InternError, Interner};
 use std::alloc::{AllocError, Global};
 use std::test::Fail;
+use test_common::held::Held;
 use test_memory_common::answers::{done, shown};
 use test_memory_common::marks::{begin, end};
 use test_memory_common::outcomes::Outcome;
@@ -14,11 +15,11 @@ fn digits_of(alloc: Global, number: usize) -> Result<Text, AllocError> {
 
 /// The interner of the digits of the first so many numbers.
 fn first_numbers(alloc: Global, count: usize) -> Result<Interner<Text>, InternError> {
-    let mut texts = Interner::new(alloc);
+    let mut texts = Held(Interner::new(alloc));
     for number in 0..count {
-        texts.intern_or_get(digits_of(alloc, number)?)?;
+        texts.0.intern_or_get(digits_of(alloc, number)?)?;
     }
-    Ok(texts)
+    Ok(texts.into_inner())
 }
 
 /// How many elements an interner has, and how many of them are the digits of their index.
@@ -35,25 +36,25 @@ fn state_of_numbers(alloc: Global, texts: &Interner<Text>) -> Result<String, All
 pub fn truncate_numbers(rt: &HostRuntime, counts: &str) -> Result<Outcome, Fail> {
     let (count, kept) = counts.split_once(' ').unwrap_or((counts, "0"));
     let (count, kept): (usize, usize) = (count.parse()?, kept.parse()?);
-    let mut texts = first_numbers(rt.alloc(), count)?;
-    let before = state_of_numbers(rt.alloc(), &texts);
+    let mut texts = Held(first_numbers(rt.alloc(), count)?);
+    let before = state_of_numbers(rt.alloc(), &texts.0);
     begin(rt);
-    texts.truncate(kept);
+    texts.0.truncate(kept);
     end(rt);
-    let after = state_of_numbers(rt.alloc(), &texts);
+    let after = state_of_numbers(rt.alloc(), &texts.0);
     Outcome::lending(before, after, done(format!(in rt.alloc(); "truncated")))
 }
 
 /// Interns one more number's digits after those of so many.
 pub fn intern_or_get_after(rt: &HostRuntime, count: &str) -> Result<Outcome, Fail> {
     let count: usize = count.parse()?;
-    let mut texts = first_numbers(rt.alloc(), count)?;
+    let mut texts = Held(first_numbers(rt.alloc(), count)?);
     let value = digits_of(rt.alloc(), count)?;
-    let before = state_of_numbers(rt.alloc(), &texts);
+    let before = state_of_numbers(rt.alloc(), &texts.0);
     begin(rt);
-    let returned = texts.intern_or_get(value);
+    let returned = texts.0.intern_or_get(value);
     end(rt);
-    let after = state_of_numbers(rt.alloc(), &texts);
+    let after = state_of_numbers(rt.alloc(), &texts.0);
     let numbered = returned.map(|(is_new, symbol)| (is_new, symbol.id()));
     Outcome::lending(before, after, shown(rt.alloc(), numbered))
 }

@@ -4,6 +4,7 @@ use serde_json::Value;
 use std::alloc::Global;
 use std::fmt::Debug;
 use std::test::Fail;
+use test_common::held::Held;
 use test_memory_common::answers::{done, encoded, failed};
 use test_memory_common::inputs::{bytes_of, output, table_of};
 use test_memory_common::marks::{begin, end};
@@ -11,9 +12,9 @@ use test_memory_common::outcomes::Outcome;
 
 /// The tree of a table.
 pub fn tree_of(rt: &HostRuntime, row: &str) -> Result<Outcome, Fail> {
-    let table = table_of(rt.alloc(), row)?;
+    let table = Held(table_of(rt.alloc(), row)?);
     begin(rt);
-    let returned = to_json(rt.alloc(), &table);
+    let returned = to_json(rt.alloc(), &table.0);
     end(rt);
     let answer = match returned {
         Ok(tree) => done(tree.to_string(rt.alloc())),
@@ -32,9 +33,9 @@ fn tree(alloc: Global, row: &str) -> Result<Value, Fail> {
 
 /// The table of a tree.
 pub fn table_from(rt: &HostRuntime, row: &str) -> Result<Outcome, Fail> {
-    let tree = tree(rt.alloc(), row)?;
+    let tree = Held(tree(rt.alloc(), row)?);
     begin(rt);
-    let returned = from_json(rt.alloc(), &tree);
+    let returned = from_json(rt.alloc(), &tree.0);
     end(rt);
     Outcome::of(encoded(rt.alloc(), returned))
 }
@@ -60,10 +61,10 @@ fn written<E: Debug + Drop>(alloc: Global, returned: Result<Vec<u8>, E>) -> Resu
 
 /// The text of a table.
 pub fn text_of(rt: &HostRuntime, row: &str) -> Result<Outcome, Fail> {
-    let table = table_of(rt.alloc(), row)?;
+    let table = Held(table_of(rt.alloc(), row)?);
     let out = output(rt.alloc())?;
     begin(rt);
-    let returned = append_json(&table, out);
+    let returned = append_json(&table.0, out);
     end(rt);
     written(rt.alloc(), returned)
 }

@@ -2,6 +2,7 @@
 use crate::registries::{registry_of, registry_of_u8};
 use scale_info::walk::Refs;
 use std::test::Fail;
+use test_common::held::Held;
 use test_memory_common::answers::done;
 use test_memory_common::inputs::table_of;
 use test_memory_common::marks::{begin, end};
@@ -10,12 +11,12 @@ use test_memory_common::types::catalogue;
 
 /// Asks a table for what it has.
 pub fn look(rt: &HostRuntime, row: &str) -> Result<Outcome, Fail> {
-    let table = table_of(rt.alloc(), row)?;
+    let table = Held(table_of(rt.alloc(), row)?);
     begin(rt);
-    let (len, is_empty, is_closed) = (table.len(), table.is_empty(), table.is_closed());
-    let (first, types) = (table.resolve(0).is_some(), table.types().len());
+    let (len, is_empty, is_closed) = (table.0.len(), table.0.is_empty(), table.0.is_closed());
+    let (first, types) = (table.0.resolve(0).is_some(), table.0.types().len());
     let mut entries = 0u32;
-    for _ in table.entries() {
+    for _ in table.0.entries() {
         entries = entries.saturating_add(1);
     }
     end(rt);
@@ -26,21 +27,20 @@ pub fn look(rt: &HostRuntime, row: &str) -> Result<Outcome, Fail> {
 
 /// Compares a table with an equal one, and with the empty one.
 pub fn compare(rt: &HostRuntime, row: &str) -> Result<Outcome, Fail> {
-    let (left, right) = (table_of(rt.alloc(), row)?, table_of(rt.alloc(), row)?);
-    let empty = table_of(rt.alloc(), "empty")?;
+    let left = Held(table_of(rt.alloc(), row)?);
+    let right = Held(table_of(rt.alloc(), row)?);
+    let empty = Held(table_of(rt.alloc(), "empty")?);
     begin(rt);
-    let (same, other) = (left == right, left == empty);
+    let (same, other) = (left.0 == right.0, left.0 == empty.0);
     end(rt);
     Outcome::of(done(format!(in rt.alloc(); "{same} {other}")))
 }
 
 /// How the first descriptions of two tables compare.
 pub fn order(rt: &HostRuntime, row: &str) -> Result<Outcome, Fail> {
-    let (left, right) = (
-        table_of(rt.alloc(), row)?,
-        table_of(rt.alloc(), "docs of a type, a variant and a field")?,
-    );
-    let (Some(left), Some(right)) = (left.resolve(0), right.resolve(1)) else {
+    let left = Held(table_of(rt.alloc(), row)?);
+    let right = Held(table_of(rt.alloc(), "docs of a type, a variant and a field")?);
+    let (Some(left), Some(right)) = (left.0.resolve(0), right.0.resolve(1)) else {
         return Err(Fail::new("the table is empty"));
     };
     begin(rt);
@@ -51,8 +51,8 @@ pub fn order(rt: &HostRuntime, row: &str) -> Result<Outcome, Fail> {
 
 /// The references of the entry at index 0.
 pub fn next_refs(rt: &HostRuntime, row: &str) -> Result<Outcome, Fail> {
-    let table = table_of(rt.alloc(), row)?;
-    let Some(ty) = table.resolve(0) else {
+    let table = Held(table_of(rt.alloc(), row)?);
+    let Some(ty) = table.0.resolve(0) else {
         return Err(Fail::new("the table is empty"));
     };
     let mut refs = Refs::of(rt.alloc(), ty)?;
@@ -65,13 +65,13 @@ pub fn next_refs(rt: &HostRuntime, row: &str) -> Result<Outcome, Fail> {
 
 /// Goes over the descriptions of a registry, and compares it with another.
 pub fn registry(rt: &HostRuntime, name: &str) -> Result<Outcome, Fail> {
-    let known = catalogue(rt.alloc())?;
-    let registry = registry_of(rt.alloc(), &known, name)?;
-    let other = registry_of_u8(rt.alloc(), &known)?;
+    let known = Held(catalogue(rt.alloc())?);
+    let registry = Held(registry_of(rt.alloc(), &known.0, name)?);
+    let other = Held(registry_of_u8(rt.alloc(), &known.0)?);
     begin(rt);
-    let same = registry == other;
+    let same = registry.0 == other.0;
     let mut count = 0u32;
-    for _ in registry.types() {
+    for _ in registry.0.types() {
         count = count.saturating_add(1);
     }
     end(rt);

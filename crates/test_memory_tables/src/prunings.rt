@@ -3,6 +3,7 @@ use scale_info::walk::{Numbering, Refs, number, number_recursive};
 use scale_info::{PortableRegistry, RetainError, append_pruned, prune};
 use std::alloc::{AllocError, Global};
 use std::test::Fail;
+use test_common::held::Held;
 use test_common::rows::{numbers, parted};
 use test_memory_common::answers::{digits, done, failed, shown};
 use test_memory_common::inputs::{bytes_of, is_malformed, output, table_of};
@@ -52,18 +53,18 @@ fn chosen(alloc: Global, table: &PortableRegistry) -> Result<Vec<u32>, Fail> {
 /// these ids only where it is asked once for each id from 0 up.
 pub fn retain(rt: &HostRuntime, row: &str) -> Result<Outcome, Fail> {
     let (name, ids) = given(rt.alloc(), row)?;
-    let mut table = table_of(rt.alloc(), name)?;
-    let before = digits(rt.alloc(), &table);
+    let mut table = Held(table_of(rt.alloc(), name)?);
+    let before = digits(rt.alloc(), &table.0);
     let mut asked = 0u32;
     let noted = &mut asked;
     begin(rt);
-    let returned = table.retain(rt.alloc(), move |_| {
+    let returned = table.0.retain(rt.alloc(), move |_| {
         let id = *noted;
         *noted = id.saturating_add(1);
         ids.contains(&id)
     });
     end(rt);
-    let after = digits(rt.alloc(), &table);
+    let after = digits(rt.alloc(), &table.0);
     let outcome = Outcome::lending(before, after, shown(rt.alloc(), returned));
     Outcome::asking(outcome, asked as usize)
 }
@@ -109,9 +110,9 @@ fn walked(alloc: Global, returned: Result<Numbering, RetainError>) -> Result<Out
 /// Numbers what the given ids reach.
 pub fn number_table(rt: &HostRuntime, row: &str) -> Result<Outcome, Fail> {
     let (name, ids) = given(rt.alloc(), row)?;
-    let table = table_of(rt.alloc(), name)?;
+    let table = Held(table_of(rt.alloc(), name)?);
     begin(rt);
-    let returned = number(rt.alloc(), table.types(), &ids);
+    let returned = number(rt.alloc(), table.0.types(), &ids);
     end(rt);
     walked(rt.alloc(), returned)
 }
@@ -119,9 +120,9 @@ pub fn number_table(rt: &HostRuntime, row: &str) -> Result<Outcome, Fail> {
 /// Numbers what the given ids reach, by a recursion.
 pub fn number_table_recursively(rt: &HostRuntime, row: &str) -> Result<Outcome, Fail> {
     let (name, ids) = given(rt.alloc(), row)?;
-    let table = table_of(rt.alloc(), name)?;
+    let table = Held(table_of(rt.alloc(), name)?);
     begin(rt);
-    let returned = number_recursive(rt.alloc(), table.types(), &ids);
+    let returned = number_recursive(rt.alloc(), table.0.types(), &ids);
     end(rt);
     walked(rt.alloc(), returned)
 }
@@ -147,8 +148,8 @@ fn listed(alloc: Global, refs: Refs) -> Result<String, AllocError> {
 
 /// Lists the references of the entry at index 0.
 pub fn refs_of(rt: &HostRuntime, row: &str) -> Result<Outcome, Fail> {
-    let table = table_of(rt.alloc(), row)?;
-    let Some(ty) = table.resolve(0) else {
+    let table = Held(table_of(rt.alloc(), row)?);
+    let Some(ty) = table.0.resolve(0) else {
         return Err(Fail::new("the table is empty"));
     };
     begin(rt);
@@ -163,8 +164,8 @@ pub fn refs_of(rt: &HostRuntime, row: &str) -> Result<Outcome, Fail> {
 
 /// Puts the references of the entry at index 0 before one that is left.
 pub fn prepend(rt: &HostRuntime, row: &str) -> Result<Outcome, Fail> {
-    let table = table_of(rt.alloc(), row)?;
-    let Some(ty) = table.resolve(0) else {
+    let table = Held(table_of(rt.alloc(), row)?);
+    let Some(ty) = table.0.resolve(0) else {
         return Err(Fail::new("the table is empty"));
     };
     let mut refs = Refs::new(rt.alloc());

@@ -4,6 +4,7 @@ use scale_info::meta_type::Catalogue;
 use scale_info::{Field, IntoPortable, Items, MetaType, PortableRegistry, Scale, tuple_meta_type};
 use std::alloc::{AllocError, Global};
 use std::test::Fail;
+use test_common::held::Held;
 use test_common::lists::{list_of, with};
 use test_memory_common::answers::{digits, done, encoded};
 use test_memory_common::marks::{begin, end};
@@ -13,60 +14,60 @@ use test_memory_common::types::{catalogue, documented_field, type_named, unnamed
 
 /// Registers a type.
 pub fn register_type(rt: &HostRuntime, name: &str) -> Result<Outcome, Fail> {
-    let known = catalogue(rt.alloc())?;
-    let mut registry = registry_of_u8(rt.alloc(), &known)?;
-    let ty = type_named(rt.alloc(), name)?;
-    let before = state(rt.alloc(), &registry, &known);
+    let known = Held(catalogue(rt.alloc())?);
+    let mut registry = Held(registry_of_u8(rt.alloc(), &known.0)?);
+    let ty = Held(type_named(rt.alloc(), name)?);
+    let before = state(rt.alloc(), &registry.0, &known.0);
     begin(rt);
-    let returned = registry.register_type(&ty, &known);
+    let returned = registry.0.register_type(&ty.0, &known.0);
     end(rt);
-    let after = state(rt.alloc(), &registry, &known);
+    let after = state(rt.alloc(), &registry.0, &known.0);
     Outcome::lending(before, after, encoded(rt.alloc(), returned))
 }
 
 /// Registers a type that the registry has, under a catalogue without descriptions.
 pub fn register_known_type(rt: &HostRuntime, name: &str) -> Result<Outcome, Fail> {
-    let ty = type_named(rt.alloc(), name)?;
-    let mut registry = described_registry_of(rt.alloc(), name)?;
-    let nothing = Catalogue::new(rt.alloc());
-    let before = descriptions(rt.alloc(), &registry);
+    let ty = Held(type_named(rt.alloc(), name)?);
+    let mut registry = Held(described_registry_of(rt.alloc(), name)?);
+    let nothing = Held(Catalogue::new(rt.alloc()));
+    let before = descriptions(rt.alloc(), &registry.0);
     begin(rt);
-    let returned = registry.register_type(&ty, &nothing);
+    let returned = registry.0.register_type(&ty.0, &nothing.0);
     end(rt);
-    let after = descriptions(rt.alloc(), &registry);
+    let after = descriptions(rt.alloc(), &registry.0);
     Outcome::lending(before, after, encoded(rt.alloc(), returned))
 }
 
 /// `bool`, the type of this name, and `String`.
 pub fn three(alloc: Global, name: &str) -> Result<Vec<MetaType>, Fail> {
-    let named = type_named(alloc, name)?;
-    let two = with(tuple_meta_type!(alloc; bool), Ok(named));
+    let named = Held(type_named(alloc, name)?);
+    let two = with(tuple_meta_type!(alloc; bool), Ok(named.into_inner()));
     Ok(with(two, MetaType::new::<String>(alloc))?)
 }
 
 /// Registers three types.
 pub fn register_types(rt: &HostRuntime, name: &str) -> Result<Outcome, Fail> {
-    let known = catalogue(rt.alloc())?;
-    let mut registry = registry_of_u8(rt.alloc(), &known)?;
-    let types = three(rt.alloc(), name)?;
-    let before = state(rt.alloc(), &registry, &known);
+    let known = Held(catalogue(rt.alloc())?);
+    let mut registry = Held(registry_of_u8(rt.alloc(), &known.0)?);
+    let types = Held(three(rt.alloc(), name)?);
+    let before = state(rt.alloc(), &registry.0, &known.0);
     begin(rt);
-    let returned = registry.register_types(types, &known);
+    let returned = registry.0.register_types(types.into_inner(), &known.0);
     end(rt);
-    let after = state(rt.alloc(), &registry, &known);
+    let after = state(rt.alloc(), &registry.0, &known.0);
     Outcome::lending(before, after, encoded(rt.alloc(), listed(returned)))
 }
 
 /// Registers three types that stay where they are.
 pub fn register_all(rt: &HostRuntime, name: &str) -> Result<Outcome, Fail> {
-    let known = catalogue(rt.alloc())?;
-    let mut registry = registry_of_u8(rt.alloc(), &known)?;
-    let types = three(rt.alloc(), name)?;
-    let before = state(rt.alloc(), &registry, &known);
+    let known = Held(catalogue(rt.alloc())?);
+    let mut registry = Held(registry_of_u8(rt.alloc(), &known.0)?);
+    let types = Held(three(rt.alloc(), name)?);
+    let before = state(rt.alloc(), &registry.0, &known.0);
     begin(rt);
-    let returned = registry.register_all(&types, &known);
+    let returned = registry.0.register_all(&types.0, &known.0);
     end(rt);
-    let after = state(rt.alloc(), &registry, &known);
+    let after = state(rt.alloc(), &registry.0, &known.0);
     Outcome::lending(before, after, encoded(rt.alloc(), listed(returned)))
 }
 
@@ -81,14 +82,14 @@ fn two_fields(alloc: Global, name: &str) -> Result<Vec<Field>, AllocError> {
 
 /// Converts two fields.
 pub fn map_into_portable(rt: &HostRuntime, name: &str) -> Result<Outcome, Fail> {
-    let fields = two_fields(rt.alloc(), name)?;
-    let known = catalogue(rt.alloc())?;
-    let mut registry = registry_of_u8(rt.alloc(), &known)?;
-    let before = state(rt.alloc(), &registry, &known);
+    let fields = Held(two_fields(rt.alloc(), name)?);
+    let known = Held(catalogue(rt.alloc())?);
+    let mut registry = Held(registry_of_u8(rt.alloc(), &known.0)?);
+    let before = state(rt.alloc(), &registry.0, &known.0);
     begin(rt);
-    let returned = registry.map_into_portable(fields, &known);
+    let returned = registry.0.map_into_portable(fields.into_inner(), &known.0);
     end(rt);
-    let after = state(rt.alloc(), &registry, &known);
+    let after = state(rt.alloc(), &registry.0, &known.0);
     Outcome::lending(before, after, encoded(rt.alloc(), listed(returned)))
 }
 
@@ -101,39 +102,39 @@ pub fn into_portable<T: IntoPortable + Drop>(
 where
     T::Output: Scale,
 {
-    let described = catalogue(rt.alloc())?;
-    let mut registry = registry_of_u8(rt.alloc(), &described)?;
-    let before = state(rt.alloc(), &registry, &described);
+    let described = Held(catalogue(rt.alloc())?);
+    let mut registry = Held(registry_of_u8(rt.alloc(), &described.0)?);
+    let before = state(rt.alloc(), &registry.0, &described.0);
     begin(rt);
-    let returned = value.into_portable(rt.alloc(), &mut registry, known);
+    let returned = value.into_portable(rt.alloc(), &mut registry.0, known);
     end(rt);
-    let after = state(rt.alloc(), &registry, &described);
+    let after = state(rt.alloc(), &registry.0, &described.0);
     Outcome::lending(before, after, encoded(rt.alloc(), returned))
 }
 
 /// Makes the table of a registry.
 pub fn from_registry(rt: &HostRuntime, name: &str) -> Result<Outcome, Fail> {
-    let registry = described_registry_of(rt.alloc(), name)?;
+    let registry = Held(described_registry_of(rt.alloc(), name)?);
     begin(rt);
-    let returned = PortableRegistry::from_registry(rt.alloc(), &registry);
+    let returned = PortableRegistry::from_registry(rt.alloc(), &registry.0);
     end(rt);
     Outcome::of(encoded(rt.alloc(), returned))
 }
 
 /// Makes the table of a registry that is finished.
 pub fn from_finished(rt: &HostRuntime, name: &str) -> Result<Outcome, Fail> {
-    let registry = described_registry_of(rt.alloc(), name)?;
+    let registry = Held(described_registry_of(rt.alloc(), name)?);
     begin(rt);
-    let returned = PortableRegistry::from_finished(rt.alloc(), registry);
+    let returned = PortableRegistry::from_finished(rt.alloc(), registry.into_inner());
     end(rt);
     Outcome::of(encoded(rt.alloc(), returned))
 }
 
 /// Takes the descriptions out of a registry.
 pub fn into_types(rt: &HostRuntime, name: &str) -> Result<Outcome, Fail> {
-    let registry = described_registry_of(rt.alloc(), name)?;
+    let registry = Held(described_registry_of(rt.alloc(), name)?);
     begin(rt);
-    let types = Items::from(registry.into_types());
+    let types = Items::from(registry.into_inner().into_types());
     end(rt);
     Outcome::of(done(digits(rt.alloc(), &types)))
 }

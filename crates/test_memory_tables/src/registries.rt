@@ -4,27 +4,30 @@ use scale_info::registry::RegisterError;
 use scale_info::{Items, MetaType, Registry};
 use std::alloc::{AllocError, Global};
 use std::test::Fail;
+use test_common::held::Held;
 use test_memory_common::answers::digits;
 use test_memory_common::types::{catalogue, type_named};
 
 /// The registry of `u8` and of the type of this name.
 pub fn registry_of(alloc: Global, known: &Catalogue, name: &str) -> Result<Registry, Fail> {
-    let mut registry = registry_of_u8(alloc, known)?;
-    registry.register_type(&type_named(alloc, name)?, known)?;
-    Ok(registry)
+    let mut registry = Held(registry_of_u8(alloc, known)?);
+    let ty = Held(type_named(alloc, name)?);
+    registry.0.register_type(&ty.0, known)?;
+    Ok(registry.into_inner())
 }
 
 /// The registry of `u8` and of the type of this name, under the catalogue of all types.
 pub fn described_registry_of(alloc: Global, name: &str) -> Result<Registry, Fail> {
-    let known = catalogue(alloc)?;
-    registry_of(alloc, &known, name)
+    let known = Held(catalogue(alloc)?);
+    registry_of(alloc, &known.0, name)
 }
 
 /// The registry of `u8`.
 pub fn registry_of_u8(alloc: Global, known: &Catalogue) -> Result<Registry, RegisterError> {
-    let mut registry = Registry::new(alloc);
-    registry.register_type(&MetaType::new::<u8>(alloc)?, known)?;
-    Ok(registry)
+    let mut registry = Held(Registry::new(alloc));
+    let ty = Held(MetaType::new::<u8>(alloc)?);
+    registry.0.register_type(&ty.0, known)?;
+    Ok(registry.into_inner())
 }
 
 /// The encodings of a registry's descriptions, in order.
@@ -40,7 +43,7 @@ pub fn descriptions(alloc: Global, registry: &Registry) -> Result<String, AllocE
 /// What shows a registry: its descriptions, and whether it equals one that is made anew.
 pub fn state(alloc: Global, registry: &Registry, known: &Catalogue) -> Result<String, AllocError> {
     let is_anew = match registry_of_u8(alloc, known) {
-        Ok(anew) => *registry == anew,
+        Ok(anew) => *registry == Held(anew).0,
         Err(_) => false,
     };
     let mut text = descriptions(alloc, registry)?;

@@ -4,6 +4,7 @@ use scale_info::{Type, TypeDefPrimitive, TypeId, TypeInfo};
 use std::alloc::{AllocError, Global};
 use std::test::Fail;
 use test_common::catalogues::add_own;
+use test_common::held::Held;
 use test_common::shown::Show;
 use test_memory_common::answers::{Answer, done, shown};
 use test_memory_common::marks::{begin, end};
@@ -23,11 +24,11 @@ fn plain(alloc: Global) -> Type {
 
 /// A catalogue of fifteen descriptions, whose map needs room for one more.
 fn fifteen(alloc: Global) -> Result<Catalogue, CatalogueError> {
-    let mut known = Catalogue::new(alloc);
+    let mut known = Held(Catalogue::new(alloc));
     for number in 0..15 {
-        add_own(&mut known, numbered(alloc, number)?, Ok(plain(alloc)))?;
+        add_own(&mut known.0, numbered(alloc, number)?, Ok(plain(alloc)))?;
     }
-    Ok(known)
+    Ok(known.into_inner())
 }
 
 /// How many of the fifteen a catalogue has.
@@ -61,40 +62,40 @@ fn state(alloc: Global, known: &Catalogue, identity: &TypeId) -> Result<String, 
 
 /// Adds a type to the fifteen and the types of these names.
 pub fn add<T: TypeInfo>(rt: &HostRuntime, before: &str) -> Result<Outcome, Fail> {
-    let mut known = fifteen(rt.alloc())?;
-    add_all(rt.alloc(), &mut known, before)?;
+    let mut known = Held(fifteen(rt.alloc())?);
+    add_all(rt.alloc(), &mut known.0, before)?;
     let identity = T::Identity::type_id(rt.alloc())?;
-    let before = state(rt.alloc(), &known, &identity);
+    let before = state(rt.alloc(), &known.0, &identity);
     begin(rt);
-    let returned = known.add::<T>();
+    let returned = known.0.add::<T>();
     end(rt);
-    let after = state(rt.alloc(), &known, &identity);
+    let after = state(rt.alloc(), &known.0, &identity);
     Outcome::lending(before, after, shown(rt.alloc(), returned))
 }
 
 /// Adds the pair of `u32` and `bool`, whose identity has the description of `u32`.
 pub fn add_described_otherwise(rt: &HostRuntime) -> Result<Outcome, Fail> {
-    let mut known = fifteen(rt.alloc())?;
+    let mut known = Held(fifteen(rt.alloc())?);
     let identity = Pair::type_id(rt.alloc())?;
     add_own(
-        &mut known,
+        &mut known.0,
         Pair::type_id(rt.alloc())?,
         Ok(plain(rt.alloc())),
     )?;
-    let before = state(rt.alloc(), &known, &identity);
+    let before = state(rt.alloc(), &known.0, &identity);
     begin(rt);
-    let returned = known.add::<Pair>();
+    let returned = known.0.add::<Pair>();
     end(rt);
-    let after = state(rt.alloc(), &known, &identity);
+    let after = state(rt.alloc(), &known.0, &identity);
     Outcome::lending(before, after, shown(rt.alloc(), returned))
 }
 
 /// Adds the description of this name under an identity, and says what is returned.
 fn added(rt: &HostRuntime, known: &mut Catalogue, name: &str) -> Result<Answer, Fail> {
     let identity = Missing::type_id(rt.alloc())?;
-    let description = description_named(rt.alloc(), name)?;
+    let description = Held(description_named(rt.alloc(), name)?);
     begin(rt);
-    let returned = known.add_described(identity, description);
+    let returned = known.add_described(identity, description.into_inner());
     end(rt);
     Ok(shown(rt.alloc(), returned)?)
 }
@@ -110,8 +111,8 @@ fn add_to(rt: &HostRuntime, mut known: Catalogue, name: &str) -> Result<Outcome,
 
 /// Adds the description of this name under a new identity.
 pub fn add_described(rt: &HostRuntime, name: &str) -> Result<Outcome, Fail> {
-    let known = fifteen(rt.alloc())?;
-    add_to(rt, known, name)
+    let known = Held(fifteen(rt.alloc())?);
+    add_to(rt, known.into_inner(), name)
 }
 
 /// Adds the description of this name to an empty catalogue.
@@ -121,20 +122,22 @@ pub fn add_first_described(rt: &HostRuntime, name: &str) -> Result<Outcome, Fail
 
 /// Adds the description of this name under an identity that has the other one.
 pub fn add_described_after(rt: &HostRuntime, other: &str, name: &str) -> Result<Outcome, Fail> {
-    let mut known = fifteen(rt.alloc())?;
+    let mut known = Held(fifteen(rt.alloc())?);
     let identity = Missing::type_id(rt.alloc())?;
-    known.add_described(identity, description_named(rt.alloc(), other)?)?;
-    add_to(rt, known, name)
+    known
+        .0
+        .add_described(identity, description_named(rt.alloc(), other)?)?;
+    add_to(rt, known.into_inner(), name)
 }
 
 /// Looks the type of this name up in the catalogue of all types.
 pub fn look(rt: &HostRuntime, name: &str) -> Result<Outcome, Fail> {
-    let ty = type_named(rt.alloc(), name)?;
-    let known = catalogue(rt.alloc())?;
+    let ty = Held(type_named(rt.alloc(), name)?);
+    let known = Held(catalogue(rt.alloc())?);
     begin(rt);
-    let is_found = ty.type_info(&known).is_some();
-    let same = known.get(ty.type_id()).is_some();
+    let is_found = ty.0.type_info(&known.0).is_some();
+    let same = known.0.get(ty.0.type_id()).is_some();
     end(rt);
-    let found = found(rt.alloc(), &known, ty.type_id())?;
+    let found = found(rt.alloc(), &known.0, ty.0.type_id())?;
     Outcome::of(done(format!(in rt.alloc(); "({is_found}, {same}) {found}")))
 }

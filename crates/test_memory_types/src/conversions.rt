@@ -30,11 +30,11 @@ where
         known,
     } = given;
     let value = value?;
-    let before = state(rt.alloc(), &registry);
+    let before = state(rt.alloc(), &registry.0);
     begin(rt);
-    let returned = value.into_portable(rt.alloc(), &mut registry, &known);
+    let returned = value.into_portable(rt.alloc(), &mut registry.0, &known.0);
     end(rt);
-    let after = state(rt.alloc(), &registry);
+    let after = state(rt.alloc(), &registry.0);
     Outcome::lending(before, after, encoded(rt.alloc(), returned))
 }
 

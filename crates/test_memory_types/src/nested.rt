@@ -2,6 +2,7 @@
 use scale_info::meta_type::{Catalogue, CatalogueError};
 use scale_info::{MetaType, TypeInfo, tuple_meta_type};
 use std::alloc::{AllocError, Global};
+use test_common::held::Held;
 
 /// Four lists around `T`.
 type Lists<T> = Vec<Vec<Vec<Vec<T>>>>;
@@ -36,9 +37,9 @@ fn add_all(known: &mut Catalogue) -> Result<bool, CatalogueError> {
 
 /// The catalogue of the 24 lists.
 pub fn catalogue(alloc: Global) -> Result<Catalogue, CatalogueError> {
-    let mut known = Catalogue::new(alloc);
-    add_all(&mut known)?;
-    Ok(known)
+    let mut known = Held(Catalogue::new(alloc));
+    add_all(&mut known.0)?;
+    Ok(known.into_inner())
 }
 
 /// The outermost list.

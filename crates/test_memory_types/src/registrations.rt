@@ -9,6 +9,7 @@ use scale_info::registry::RegisterError;
 use scale_info::{MetaType, PortableRegistry, Registry, TypeId, UntrackedSymbol};
 use std::alloc::{AllocError, Global};
 use std::test::Fail;
+use test_common::held::Held;
 use test_memory_common::answers::{Answer, digits, failed, printed};
 use test_memory_common::marks::{begin, end};
 use test_memory_common::outcomes::Outcome;
@@ -18,9 +19,9 @@ use test_memory_common::types::{catalogue, catalogue_of, type_named, types_named
 #[derive(Drop)]
 pub struct Given {
     /// The registry.
-    pub registry: Registry,
+    pub registry: Held<Registry>,
     /// The catalogue.
-    pub known: Catalogue,
+    pub known: Held<Catalogue>,
 }
 
 /// The names before a mark, and those after it, if there is one.
@@ -33,10 +34,11 @@ fn parts<'a>(row: &'a str, mark: &str) -> (&'a str, Option<&'a str>) {
 
 /// The registry of these types.
 fn registry_of(alloc: Global, names: &str) -> Result<Registry, Fail> {
-    let mut registry = Registry::new(alloc);
-    let known = catalogue(alloc)?;
-    registry.register_types(types_named(alloc, names)?, &known)?;
-    Ok(registry)
+    let mut registry = Held(Registry::new(alloc));
+    let known = Held(catalogue(alloc)?);
+    let types = Held(types_named(alloc, names)?);
+    registry.0.register_types(types.into_inner(), &known.0)?;
+    Ok(registry.into_inner())
 }
 
 /// The catalogue of these types, or of all.
@@ -52,8 +54,8 @@ fn described(alloc: Global, names: Option<&str>) -> Result<Catalogue, CatalogueE
 pub fn read<'a>(alloc: Global, row: &'a str) -> Result<(Given, &'a str), Fail> {
     let (row, under) = parts(row, " under ");
     let (names, after) = parts(row, " after ");
-    let registry = registry_of(alloc, after.unwrap_or(""))?;
-    let known = described(alloc, under)?;
+    let registry = Held(registry_of(alloc, after.unwrap_or(""))?);
+    let known = Held(described(alloc, under)?);
     Ok((Given { registry, known }, names))
 }
 
@@ -92,11 +94,11 @@ fn register_types(rt: &HostRuntime, given: Given, types: Vec<MetaType>) -> Resul
         mut registry,
         known,
     } = given;
-    let before = state(rt.alloc(), &registry);
+    let before = state(rt.alloc(), &registry.0);
     begin(rt);
-    let returned = registry.register_types(types, &known);
+    let returned = registry.0.register_types(types, &known.0);
     end(rt);
-    let after = state(rt.alloc(), &registry);
+    let after = state(rt.alloc(), &registry.0);
     Outcome::lending(before, after, listed(rt.alloc(), returned))
 }
 
@@ -106,11 +108,11 @@ fn register_all(rt: &HostRuntime, given: Given, types: &[MetaType]) -> Result<Ou
         mut registry,
         known,
     } = given;
-    let before = state(rt.alloc(), &registry);
+    let before = state(rt.alloc(), &registry.0);
     begin(rt);
-    let returned = registry.register_all(types, &known);
+    let returned = registry.0.register_all(types, &known.0);
     end(rt);
-    let after = state(rt.alloc(), &registry);
+    let after = state(rt.alloc(), &registry.0);
     Outcome::lending(before, after, listed(rt.alloc(), returned))
 }
 
@@ -120,11 +122,11 @@ fn register_type(rt: &HostRuntime, given: Given, ty: &MetaType) -> Result<Outcom
         mut registry,
         known,
     } = given;
-    let before = state(rt.alloc(), &registry);
+    let before = state(rt.alloc(), &registry.0);
     begin(rt);
-    let returned = registry.register_type(ty, &known);
+    let returned = registry.0.register_type(ty, &known.0);
     end(rt);
-    let after = state(rt.alloc(), &registry);
+    let after = state(rt.alloc(), &registry.0);
     let answer = match returned {
         Ok(symbol) => printed(rt.alloc(), ids(rt.alloc(), &[symbol])),
         Err(error) => failed(rt.alloc(), &error),
@@ -136,16 +138,18 @@ fn register_type(rt: &HostRuntime, given: Given, ty: &MetaType) -> Result<Outcom
 pub fn register(rt: &HostRuntime, call: &str, row: &str) -> Result<Outcome, Fail> {
     let (given, names) = read(rt.alloc(), row)?;
     match call {
-        "Registry::register_types" => { register_types(rt, given, types_named(rt.alloc(), names)?) }
-        "Registry::register_all" => register_all(rt, given, &types_named(rt.alloc(), names)?),
-        _ => register_type(rt, given, &type_named(rt.alloc(), names)?),
+        "Registry::register_types" => register_types(rt, given, types_named(rt.alloc(), names)?),
+        "Registry::register_all" => {
+            register_all(rt, given, &Held(types_named(rt.alloc(), names)?).0)
+        }
+        _ => register_type(rt, given, &Held(type_named(rt.alloc(), names)?).0),
     }
 }
 
 /// Registers 24 lists, each of which refers to the next type.
 pub fn register_nested(rt: &HostRuntime) -> Result<Outcome, Fail> {
-    let registry = Registry::new(rt.alloc());
-    let known = nested::catalogue(rt.alloc())?;
+    let registry = Held(Registry::new(rt.alloc()));
+    let known = Held(nested::catalogue(rt.alloc())?);
     register_types(
         rt,
         Given { registry, known },

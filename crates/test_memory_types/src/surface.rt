@@ -234,6 +234,7 @@ use std::alloc::AllocError;
 use std::alloc::Global;
 use std::test::Fail;
 use test_common::encodings::encoding;
+use test_common::held::Held;
 use test_memory_common::answers::done;
 use test_memory_common::marks::begin;
 use test_memory_common::marks::end;
@@ -441,7 +442,8 @@ fn appended(alloc: Global, bytes: &[u8]) -> Result<Vec<u8>, Fail> {
     let mut pruned = Vec::new(alloc);
     let _ = prune(alloc, bytes, &[0], &mut pruned)?;
     append_pruned(alloc, bytes, &[0], &mut pruned)?;
-    let _ = export_nothing(alloc, &Catalogue::new(alloc), &mut pruned)?;
+    let nothing = Held(Catalogue::new(alloc));
+    let _ = export_nothing(alloc, &nothing.0, &mut pruned)?;
     Ok(pruned)
 }
 
@@ -459,9 +461,9 @@ fn register_u8(alloc: Global, builder: &mut PortableRegistryBuilder) -> Result<u
 
 /// The id of `u8`, and the table of it alone.
 fn table_of_u8(alloc: Global) -> Result<(u32, PortableRegistry), Fail> {
-    let mut builder = PortableRegistryBuilder::new(alloc);
-    let id = register_u8(alloc, &mut builder)?;
-    Ok((id, builder.finish(alloc)?))
+    let mut builder = Held(PortableRegistryBuilder::new(alloc));
+    let id = register_u8(alloc, &mut builder.0)?;
+    Ok((id, builder.into_inner().finish(alloc)?))
 }
 
 /// The ids of a table's entries, and whether each has a path.
@@ -476,9 +478,9 @@ fn entries_of(alloc: Global, table: &PortableRegistry) -> Result<String, AllocEr
 
 /// What the calls that append write of a table in turn, and whether its JSON is one text.
 fn written(alloc: Global, table: &PortableRegistry) -> Result<String, Fail> {
-    let same = read_back(alloc, table)?;
-    let bytes = encoding(alloc, &same)?;
-    let is_one_text = is_written_alike(alloc, &same, &bytes)?;
+    let same = Held(read_back(alloc, table)?);
+    let bytes = encoding(alloc, &same.0)?;
+    let is_one_text = is_written_alike(alloc, &same.0, &bytes)?;
     let digits = hex::encode(alloc, appended(alloc, &bytes)?.as_slice())?;
     Ok(format!(in alloc; "{digits} {is_one_text}")?)
 }
@@ -499,7 +501,8 @@ pub fn items(rt: &HostRuntime) -> Result<Outcome, Fail> {
     let is_identifier = is_rust_identifier("u8");
     end(rt);
     let (id, table) = table_of_u8(rt.alloc())?;
-    functions_are_offered(rt.alloc(), &table)?;
-    let shown = shown(rt.alloc(), id, &table)?;
+    let table = Held(table);
+    functions_are_offered(rt.alloc(), &table.0)?;
+    let shown = shown(rt.alloc(), id, &table.0)?;
     Outcome::of(done(format!(in rt.alloc(); "{is_identifier} {shown}")))
 }
