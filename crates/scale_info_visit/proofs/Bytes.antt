@@ -1,6 +1,6 @@
 -- Bytes shown one by one.
 use Rattle.std.proofs.Common.{◌≡◌, ℕ, zero, suc, ◌+◌, ◌*◌, ◌<◌, ◌≤◌, List, [], ◌∷◌, ◌++◌, length, map, take, drop, replicate}
-use Rattle.std.proofs.Common.{refl, ap, sym, ◌∙◌, slice_index_or, arith}
+use Rattle.std.proofs.Common.{refl, ap, sym, ◌∙◌, slice_index_or, append_assoc, arith}
 use Rattle.std.proofs.lemmas.Grind.{common_steps}
 use Rattle.scale_info_primitives.specs.declared.primitive.TypeDefPrimitive.TheVariants as kind
 use Rattle.scale_info_value.specs.declared.value.Failure.{Failure}
@@ -10,8 +10,11 @@ use Rattle.scale_info_value.specs.IntegerDecoders.{bytes}
 use Rattle.scale_info_value.specs.ValueDefinitions.{primitive}
 use Rattle.scale_info_value.proofs.Texts.{bytes_whole, bytes_long}
 use Rattle.scale_info_value.proofs.Integers.{read_integer, number_there, integers_missing}
-use Rattle.std.proofs.lemmas.List.{take_more, map-append, take_all}
-use Rattle.scale_info_visit.specs.Events.{unsigned, begin_list, end_list, bytes_events}
+use Rattle.std.proofs.lemmas.List.{take_more, map-append, take_all, take-append-drop}
+use Rattle.std.specs.List.{flat_map}
+use Rattle.scale_info_visit.specs.Events.{unsigned, begin_list, end_list, bytes_events, events_of}
+use Rattle.scale_info_visit.specs.Visits.{bracketed}
+use Rattle.scale_info_visit.proofs.Events.{unsigned_all}
 
 -- one byte more
 pub one_byte :
@@ -28,6 +31,15 @@ pub all_bytes :
     → (begin_list (length all) ∷ map unsigned (take at all)) ++ end_list ∷ [] ≡ bytes_events all
 all_bytes all at h =
     ap (λ bs. begin_list (length all) ∷ map unsigned bs ++ end_list ∷ []) (take_all at all h)
+
+-- some bytes, and the others
+pub bytes_split :
+    (all : List ℕ) (at : ℕ)
+    → bytes_events all ≡ (begin_list (length all) ∷ map unsigned (take at all)) ++ (map unsigned (drop at all) ++ end_list ∷ [])
+bytes_split all at =
+    ap (λ bs. begin_list (length all) ∷ map unsigned bs ++ end_list ∷ []) (sym (take-append-drop at all))
+    ∙ ap (λ es. begin_list (length all) ∷ es ++ end_list ∷ []) (map-append unsigned (take at all) (drop at all))
+    ∙ ap (λ es. begin_list (length all) ∷ es) (append_assoc (map unsigned (take at all)) (map unsigned (drop at all)) (end_list ∷ []))
 
 -- where they are not there, they are missing
 bytes_short : (n : ℕ) (input : List ℕ) (why : Failure) → bytes n input ≡ failed why → (length input < n) × (why ≡ malformed)
@@ -66,3 +78,11 @@ pub bytes_missing :
 bytes_missing n input why e =
     let h = bytes_short n input why e in
     integers_missing n 1 input (omega (arith, h.0)) ∙ ap (λ w. failed w) (sym h.1)
+
+-- so many bytes, as a list of integers
+pub bytes_events_of :
+    (n : ℕ) (all : List ℕ) → length all ≡ n
+    → bracketed (begin_list n) (flat_map events_of) end_list (map dyn.Unsigned all) ≡ bytes_events all
+bytes_events_of n all e =
+    ap (λ m. bracketed (begin_list m) (flat_map events_of) end_list (map dyn.Unsigned all)) (sym e)
+    ∙ ap (λ es. begin_list (length all) ∷ es ++ end_list ∷ []) (unsigned_all all)

@@ -12,7 +12,7 @@ use Rattle.scale_info_value.specs.declared.value.Dyn.TheOpen as layer
 use Rattle.scale_info_value.specs.declared.value.Dyn.TheFolds.{fold-roll-Dyn}
 use Rattle.scale_info_visit.specs.Events.{Event, truth, unsigned, signed, text, begin_list, end_list, begin_record}
 use Rattle.scale_info_visit.specs.Events.{end_record, begin_variant, end_variant, keys, named, events_step, events_of}
-use Rattle.scale_info_visit.specs.Events.{field_events, bytes_events}
+use Rattle.scale_info_visit.specs.Events.{field_events}
 
 -- the event of a truth value
 pub truth_events : (b : _) → events_of (dyn.Bool b) ≡ truth b ∷ []
@@ -70,12 +70,6 @@ variant_events name index fs =
     ∙ (λ i. begin_variant name index (keys_of fs i) ∷ named_of fs i ++ end_variant name index (keys_of fs i) ∷ [])
 
 -- the events of bytes, one after another
-unsigned_all : (bytes : List ℕ) → flat_map events_of (map dyn.Unsigned bytes) ≡ map unsigned bytes
+pub unsigned_all : (bytes : List ℕ) → flat_map events_of (map dyn.Unsigned bytes) ≡ map unsigned bytes
 unsigned_all [] = refl
 unsigned_all (b ∷ bs) = λ i. unsigned_events b i ++ unsigned_all bs i
-
--- the events of a list of bytes
-pub bytes_are : (bytes : List ℕ) → events_of (dyn.List (map dyn.Unsigned bytes)) ≡ bytes_events bytes
-bytes_are bytes =
-    list_events (map dyn.Unsigned bytes)
-    ∙ (λ i. begin_list (length-map bytes dyn.Unsigned i) ∷ unsigned_all bytes i ++ end_list ∷ [])

@@ -1,5 +1,5 @@
 //! Values shown by the definitions of their types.
-ghost use Rattle.std.specs.Prelude.{◌≡◌, ◌≤◌, IfOk, IfErr, OnErr, replicate};
+ghost use Rattle.std.specs.Prelude.{◌≡◌, ◌≤◌, IfOk, IfErr, replicate, length};
 ghost use Rattle.std.specs.Bool.{OnTrue};
 ghost use Rattle.std.specs.List.{flat_map};
 ghost use Rattle.scale_info_types.specs.declared.ty.TypeDef.TheVariants as def;
@@ -11,9 +11,10 @@ ghost use Rattle.scale_info_value.specs.Readings.{value_within, definition_withi
 ghost use Rattle.scale_info_value.specs.Readings.{variant_within, items_within, members_within};
 ghost use Rattle.scale_info_value.specs.Readings.{compact_within, pair_within, pairs_within};
 ghost use Rattle.scale_info_value.specs.Readings.{reading};
-ghost use Rattle.scale_info_visit.specs.Events.{events_of, field_events};
+ghost use Rattle.scale_info_visit.specs.Events.{events_of, field_events, begin_list, end_list};
+ghost use Rattle.scale_info_visit.specs.Events.{begin_record, end_record, names, begin_of, end_of};
 ghost use Rattle.scale_info_visit.specs.Visits.{HasVisited, IsVisitErrorOf, field_within};
-ghost use Rattle.scale_info_visit.specs.Visits.{key_then_value};
+ghost use Rattle.scale_info_visit.specs.Visits.{bracketed, key_then_value};
 
 use crate::list::{primitive, primitives};
 use crate::visitor::{ValueVisitor, VisitError, shown};
@@ -41,9 +42,9 @@ pub fn visit_value<'i, V: ValueVisitor>(
     ensures ok { IfOk result (λ rest.
         HasVisited V.visited events_of (reading table.now id 1 input.now)
         rest.now visitor.old visitor.new) }
-    ensures err { IfErr result
-        (IsVisitErrorOf V.may_stop (reading table.now id 1 input.now) visitor.old) }
-    ensures keeps { OnErr result (V.kept visitor.old visitor.new) }
+    ensures err { IfErr result (IsVisitErrorOf V.visited V.stopped events_of
+        (reading table.now id 1 input.now)
+        visitor.old visitor.new) }
 {
     value_within(table, id, 128, input, visitor)
 }
@@ -60,9 +61,9 @@ fn compact<'i, V: ValueVisitor>(
         HasVisited V.visited events_of
         (outcome_map dyn.Unsigned (compact_within left table.now id input.now))
         rest.now visitor.old visitor.new) }
-    ensures err { IfErr result (IsVisitErrorOf V.may_stop
-        (outcome_map dyn.Unsigned (compact_within left table.now id input.now)) visitor.old) }
-    ensures keeps { OnErr result (V.kept visitor.old visitor.new) }
+    ensures err { IfErr result (IsVisitErrorOf V.visited V.stopped events_of
+        (outcome_map dyn.Unsigned (compact_within left table.now id input.now))
+        visitor.old visitor.new) }
 {
     let (integer, rest) = compact_within(table, id, left, input)?;
     shown(visitor.unsigned(integer))?;
@@ -81,9 +82,9 @@ fn value_within<'i, V: ValueVisitor>(
     ensures ok { IfOk result (λ rest.
         HasVisited V.visited events_of (value_within left table.now id input.now)
         rest.now visitor.old visitor.new) }
-    ensures err { IfErr result
-        (IsVisitErrorOf V.may_stop (value_within left table.now id input.now) visitor.old) }
-    ensures keeps { OnErr result (V.kept visitor.old visitor.new) }
+    ensures err { IfErr result (IsVisitErrorOf V.visited V.stopped events_of
+        (value_within left table.now id input.now)
+        visitor.old visitor.new) }
 {
     if left == 0 {
         return Err(VisitError::Failed(Failure::TooDeep));
@@ -107,9 +108,9 @@ fn value_by<'i, V: ValueVisitor>(
     ensures ok { IfOk result (λ rest.
         HasVisited V.visited events_of (definition_within left table.now definition.now input.now)
         rest.now visitor.old visitor.new) }
-    ensures err { IfErr result (IsVisitErrorOf V.may_stop
-        (definition_within left table.now definition.now input.now) visitor.old) }
-    ensures keeps { OnErr result (V.kept visitor.old visitor.new) }
+    ensures err { IfErr result (IsVisitErrorOf V.visited V.stopped events_of
+        (definition_within left table.now definition.now input.now)
+        visitor.old visitor.new) }
 {
     match definition {
         TypeDef::Composite(composite) => {
@@ -144,13 +145,16 @@ fn record<'i, V: ValueVisitor>(
     visitor: &mut V,
 ) -> Result<&'i [u8], VisitError<V::Error>>
     requires { 1 ≤ left }
-    ensures ok { IfOk result (λ rest.
-        HasVisited V.visited events_of
-        (outcome_map dyn.Record (fields_within left table.now all.now input.now))
+    ensures ok { IfOk result (λ rest. HasVisited V.visited
+        (bracketed (begin_record (names all.now)) (flat_map field_events)
+        (end_record (names all.now)))
+        (fields_within left table.now all.now input.now)
         rest.now visitor.old visitor.new) }
-    ensures err { IfErr result (IsVisitErrorOf V.may_stop
-        (outcome_map dyn.Record (fields_within left table.now all.now input.now)) visitor.old) }
-    ensures keeps { OnErr result (V.kept visitor.old visitor.new) }
+    ensures err { IfErr result (IsVisitErrorOf V.visited V.stopped
+        (bracketed (begin_record (names all.now)) (flat_map field_events)
+        (end_record (names all.now)))
+        (fields_within left table.now all.now input.now)
+        visitor.old visitor.new) }
 {
     shown(visitor.begin_record(all))?;
     let rest = fields(table, all, left, input, visitor)?;
@@ -171,20 +175,39 @@ fn variant<'i, V: ValueVisitor>(
     ensures ok { IfOk result (λ rest.
         HasVisited V.visited events_of (variant_within left table.now variants.now input.now)
         rest.now visitor.old visitor.new) }
-    ensures err { IfErr result (IsVisitErrorOf V.may_stop
-        (variant_within left table.now variants.now input.now) visitor.old) }
-    ensures keeps { OnErr result (V.kept visitor.old visitor.new) }
+    ensures err { IfErr result (IsVisitErrorOf V.visited V.stopped events_of
+        (variant_within left table.now variants.now input.now) visitor.old visitor.new) }
 {
     let (index, rest) = byte(input)?;
     match variant_with_index(variants, index) {
         None => Err(VisitError::Failed(Failure::Malformed)),
-        Some(variant) => {
-            shown(visitor.begin_variant(variant))?;
-            let rest = fields(table, variant.fields.as_slice(), left, rest, visitor)?;
-            shown(visitor.end_variant(variant))?;
-            Ok(rest)
-        }
+        Some(variant) => chosen(table, variant, left, rest, visitor),
     }
+}
+
+/// Shows a value of this variant, whose fields are at the start of the input.
+#[cycle(visit)]
+fn chosen<'i, V: ValueVisitor>(
+    table: &PortableRegistry,
+    variant: &Variant<PortableForm>,
+    left: u8,
+    input: &'i [u8],
+    visitor: &mut V,
+) -> Result<&'i [u8], VisitError<V::Error>>
+    requires { 1 ≤ left }
+    ensures ok { IfOk result (λ rest. HasVisited V.visited
+        (bracketed (begin_of variant.now) (flat_map field_events) (end_of variant.now))
+        (fields_within left table.now variant.now.fields input.now)
+        rest.now visitor.old visitor.new) }
+    ensures err { IfErr result (IsVisitErrorOf V.visited V.stopped
+        (bracketed (begin_of variant.now) (flat_map field_events) (end_of variant.now))
+        (fields_within left table.now variant.now.fields input.now)
+        visitor.old visitor.new) }
+{
+    shown(visitor.begin_variant(variant))?;
+    let rest = fields(table, variant.fields.as_slice(), left, input, visitor)?;
+    shown(visitor.end_variant(variant))?;
+    Ok(rest)
 }
 
 /// Shows a value of each field's type in order, after the field's name.
@@ -200,9 +223,9 @@ fn fields<'i, V: ValueVisitor>(
     ensures ok { IfOk result (λ rest.
         HasVisited V.visited (flat_map field_events)
         (fields_within left table.now all.now input.now) rest.now visitor.old visitor.new) }
-    ensures err { IfErr result
-        (IsVisitErrorOf V.may_stop (fields_within left table.now all.now input.now) visitor.old) }
-    ensures keeps { OnErr result (V.kept visitor.old visitor.new) }
+    ensures err { IfErr result (IsVisitErrorOf V.visited V.stopped (flat_map field_events)
+        (fields_within left table.now all.now input.now)
+        visitor.old visitor.new) }
 {
     let mut rest = input;
     for next in all {
@@ -224,9 +247,9 @@ fn field<'i, V: ValueVisitor>(
     ensures ok { IfOk result (λ rest.
         HasVisited V.visited field_events (field_within left table.now next.now input.now)
         rest.now visitor.old visitor.new) }
-    ensures err { IfErr result
-        (IsVisitErrorOf V.may_stop (field_within left table.now next.now input.now) visitor.old) }
-    ensures keeps { OnErr result (V.kept visitor.old visitor.new) }
+    ensures err { IfErr result (IsVisitErrorOf V.visited V.stopped field_events
+        (field_within left table.now next.now input.now)
+        visitor.old visitor.new) }
 {
     shown(visitor.field(next))?;
     value_within(table, next.ty.id, left - 1, input, visitor)
@@ -243,13 +266,14 @@ fn list<'i, V: ValueVisitor>(
     visitor: &mut V,
 ) -> Result<&'i [u8], VisitError<V::Error>>
     requires { 1 ≤ left }
-    ensures ok { IfOk result (λ rest.
-        HasVisited V.visited events_of
-        (outcome_map dyn.List (items_within left table.now ty.now count input.now))
+    ensures ok { IfOk result (λ rest. HasVisited V.visited
+        (bracketed (begin_list count) (flat_map events_of) end_list)
+        (items_within left table.now ty.now count input.now)
         rest.now visitor.old visitor.new) }
-    ensures err { IfErr result (IsVisitErrorOf V.may_stop
-        (outcome_map dyn.List (items_within left table.now ty.now count input.now)) visitor.old) }
-    ensures keeps { OnErr result (V.kept visitor.old visitor.new) }
+    ensures err { IfErr result (IsVisitErrorOf V.visited V.stopped
+        (bracketed (begin_list count) (flat_map events_of) end_list)
+        (items_within left table.now ty.now count input.now)
+        visitor.old visitor.new) }
 {
     if count == 0 {
         shown(visitor.begin_list(0))?;
@@ -289,16 +313,14 @@ fn list_by<'i, V: ValueVisitor>(
     visitor: &mut V,
 ) -> Result<&'i [u8], VisitError<V::Error>>
     requires { 1 ≤ left }
-    ensures ok { IfOk result (λ rest.
-        HasVisited V.visited events_of
-        (outcome_map dyn.List
-        (in_turn (replicate count (definition_within left table.now definition.now)) input.now))
+    ensures ok { IfOk result (λ rest. HasVisited V.visited
+        (bracketed (begin_list count) (flat_map events_of) end_list)
+        (in_turn (replicate count (definition_within left table.now definition.now)) input.now)
         rest.now visitor.old visitor.new) }
-    ensures err { IfErr result (IsVisitErrorOf V.may_stop
-        (outcome_map dyn.List
-        (in_turn (replicate count (definition_within left table.now definition.now)) input.now))
-        visitor.old) }
-    ensures keeps { OnErr result (V.kept visitor.old visitor.new) }
+    ensures err { IfErr result (IsVisitErrorOf V.visited V.stopped
+        (bracketed (begin_list count) (flat_map events_of) end_list)
+        (in_turn (replicate count (definition_within left table.now definition.now)) input.now)
+        visitor.old visitor.new) }
 {
     if is_byte(definition) {
         return list_of_bytes(count, input, visitor);
@@ -315,14 +337,14 @@ fn list_of_bytes<'i, V: ValueVisitor>(
     input: &'i [u8],
     visitor: &mut V,
 ) -> Result<&'i [u8], VisitError<V::Error>>
-    ensures ok { IfOk result (λ rest.
-        HasVisited V.visited events_of
-        (outcome_map dyn.List (in_turn (replicate count (primitive kind.U8)) input.now))
+    ensures ok { IfOk result (λ rest. HasVisited V.visited
+        (bracketed (begin_list count) (flat_map events_of) end_list)
+        (in_turn (replicate count (primitive kind.U8)) input.now)
         rest.now visitor.old visitor.new) }
-    ensures err { IfErr result (IsVisitErrorOf V.may_stop
-        (outcome_map dyn.List (in_turn (replicate count (primitive kind.U8)) input.now))
-        visitor.old) }
-    ensures keeps { OnErr result (V.kept visitor.old visitor.new) }
+    ensures err { IfErr result (IsVisitErrorOf V.visited V.stopped
+        (bracketed (begin_list count) (flat_map events_of) end_list)
+        (in_turn (replicate count (primitive kind.U8)) input.now)
+        visitor.old visitor.new) }
 {
     let (all, rest) = bytes(count as usize, input)?;
     shown(visitor.bytes(all))?;
@@ -345,10 +367,9 @@ fn items<'i, V: ValueVisitor>(
         HasVisited V.visited (flat_map events_of)
         (in_turn (replicate count (definition_within left table.now definition.now)) input.now)
         rest.now visitor.old visitor.new) }
-    ensures err { IfErr result (IsVisitErrorOf V.may_stop
+    ensures err { IfErr result (IsVisitErrorOf V.visited V.stopped (flat_map events_of)
         (in_turn (replicate count (definition_within left table.now definition.now)) input.now)
-        visitor.old) }
-    ensures keeps { OnErr result (V.kept visitor.old visitor.new) }
+        visitor.old visitor.new) }
 {
     if let TypeDef::Primitive(kind) = definition {
         return primitives(kind, count, input, visitor);
@@ -370,13 +391,14 @@ fn members<'i, V: ValueVisitor>(
     visitor: &mut V,
 ) -> Result<&'i [u8], VisitError<V::Error>>
     requires { 1 ≤ left }
-    ensures ok { IfOk result (λ rest.
-        HasVisited V.visited events_of
-        (outcome_map dyn.List (members_within left table.now types.now input.now))
+    ensures ok { IfOk result (λ rest. HasVisited V.visited
+        (bracketed (begin_list (length types.now)) (flat_map events_of) end_list)
+        (members_within left table.now types.now input.now)
         rest.now visitor.old visitor.new) }
-    ensures err { IfErr result (IsVisitErrorOf V.may_stop
-        (outcome_map dyn.List (members_within left table.now types.now input.now)) visitor.old) }
-    ensures keeps { OnErr result (V.kept visitor.old visitor.new) }
+    ensures err { IfErr result (IsVisitErrorOf V.visited V.stopped
+        (bracketed (begin_list (length types.now)) (flat_map events_of) end_list)
+        (members_within left table.now types.now input.now)
+        visitor.old visitor.new) }
 {
     shown(visitor.begin_list(types.len()))?;
     let rest = each_member(table, types, left, input, visitor)?;
@@ -397,9 +419,9 @@ fn each_member<'i, V: ValueVisitor>(
     ensures ok { IfOk result (λ rest.
         HasVisited V.visited (flat_map events_of)
         (members_within left table.now types.now input.now) rest.now visitor.old visitor.new) }
-    ensures err { IfErr result (IsVisitErrorOf V.may_stop
-        (members_within left table.now types.now input.now) visitor.old) }
-    ensures keeps { OnErr result (V.kept visitor.old visitor.new) }
+    ensures err { IfErr result (IsVisitErrorOf V.visited V.stopped (flat_map events_of)
+        (members_within left table.now types.now input.now)
+        visitor.old visitor.new) }
 {
     let mut rest = input;
     for ty in types {
@@ -420,14 +442,14 @@ fn pairs<'i, V: ValueVisitor>(
     visitor: &mut V,
 ) -> Result<&'i [u8], VisitError<V::Error>>
     requires { 1 ≤ left }
-    ensures ok { IfOk result (λ rest.
-        HasVisited V.visited events_of
-        (outcome_map dyn.List (pairs_within left table.now key.now value.now count input.now))
+    ensures ok { IfOk result (λ rest. HasVisited V.visited
+        (bracketed (begin_list count) (flat_map events_of) end_list)
+        (pairs_within left table.now key.now value.now count input.now)
         rest.now visitor.old visitor.new) }
-    ensures err { IfErr result (IsVisitErrorOf V.may_stop
-        (outcome_map dyn.List (pairs_within left table.now key.now value.now count input.now))
-        visitor.old) }
-    ensures keeps { OnErr result (V.kept visitor.old visitor.new) }
+    ensures err { IfErr result (IsVisitErrorOf V.visited V.stopped
+        (bracketed (begin_list count) (flat_map events_of) end_list)
+        (pairs_within left table.now key.now value.now count input.now)
+        visitor.old visitor.new) }
 {
     shown(visitor.begin_list(count as usize))?;
     let rest = each_pair(table, key, value, count, left, input, visitor)?;
@@ -451,9 +473,9 @@ fn each_pair<'i, V: ValueVisitor>(
         HasVisited V.visited (flat_map events_of)
         (pairs_within left table.now key.now value.now count input.now)
         rest.now visitor.old visitor.new) }
-    ensures err { IfErr result (IsVisitErrorOf V.may_stop
-        (pairs_within left table.now key.now value.now count input.now) visitor.old) }
-    ensures keeps { OnErr result (V.kept visitor.old visitor.new) }
+    ensures err { IfErr result (IsVisitErrorOf V.visited V.stopped (flat_map events_of)
+        (pairs_within left table.now key.now value.now count input.now)
+        visitor.old visitor.new) }
 {
     let mut rest = input;
     for _ in 0..count {
@@ -473,12 +495,14 @@ fn pair<'i, V: ValueVisitor>(
     visitor: &mut V,
 ) -> Result<&'i [u8], VisitError<V::Error>>
     requires { 1 ≤ left }
-    ensures ok { IfOk result (λ rest.
-        HasVisited V.visited events_of (pair_within left table.now key.now value.now input.now)
+    ensures ok { IfOk result (λ rest. HasVisited V.visited
+        (bracketed (begin_list 2) (flat_map events_of) end_list)
+        (in_turn (key_then_value left table.now key.now value.now) input.now)
         rest.now visitor.old visitor.new) }
-    ensures err { IfErr result (IsVisitErrorOf V.may_stop
-        (pair_within left table.now key.now value.now input.now) visitor.old) }
-    ensures keeps { OnErr result (V.kept visitor.old visitor.new) }
+    ensures err { IfErr result (IsVisitErrorOf V.visited V.stopped
+        (bracketed (begin_list 2) (flat_map events_of) end_list)
+        (in_turn (key_then_value left table.now key.now value.now) input.now)
+        visitor.old visitor.new) }
 {
     shown(visitor.begin_list(2))?;
     let rest = key_and_value(table, key, value, left, input, visitor)?;
@@ -501,9 +525,9 @@ fn key_and_value<'i, V: ValueVisitor>(
         HasVisited V.visited (flat_map events_of)
         (in_turn (key_then_value left table.now key.now value.now) input.now)
         rest.now visitor.old visitor.new) }
-    ensures err { IfErr result (IsVisitErrorOf V.may_stop
-        (in_turn (key_then_value left table.now key.now value.now) input.now) visitor.old) }
-    ensures keeps { OnErr result (V.kept visitor.old visitor.new) }
+    ensures err { IfErr result (IsVisitErrorOf V.visited V.stopped (flat_map events_of)
+        (in_turn (key_then_value left table.now key.now value.now) input.now)
+        visitor.old visitor.new) }
 {
     let inner = left.saturating_sub(2);
     let rest = value_within(table, key.id, inner, input, visitor)?;

@@ -6,49 +6,52 @@ use Rattle.scale_info_visit.proofs.Visiting.{IsVisiting}
 use Rattle.scale_info_visit.proofs.visit.+visit.Given as goal
 
 abbrev pub decreases-value_within : goal.decreases-value_within
-decreases-value_within g l = 6 * l.left
+decreases-value_within g l = 7 * l.left
 
 abbrev pub decreases-value_by : goal.decreases-value_by
-decreases-value_by g l = 6 * l.left - 1
+decreases-value_by g l = 7 * l.left - 1
 
 abbrev pub decreases-record : goal.decreases-record
-decreases-record g l = 6 * l.left - 2
+decreases-record g l = 7 * l.left - 3
 
 abbrev pub decreases-variant : goal.decreases-variant
-decreases-variant g l = 6 * l.left - 2
+decreases-variant g l = 7 * l.left - 2
+
+abbrev pub decreases-chosen : goal.decreases-chosen
+decreases-chosen g l = 7 * l.left - 3
 
 abbrev pub decreases-fields : goal.decreases-fields
-decreases-fields g l = 6 * l.left - 3
+decreases-fields g l = 7 * l.left - 4
 
 abbrev pub decreases-field : goal.decreases-field
-decreases-field g l = 6 * l.left - 4
+decreases-field g l = 7 * l.left - 5
 
 abbrev pub decreases-list : goal.decreases-list
-decreases-list g l = 6 * l.left - 2
+decreases-list g l = 7 * l.left - 2
 
 abbrev pub decreases-list_by : goal.decreases-list_by
-decreases-list_by g l = 6 * l.left + 1
+decreases-list_by g l = 7 * l.left + 1
 
 abbrev pub decreases-items : goal.decreases-items
-decreases-items g l = 6 * l.left
+decreases-items g l = 7 * l.left
 
 abbrev pub decreases-members : goal.decreases-members
-decreases-members g l = 6 * l.left - 2
+decreases-members g l = 7 * l.left - 2
 
 abbrev pub decreases-each_member : goal.decreases-each_member
-decreases-each_member g l = 6 * l.left - 3
+decreases-each_member g l = 7 * l.left - 3
 
 abbrev pub decreases-pairs : goal.decreases-pairs
-decreases-pairs g l = 6 * l.left - 2
+decreases-pairs g l = 7 * l.left - 2
 
 abbrev pub decreases-each_pair : goal.decreases-each_pair
-decreases-each_pair g l = 6 * l.left - 3
+decreases-each_pair g l = 7 * l.left - 3
 
 abbrev pub decreases-pair : goal.decreases-pair
-decreases-pair g l = 6 * l.left - 4
+decreases-pair g l = 7 * l.left - 4
 
 abbrev pub decreases-key_and_value : goal.decreases-key_and_value
-decreases-key_and_value g l = 6 * l.left - 5
+decreases-key_and_value g l = 7 * l.left - 5
 
 abbrev pub invariant-items-loop : goal.invariant-items-loop
 invariant-items-loop g l =
