@@ -5,7 +5,7 @@ use Rattle.std.proofs.lemmas.List.{append-nil, length-map}
 use Rattle.std.proofs.lemmas.Grind.{common_steps}
 use Rattle.std.specs.List.{flat_map}
 use Rattle.scale_info_types.specs.Portable.{Id, Text, Field, Variant, TypeDef, TypeDefComposite, TypeDefVariant}
-use Rattle.scale_info_types.specs.Portable.{TypeDefSequence, TypeDefTuple, TypeDefMap}
+use Rattle.scale_info_types.specs.Portable.{TypeDefSequence, TypeDefArray, TypeDefTuple, TypeDefMap}
 use Rattle.scale_info_types.specs.declared.ty.TypeDef.TheVariants as def
 use Rattle.scale_info_types.specs.Shapes.{map_field}
 use Rattle.scale_info_tables.specs.declared.portable.PortableRegistry.{PortableRegistry}
@@ -15,13 +15,16 @@ use Rattle.scale_info_value.specs.Outcomes.{Outcome, decoded, failed, Decoder, a
 use Rattle.scale_info_value.specs.ValueDefinitions.{field}
 use Rattle.scale_info_value.specs.Readings.{fields_within, part_within, value_within}
 use Rattle.scale_info_value.specs.Readings.{definition_within, variant_within, items_within, members_within, pairs_within}
-use Rattle.scale_info_visit.specs.Events.{Event, begin_list, end_list, begin_record, end_record, keys, names, events_of, field_events}
-use Rattle.scale_info_visit.specs.Events.{begin_of, end_of, begin_variant, end_variant}
+use Rattle.scale_info_visit.specs.Events.{Event, begin_list, end_list, begin_record, end_record, keys, names, all_named}
+use Rattle.scale_info_visit.specs.Events.{begin_of, end_of, begin_variant, end_variant, bytes, unsigned, events, events_by}
+use Rattle.scale_info_visit.specs.Events.{fields_of, definition_at, pair_of, is_byte, in_place, list_events, joined}
 use Rattle.scale_info_visit.specs.Events.{field as name_of}
 use Rattle.scale_info_value.specs.IntegerDecoders.{byte, count}
 use Rattle.scale_info_value.proofs.Steps.{variant_found, composite_is}
-use Rattle.scale_info_visit.specs.Visits.{HasVisited, field_within, bracketed}
-use Rattle.scale_info_visit.proofs.Events.{list_events, record_events, variant_events}
+use Rattle.scale_info_visit.specs.Visits.{HasVisited, field_within, bracketed, placed, value_by, field_by}
+use Rattle.scale_info_visit.specs.Visits.{fields_by, items_by, members_by, list_by}
+use Rattle.scale_info_visit.proofs.Events.{list_typed, record_typed, variant_typed, integers_alone, integers_joined}
+use Rattle.scale_info_visit.proofs.Places.{length_in_place}
 use Rattle.scale_info_visit.proofs.Visiting.{Appends, AreNext, IsNext, are_next}
 use Rattle.scale_info_visit.proofs.Turns.{mapped_from, with_first, as_many}
 
@@ -49,36 +52,104 @@ named_alike left table (x ∷ all) input fs rest e =
     let others = named_alike left table all p.1 p.2 rest p.4 in
     ap keys p.5 ∙ (λ i. name i ∷ others i)
 
--- the events of a list of so many
-pub list_same :
-    (outcome : Outcome (List Dyn)) (n : ℕ)
-    → ((vs : List Dyn) (rest : List ℕ) → outcome ≡ decoded vs rest → length vs ≡ n)
-    → (vs : List Dyn) (rest : List ℕ) → outcome ≡ decoded vs rest
-    → events_of (dyn.List vs) ≡ bracketed (begin_list n) (flat_map events_of) end_list vs
-list_same outcome n long vs rest e =
-    list_events vs ∙ ap (λ m. bracketed (begin_list m) (flat_map events_of) end_list vs) (long vs rest e)
-
 -- the events of a record of these fields
 pub record_same :
-    (left : ℕ) (table : PortableRegistry) (all : List Field) (input : List ℕ) (fs : List (Option Text × Dyn)) (rest : List ℕ)
-    → fields_within left table all input ≡ decoded fs rest
-    → events_of (dyn.Record fs) ≡ bracketed (begin_record (names all)) (flat_map field_events) (end_record (names all)) fs
-record_same left table all input fs rest e =
-    record_events fs
-    ∙ ap (λ ns. bracketed (begin_record ns) (flat_map field_events) (end_record ns) fs)
+    (left : ℕ) (table : PortableRegistry) (d : TypeDef) (composite : TypeDefComposite) (all : List Field) (input : List ℕ)
+    → d ≡ def.Composite composite → all ≡ composite.fields
+    → (fs : List (Option Text × Dyn)) (rest : List ℕ) → fields_within left table all input ≡ decoded fs rest
+    → events_by table (Some d) (dyn.Record fs)
+    ≡ bracketed (begin_record (names all)) (fields_by table (all_named (names all)) all) (end_record (names all)) fs
+record_same left table d composite all input is whole fs rest e =
+    ap (λ t. events_by table (Some t) (dyn.Record fs)) is
+    ∙ record_typed table (Some (def.Composite composite)) fs
+    ∙ ap (λ l. bracketed (begin_record (keys fs)) (fields_by table (all_named (keys fs)) l) (end_record (keys fs)) fs) (sym whole)
+    ∙ ap (λ ns. bracketed (begin_record ns) (fields_by table (all_named ns) all) (end_record ns) fs)
     (named_alike left table all input fs rest e)
 
 -- the events of a variant
 pub variant_same :
-    (left : ℕ) (table : PortableRegistry) (variant : Variant) (input : List ℕ) (fs : List (Option Text × Dyn)) (rest : List ℕ)
-    → fields_within left table variant.fields input ≡ decoded fs rest
-    → events_of (dyn.Variant variant.name variant.index fs)
-    ≡ bracketed (begin_of variant) (flat_map field_events) (end_of variant) fs
-variant_same left table variant input fs rest e =
-    variant_events variant.name variant.index fs
-    ∙ ap (λ ns. bracketed (begin_variant variant.name variant.index ns) (flat_map field_events)
-    (end_variant variant.name variant.index ns) fs)
+    (left : ℕ) (table : PortableRegistry) (choice : TypeDefVariant) (variant : Variant) (input : List ℕ)
+    → find (λ v. v.index == variant.index) choice.variants ≡ Some variant
+    → (fs : List (Option Text × Dyn)) (rest : List ℕ) → fields_within left table variant.fields input ≡ decoded fs rest
+    → events_by table (Some (def.Variant choice)) (dyn.Variant variant.name variant.index fs)
+    ≡ bracketed (begin_of variant) (fields_by table (all_named (names variant.fields)) variant.fields) (end_of variant) fs
+variant_same left table choice variant input found fs rest e =
+    variant_typed table (Some (def.Variant choice)) variant.name variant.index fs
+    ∙ ap (λ o. bracketed (begin_variant variant.name variant.index (keys fs))
+    (fields_by table (all_named (keys fs)) (fields_of o)) (end_variant variant.name variant.index (keys fs)) fs) found
+    ∙ ap (λ ns. bracketed (begin_variant variant.name variant.index ns)
+    (fields_by table (all_named ns) variant.fields) (end_variant variant.name variant.index ns) fs)
     (named_alike left table variant.fields input fs rest e)
+
+-- the events of a list that is not shown at once
+list_apart :
+    (table : PortableRegistry) (types : List (Option TypeDef)) (n : ℕ) (vs : List Dyn) → length vs ≡ n
+    → list_events false (in_place (value_by table) vs types) ≡ bracketed (begin_list n) (placed (value_by table) types) end_list vs
+list_apart table types n vs long =
+    ap (λ m. bracketed (begin_list m) (placed (value_by table) types) end_list vs)
+    (length_in_place (value_by table) vs types ∙ long)
+
+-- the events of a sequence
+pub sequence_same :
+    (table : PortableRegistry) (d : TypeDef) (sequence : TypeDefSequence) (n : ℕ) (vs : List Dyn)
+    → d ≡ def.Sequence sequence → length vs ≡ n
+    → events_by table (Some d) (dyn.List vs) ≡ list_by table (definition_at table sequence.type_param.id) n vs
+sequence_same table d sequence n vs is long =
+    ap (λ t. events_by table (Some t) (dyn.List vs)) is
+    ∙ list_typed table (Some (def.Sequence sequence)) vs
+    ∙ ap (λ m. list_by table (definition_at table sequence.type_param.id) m vs) long
+
+-- the events of an array
+pub array_same :
+    (table : PortableRegistry) (d : TypeDef) (array : TypeDefArray) (vs : List Dyn)
+    → d ≡ def.Array array → length vs ≡ array.len
+    → events_by table (Some d) (dyn.List vs) ≡ list_by table (definition_at table array.type_param.id) array.len vs
+array_same table d array vs is long =
+    ap (λ t. events_by table (Some t) (dyn.List vs)) is
+    ∙ list_typed table (Some (def.Array array)) vs
+    ∙ ap (λ m. list_by table (definition_at table array.type_param.id) m vs) long
+
+-- the events of a tuple
+pub tuple_same :
+    (table : PortableRegistry) (d : TypeDef) (tuple : TypeDefTuple) (ids : List Id) (vs : List Dyn)
+    → d ≡ def.Tuple tuple → ids ≡ tuple.fields → length vs ≡ length ids
+    → events_by table (Some d) (dyn.List vs) ≡ bracketed (begin_list (length ids)) (members_by table ids) end_list vs
+tuple_same table d tuple ids vs is whole long =
+    ap (λ t. events_by table (Some t) (dyn.List vs)) is
+    ∙ list_typed table (Some (def.Tuple tuple)) vs
+    ∙ ap (λ l. list_events false (in_place (value_by table) vs (map (λ t. definition_at table t.id) l))) (sym whole)
+    ∙ list_apart table (map (λ t. definition_at table t.id) ids) (length ids) vs long
+
+-- the events of a map
+pub map_same :
+    (table : PortableRegistry) (d : TypeDef) (entries : TypeDefMap) (n : ℕ) (vs : List Dyn)
+    → d ≡ def.Map entries → length vs ≡ n
+    → events_by table (Some d) (dyn.List vs)
+    ≡ bracketed (begin_list n) (items_by table (Some (pair_of entries.key entries.value)) n) end_list vs
+map_same table d entries n vs is long =
+    let pair : Option TypeDef = Some (pair_of entries.key entries.value) in
+    ap (λ t. events_by table (Some t) (dyn.List vs)) is
+    ∙ list_typed table (Some (def.Map entries)) vs
+    ∙ ap (λ m. list_events false (in_place (value_by table) vs (replicate m pair))) long
+    ∙ list_apart table (replicate n pair) n vs long
+
+-- the events of items that are no bytes
+pub items_same :
+    (table : PortableRegistry) (d : TypeDef) (n : ℕ) (vs : List Dyn)
+    → is_byte (Some d) ≡ false → length vs ≡ n
+    → list_by table (Some d) n vs ≡ bracketed (begin_list n) (items_by table (Some d) n) end_list vs
+items_same table d n vs other long =
+    ap (λ b. list_events b (in_place (value_by table) vs (replicate n (Some d)))) other
+    ∙ list_apart table (replicate n (Some d)) n vs long
+
+-- the events of bytes
+pub bytes_same :
+    (table : PortableRegistry) (d : TypeDef) (n : ℕ) (all : List ℕ)
+    → is_byte (Some d) ≡ true → list_by table (Some d) n (map dyn.Unsigned all) ≡ bytes all ∷ []
+bytes_same table d n all byte_sized =
+    ap (λ b. list_events b (in_place (value_by table) (map dyn.Unsigned all) (replicate n (Some d)))) byte_sized
+    ∙ ap (λ items. list_events true items) (integers_alone table all (replicate n (Some d)))
+    ∙ ap (λ o. joined o (map (λ m. unsigned m ∷ []) all)) (integers_joined all)
 
 -- of a list from a place on, the first, and the others
 pub first_of :
@@ -110,52 +181,63 @@ field_is :
 field_is left table f input =
     ap (λ name. outcome_map (λ value. (name, value)) (value_within (left - 1) table f.ty.id input)) (same_text f.name)
 
--- a field is shown
-pub field_shown :
-    {V : Type 0} {Visited : List Event → V → V → Type 0} {a b c : V}
-    (left : ℕ) (table : PortableRegistry) (f : Field) (input rest : List ℕ)
-    → Appends Visited
-    → Visited (name_of f.name ∷ []) a b
-    → HasVisited Visited events_of (value_within (left - 1) table f.ty.id input) rest b c
-    → HasVisited Visited field_events (field_within left table f input) rest a c
-field_shown {Visited = Visited} {a} {b} {c} left table f input rest append p q = record {
-  value = (f.name, q.value);
-  read = field_is left table f input ∙ ap (λ o. outcome_map (λ value. (f.name, value)) o) q.read;
-  visited = append (name_of f.name ∷ []) (events_of q.value) a b c p q.visited;
-}
+-- the events of a field's value by its type
+abbrev pub value_typed : PortableRegistry → Field → Dyn → List Event
+value_typed table f = events table f.ty.id
 
--- the name of a field comes next
-pub at_name :
-    {V : Type 0} {Visited : List Event → V → V → Type 0} {a : V}
-    (left : ℕ) (table : PortableRegistry) (f : Field) (input : List ℕ)
-    → Visited [] a a → AreNext Visited field_events (name_of f.name ∷ []) (field_within left table f input) a a
-at_name left table f input none =
-    are_next [] none (λ v rest read.
-    let whole = mapped_from (λ value. (f.name, value)) (value_within (left - 1) table f.ty.id input) v rest
-    (sym (field_is left table f input) ∙ read) in
-    (events_of whole.0, ap field_events whole.2))
+-- those of the field
+abbrev pub field_typed : PortableRegistry → Field → Bool → Option Text × Dyn → List Event
+field_typed table f named v = field_by table named v (definition_at table f.ty.id)
 
--- the value of a field comes next
-pub in_field :
-    {V : Type 0} {Visited : List Event → V → V → Type 0} {a b : V}
-    (left : ℕ) (table : PortableRegistry) (f : Field) (input : List ℕ)
-    → Visited (name_of f.name ∷ []) a b
-    → IsNext Visited field_events events_of (field_within left table f input) (value_within (left - 1) table f.ty.id input) a b
-in_field left table f input p = record {
-  before = name_of f.name ∷ [];
-  visited = p;
-  fails = λ why e. field_is left table f input ∙ ap (λ o. outcome_map (λ value. (f.name, value)) o) e;
-  contains = λ v rest read.
+module _
+    {V : Type 0} {Visited : List Event → V → V → Type 0} {a : V} (left : ℕ) (table : PortableRegistry) (f : Field)
+    (named : Bool) (input : List ℕ) where
+  -- a field is shown
+  pub field_shown :
+      {b c : V} (rest : List ℕ) → Appends Visited
+      → Visited (name_of f.name named ∷ []) a b
+      → HasVisited Visited (value_typed table f) (value_within (left - 1) table f.ty.id input) rest b c
+      → HasVisited Visited (field_typed table f named) (field_within left table f input) rest a c
+  field_shown {b} {c} rest append p q = record {
+    value = (f.name, q.value);
+    read = field_is left table f input ∙ ap (λ o. outcome_map (λ value. (f.name, value)) o) q.read;
+    visited = append (name_of f.name named ∷ []) ((value_typed table f) q.value) a b c p q.visited;
+  }
+
+  -- the name of a field comes next
+  pub at_name :
+      Visited [] a a → AreNext Visited (field_typed table f named) (name_of f.name named ∷ []) (field_within left table f input) a a
+  at_name none =
+      are_next [] none (λ v rest read.
       let whole = mapped_from (λ value. (f.name, value)) (value_within (left - 1) table f.ty.id input) v rest
       (sym (field_is left table f input) ∙ read) in
-      record {
-        of = whole.0;
-        rest = rest;
-        after = [];
-        read = whole.1;
-        parts = ap field_events whole.2 ∙ ap (λ es. name_of f.name ∷ es) (sym (append-nil (events_of whole.0)));
-      };
-}
+      ((value_typed table f) whole.0, ap (field_typed table f named) whole.2))
+
+  -- the value of a field comes next
+  pub in_field :
+      {b : V} → Visited (name_of f.name named ∷ []) a b
+      → IsNext Visited (field_typed table f named) (value_typed table f) (field_within left table f input) (value_within (left - 1) table f.ty.id input) a b
+  in_field p = record {
+    before = name_of f.name named ∷ [];
+    visited = p;
+    fails = λ why e. field_is left table f input ∙ ap (λ o. outcome_map (λ value. (f.name, value)) o) e;
+    contains = λ v rest read.
+        let whole = mapped_from (λ value. (f.name, value)) (value_within (left - 1) table f.ty.id input) v rest
+        (sym (field_is left table f input) ∙ read) in
+        record {
+          of = whole.0;
+          rest = rest;
+          after = [];
+          read = whole.1;
+          parts = ap (field_typed table f named) whole.2 ∙ ap (λ es. name_of f.name named ∷ es) (sym (append-nil ((value_typed table f) whole.0)));
+        };
+  }
+
+-- what is found by an index is found by its own
+pub found_itself :
+    (index : ℕ) (vs : List Variant) (v : Variant)
+    → find (λ w. w.index == index) vs ≡ Some v → find (λ w. w.index == v.index) vs ≡ Some v
+found_itself index vs v e = ap (λ i. find (λ w. w.index == i) vs) (sym (found_index index vs v e)) ∙ e
 
 -- a composite, by the definition
 pub composite_by :
@@ -164,14 +246,6 @@ pub composite_by :
     → definition_within left table d input ≡ outcome_map dyn.Record (fields_within left table fs input)
 composite_by left table d composite fs input e f =
     ap (λ t. definition_within left table t input) e ∙ composite_is left table composite fs input f
-
--- an enum goes by its variants
-pub variant_is :
-    (left : ℕ) (table : PortableRegistry) (d : TypeDef) (choice : TypeDefVariant) (vs : List Variant) (input : List ℕ)
-    → d ≡ def.Variant choice → vs ≡ choice.variants
-    → definition_within left table d input ≡ variant_within left table vs input
-variant_is left table d choice vs input e f =
-    ap (λ t. definition_within left table t input) e ∙ ap (λ l. variant_within left table l input) (sym f)
 
 -- a tuple, by the definition
 pub tuple_by :

@@ -1,5 +1,5 @@
 -- Visits of one part after another.
-use Rattle.std.proofs.Common.{◌≡◌, ℕ, List, [], ◌∷◌, ◌++◌, ap, sym, subst, refl, ◌∙◌, append_assoc}
+use Rattle.std.proofs.Common.{◌≡◌, ℕ, ◌+◌, List, [], ◌∷◌, ◌++◌, length, drop, Option, ap, sym, subst, refl, ◌∙◌, append_assoc, length-append}
 use Rattle.std.proofs.Common.{Result, Ok, Err}
 use Rattle.std.specs.Prelude.{OnOk, IfErr}
 use Rattle.std.specs.Result.{IsErrAnd}
@@ -12,8 +12,10 @@ use Rattle.scale_info_value.specs.Outcomes.{Outcome, decoded, failed, Decoder, a
 use Rattle.scale_info_value.proofs.InOrder.{preceded, nothing_before, reads_one, reads_none, first_fails}
 use Rattle.scale_info_visit.specs.declared.visitor.VisitError.{VisitError}
 use Rattle.scale_info_visit.specs.declared.visitor.VisitError.TheVariants as error
+use Rattle.scale_info_types.specs.Portable.{TypeDef}
 use Rattle.scale_info_visit.specs.Events.{Event}
-use Rattle.scale_info_visit.specs.Visits.{HasVisited, HasFailed, StopsWithin, IsVisitErrorOf, bracketed}
+use Rattle.scale_info_visit.specs.Visits.{HasVisited, HasFailed, StopsWithin, IsVisitErrorOf, bracketed, placed}
+use Rattle.scale_info_visit.proofs.Places.{placed_append}
 use Rattle.scale_info_visit.proofs.Turns.{Parts, with_first, mapped_from, preceded_from}
 
 -- events do what they do one after another
@@ -103,6 +105,17 @@ pub passed_on :
     {X D : Type 0} (r : Result X D) (e : D) (P : D → Type 0) → IsErrAnd r (λ d. d ≡ e) → P e → IfErr r P
 passed_on (Ok x) e P h p = tt
 passed_on (Err d) e P h p = subst P (sym h) p
+
+-- what an answer gives, by what it gives
+pub on_ok_after : {E : Type 0} {P Q : Type 0} (answer : Result (Unit {0}) E) → (P → Q) → OnOk answer P → OnOk answer Q
+on_ok_after (Ok x) f h = f h
+on_ok_after (Err e) f h = tt
+
+-- what an error gives, by what it gives
+pub within_after :
+    {X E : Type 0} {P Q : E → Type 0} (answer : Result X E) → ((e : E) → P e → Q e) → IfErr answer P → IfErr answer Q
+within_after (Ok x) f h = tt
+within_after (Err e) f h = f e h
 
 -- where it refused the last of some events, it was shown the first of them
 pub within :
@@ -212,62 +225,100 @@ whole_next {events = events} {outcome} {rest} value es none e f =
     are_next [] none (λ other left read.
     ([], ap events (same_value outcome other value left rest read e) ∙ f ∙ sym (append-nil es)))
 
--- some of the parts were decoded and shown, and `left` comes of the others
-pub record IsVisiting {A V : Type 0} (Visited : List Event → V → V → Type 0) (events : A → List Event)
-    (whole left : Outcome (List A)) (old now : V) : Type 0 where
-  pub done : List A
-  pub read : whole ≡ preceded done left
-  pub visited : Visited (flat_map events done) old now
+-- After so many parts, the events of one part more are `alone`, and those of the parts after it follow.
+pub record Adds {A : Type 0} (shows : List A → List Event) (alone : A → List Event) (count : ℕ) : Type 0 where
+  pub one : (done : List A) (part : A) → length done ≡ count → shows (done ++ part ∷ []) ≡ shows done ++ alone part
+  pub more :
+      (done : List A) (part : A) (others : List A) → length done ≡ count
+      → (after : List Event) × (shows (done ++ part ∷ others) ≡ shows done ++ (alone part ++ after))
 
-module _ {A V : Type 0} {Visited : List Event → V → V → Type 0} {events : A → List Event} where
+-- so it is where each part is shown alike
+pub adds_alike : {A : Type 0} (alone : A → List Event) (count : ℕ) → Adds (flat_map alone) alone count
+adds_alike alone count = record {
+  one = λ done part long.
+      flat_map-append alone done (part ∷ []) ∙ ap (λ es. flat_map alone done ++ es) (append-nil (alone part));
+  more = λ done part others long. (flat_map alone others, flat_map-append alone done (part ∷ others));
+}
+
+-- so it is where each part is shown with the definition at its place
+pub adds_placed :
+    {A : Type 0} (shows : A → Option TypeDef → List Event) (types later : List (Option TypeDef)) (type : Option TypeDef) (count : ℕ)
+    → drop count types ≡ type ∷ later → Adds (placed shows types) (λ part. shows part type) count
+adds_placed shows types later type count here = record {
+  one = λ done part long.
+      placed_append shows types done (part ∷ [])
+      ∙ ap (λ ts. placed shows types done ++ placed shows ts (part ∷ [])) (ap (λ n. drop n types) long ∙ here)
+      ∙ ap (λ es. placed shows types done ++ es) (append-nil (shows part type));
+  more = λ done part others long.
+      (placed shows later others,
+      placed_append shows types done (part ∷ others)
+      ∙ ap (λ ts. placed shows types done ++ placed shows ts (part ∷ others)) (ap (λ n. drop n types) long ∙ here));
+}
+
+-- some of the parts, so many, were decoded and shown, and `left` comes of the others
+pub record IsVisiting {A V : Type 0} (Visited : List Event → V → V → Type 0) (shows : List A → List Event)
+    (count : ℕ) (whole left : Outcome (List A)) (old now : V) : Type 0 where
+  pub done : List A
+  pub long : length done ≡ count
+  pub read : whole ≡ preceded done left
+  pub visited : Visited (shows done) old now
+
+module _ {A V : Type 0} {Visited : List Event → V → V → Type 0} {shows : List A → List Event} where
   -- before the first part
-  pub begins : {whole : Outcome (List A)} {old : V} → Visited [] old old → IsVisiting Visited events whole whole old old
-  begins {whole} h = record { done = []; read = nothing_before whole; visited = h }
+  pub begins :
+      {whole : Outcome (List A)} {old : V} → shows [] ≡ [] → Visited [] old old → IsVisiting Visited shows 0 whole whole old old
+  begins {whole} {old} none h = record {
+    done = [];
+    long = refl;
+    read = nothing_before whole;
+    visited = subst (λ es. Visited es old old) (sym none) h;
+  }
 
   -- one part more
   pub goes_on :
-      {whole : Outcome (List A)} (first : Decoder A) (more : List (Decoder A)) (rest after : List ℕ) {old now new : V}
-      → Appends Visited
-      → IsVisiting Visited events whole (in_turn (first ∷ more) rest) old now
-      → HasVisited Visited events (first rest) after now new
-      → IsVisiting Visited events whole (in_turn more after) old new
-  goes_on first more rest after {old} {now} {new} append p q = record {
+      {alone : A → List Event} {whole : Outcome (List A)} {count : ℕ}
+      (first : Decoder A) (more : List (Decoder A)) (rest after : List ℕ) {old now new : V}
+      → Appends Visited → Adds shows alone count
+      → IsVisiting Visited shows count whole (in_turn (first ∷ more) rest) old now
+      → HasVisited Visited alone (first rest) after now new
+      → IsVisiting Visited shows (count + 1) whole (in_turn more after) old new
+  goes_on {alone} {whole} {count} first more rest after {old} {now} {new} append adds p q = record {
     done = p.done ++ q.value ∷ [];
+    long = length-append p.done (q.value ∷ []) ∙ ap (λ n. n + 1) p.long;
     read = p.read ∙ reads_one p.done first more rest q.value after q.read;
     visited =
-        subst (λ es. Visited es old new)
-        (ap (λ es. flat_map events p.done ++ es) (sym (append-nil (events q.value)))
-        ∙ sym (flat_map-append events p.done (q.value ∷ [])))
-        (append (flat_map events p.done) (events q.value) old now new p.visited q.visited);
+        subst (λ es. Visited es old new) (sym (adds.one p.done q.value p.long))
+        (append (shows p.done) (alone q.value) old now new p.visited q.visited);
   }
 
   -- no part is left
   pub ends :
-      {whole : Outcome (List A)} (rest : List ℕ) {old new : V}
-      → IsVisiting Visited events whole (in_turn [] rest) old new
-      → HasVisited Visited (flat_map events) whole rest old new
+      {whole : Outcome (List A)} {count : ℕ} (rest : List ℕ) {old new : V}
+      → IsVisiting Visited shows count whole (in_turn [] rest) old new
+      → HasVisited Visited shows whole rest old new
   ends rest p = record { value = p.done; read = p.read ∙ reads_none p.done rest; visited = p.visited }
 
   -- the next part comes next
   pub next_part :
-      {whole : Outcome (List A)} (first : Decoder A) (more : List (Decoder A)) (rest : List ℕ) {old now : V}
-      → IsVisiting Visited events whole (in_turn (first ∷ more) rest) old now
-      → IsNext Visited (flat_map events) events whole (first rest) old now
-  next_part first more rest p = record {
-    before = flat_map events p.done;
+      {alone : A → List Event} {whole : Outcome (List A)} {count : ℕ}
+      (first : Decoder A) (more : List (Decoder A)) (rest : List ℕ) {old now : V}
+      → Adds shows alone count
+      → IsVisiting Visited shows count whole (in_turn (first ∷ more) rest) old now
+      → IsNext Visited shows alone whole (first rest) old now
+  next_part first more rest adds p = record {
+    before = shows p.done;
     visited = p.visited;
     fails = λ why e. p.read ∙ first_fails p.done first more rest why e;
     contains = λ values left read.
         let all = preceded_from p.done (in_turn (first ∷ more) rest) values left (sym p.read ∙ read) in
         let parts = with_first (first rest) more all.0 left all.1 in
+        let next = adds.more p.done parts.0 parts.2 p.long in
         record {
           of = parts.0;
           rest = parts.1;
-          after = flat_map events parts.2;
+          after = next.0;
           read = parts.3;
-          parts =
-              ap (flat_map events) (all.2 ∙ ap (λ vs. p.done ++ vs) parts.5)
-              ∙ flat_map-append events p.done (parts.0 ∷ parts.2);
+          parts = ap shows (all.2 ∙ ap (λ vs. p.done ++ vs) parts.5) ∙ next.1;
         };
   }
 
@@ -300,6 +351,29 @@ module _
           read = p.1;
           parts = ap events p.2 ∙ same p.0 rest p.1 ∙ sym (append-nil (inner p.0));
         };
+  }
+
+-- A value whose events are those of another form of it.
+module _
+    {A V : Type 0} {Visited : List Event → V → V → Type 0} {events inner : A → List Event} {outcome : Outcome A}
+    (same : (x : A) (rest : List ℕ) → outcome ≡ decoded x rest → events x ≡ inner x) where
+  -- it is shown
+  pub shown_as :
+      {rest : List ℕ} {old new : V} → HasVisited Visited inner outcome rest old new → HasVisited Visited events outcome rest old new
+  shown_as {rest} {old} {new} h = record {
+    value = h.value;
+    read = h.read;
+    visited = subst (λ es. Visited es old new) (sym (same h.value rest h.read)) h.visited;
+  }
+
+  -- it comes next
+  pub next_as : {old : V} → Visited [] old old → IsNext Visited events inner outcome outcome old old
+  next_as none = record {
+    before = [];
+    visited = none;
+    fails = λ why e. e;
+    contains = λ value rest read.
+        record { of = value; rest = rest; after = []; read = read; parts = same value rest read ∙ sym (append-nil (inner value)) };
   }
 
 -- Parts between two events.

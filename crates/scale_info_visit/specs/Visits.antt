@@ -1,6 +1,7 @@
 -- What comes of showing a value to a visitor.
-use Rattle.std.specs.Prelude.{◌≡◌, ◌++◌, ℕ, List, [], ◌∷◌, Option}
-use Rattle.scale_info_types.specs.Portable.{Id, Text, Field}
+use Rattle.std.specs.Prelude.{◌≡◌, ◌++◌, ℕ, Bool, List, [], ◌∷◌, Option, map, replicate}
+use Rattle.std.specs.List.{flat_map}
+use Rattle.scale_info_types.specs.Portable.{Id, Text, Field, TypeDef}
 use Rattle.scale_info_types.specs.Shapes.{map_field}
 use Rattle.scale_info_tables.specs.declared.portable.PortableRegistry.{PortableRegistry}
 use Rattle.scale_info_value.specs.declared.value.Failure.{Failure}
@@ -8,7 +9,8 @@ use Rattle.scale_info_value.specs.Outcomes.{Decoder, Outcome, decoded, failed}
 use Rattle.scale_info_value.specs.ValueDefinitions.{field}
 use Rattle.scale_info_value.specs.Readings.{part_within}
 use Rattle.scale_info_value.specs.declared.value.Dyn.{Dyn}
-use Rattle.scale_info_visit.specs.Events.{Event}
+use Rattle.scale_info_visit.specs.Events.{Event, definition_at, field_types, in_place, is_byte}
+use Rattle.scale_info_visit.specs.Events.{list_events, field_events, events_by}
 use Rattle.scale_info_visit.specs.declared.visitor.VisitError.{VisitError}
 use Rattle.scale_info_visit.specs.declared.visitor.VisitError.TheVariants as error
 
@@ -70,6 +72,38 @@ field_within left table f input =
 -- the events of parts between two events
 abbrev pub bracketed : {A : Type 0} → Event → (A → List Event) → Event → A → List Event
 bracketed first inner last parts = first ∷ inner parts ++ last ∷ []
+
+-- parts, each shown with the definition at its place
+abbrev pub placed : {A : Type 0} → (A → Option TypeDef → List Event)
+    → List (Option TypeDef) → List A → List Event
+placed shows types parts = flat_map (λ e. e) (in_place shows parts types)
+
+-- a value with a definition
+abbrev pub value_by : PortableRegistry → Dyn → Option TypeDef → List Event
+value_by table value type = events_by table type value
+
+-- a field with the definition of its value's type
+abbrev pub field_by :
+    PortableRegistry → Bool → Option Text × Dyn → Option TypeDef → List Event
+field_by table named f type = field_events named (f.0, events_by table type f.1)
+
+-- the fields of a record with these
+abbrev pub fields_by :
+    PortableRegistry → Bool → List Field → List (Option Text × Dyn) → List Event
+fields_by table named all = placed (field_by table named) (field_types table all)
+
+-- so many items of one type
+abbrev pub items_by : PortableRegistry → Option TypeDef → ℕ → List Dyn → List Event
+items_by table type count = placed (value_by table) (replicate count type)
+
+-- an item of each type in order
+abbrev pub members_by : PortableRegistry → List Id → List Dyn → List Event
+members_by table types = placed (value_by table) (map (λ t. definition_at table t.id) types)
+
+-- a list of so many items of one type, which are shown at once where they are bytes
+abbrev pub list_by : PortableRegistry → Option TypeDef → ℕ → List Dyn → List Event
+list_by table type count items =
+    list_events (is_byte type) (in_place (value_by table) items (replicate count type))
 
 -- the decoders of a key and a value, which stand in a pair
 abbrev pub key_then_value : ℕ → PortableRegistry → Id → Id → List (Decoder Dyn)

@@ -64,11 +64,11 @@ impl ValueVisitor for Skipping {
         Ok(())
     }
 
-    fn field(&mut self, _next: &Field<PortableForm>) -> Result<(), Infallible> {
+    fn field(&mut self, _next: &Field<PortableForm>, _named: bool) -> Result<(), Infallible> {
         Ok(())
     }
 
-    fn bytes(&mut self, _bytes: &[u8]) -> Result<(), Infallible> {
+    fn bytes(&mut self, _all: &[u8]) -> Result<(), Infallible> {
         Ok(())
     }
 

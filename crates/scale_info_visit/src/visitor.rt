@@ -3,7 +3,7 @@ ghost use Rattle.std.specs.Prelude.{◌≡◌, ◌∷◌, ◌++◌, [], List, Ok
 ghost use Rattle.scale_info_visit.specs.declared.visitor.VisitError.TheVariants as error;
 ghost use Rattle.scale_info_visit.specs.Events.{Event, truth, unsigned, signed, text};
 ghost use Rattle.scale_info_visit.specs.Events.{begin_list, end_list, begin_record, end_record};
-ghost use Rattle.scale_info_visit.specs.Events.{names, begin_of, end_of, field, bytes_events};
+ghost use Rattle.scale_info_visit.specs.Events.{names, begin_of, end_of, field, bytes, integers_events};
 ghost use Rattle.scale_info_visit.specs.Visits.{StopsWithin};
 
 use scale_info_types::form::PortableForm;
@@ -118,20 +118,28 @@ pub trait ValueVisitor {
         ensures ok { OnOk result (visited (end_of variant.now ∷ []) self.old self.new) }
         ensures err { IfErr result (λ e. stopped (end_of variant.now ∷ []) self.old e self.new) };
 
-    /// Takes a field of the table, whose value comes next.
-    fn field(&mut self, next: &Field<PortableForm>) -> Result<(), Self::Error>
-        ensures ok { OnOk result (visited (field next.now.name ∷ []) self.old self.new) }
-        ensures err { IfErr result (λ e. stopped (field next.now.name ∷ []) self.old e self.new) };
-
-    /// Takes a list of bytes whole, which is part of the input. It does what a list of as many
-    /// integers would do, and may do it faster.
-    fn bytes(&mut self, bytes: &[u8]) -> Result<(), Self::Error>
-        ensures ok { OnOk result (visited (bytes_events bytes.now) self.old self.new) }
+    /// Takes a field of the table, whose value comes next. `named` says whether each field of its
+    /// record or variant has a name.
+    fn field(&mut self, next: &Field<PortableForm>, named: bool) -> Result<(), Self::Error>
+        ensures ok { OnOk result (visited (field next.now.name named ∷ []) self.old self.new) }
         ensures err { IfErr result
-            (λ e. StopsWithin stopped (bytes_events bytes.now) self.old e self.new) }
+            (λ e. stopped (field next.now.name named ∷ []) self.old e self.new) };
+
+    /// Takes a list of bytes, a sequence or an array of `u8`, whole. It is part of the input.
+    ///
+    /// A visitor that wants them as any other list calls `bytes_one_by_one`.
+    fn bytes(&mut self, all: &[u8]) -> Result<(), Self::Error>
+        ensures ok { OnOk result (visited (bytes all.now ∷ []) self.old self.new) }
+        ensures err { IfErr result (λ e. stopped (bytes all.now ∷ []) self.old e self.new) };
+
+    /// Shows itself a list of bytes as a list of integers.
+    fn bytes_one_by_one(&mut self, all: &[u8]) -> Result<(), Self::Error>
+        ensures ok { OnOk result (visited (integers_events all.now) self.old self.new) }
+        ensures err { IfErr result
+            (λ e. StopsWithin stopped (integers_events all.now) self.old e self.new) }
     {
-        self.begin_list(bytes.len())?;
-        for byte in bytes {
+        self.begin_list(all.len())?;
+        for byte in all {
             self.unsigned(*byte as u128)?;
         }
         self.end_list()?;

@@ -1,4 +1,5 @@
 use Rattle.std.proofs.Common.{◌≡◌, ◌-◌, ◌+◌, ◌∷◌, [], ◌∙◌, ap, length, arith, sym, subst, drop, replicate}
+use Rattle.std.specs.List.{flat_map}
 use Rattle.scale_info_value.specs.declared.value.Dyn.TheVariants as dyn
 use Rattle.scale_info_value.specs.Outcomes.{decoded, in_turn}
 use Rattle.scale_info_value.specs.IntegerDecoders.{little_endian}
@@ -6,7 +7,7 @@ use Rattle.scale_info_value.proofs.InOrder.{take_next}
 use Rattle.scale_info_value.proofs.Integers.{read_integer, number_there, integers_missing, still_there}
 use Rattle.scale_info_visit.specs.Events.{events_of, unsigned}
 use Rattle.scale_info_visit.proofs.Events.{unsigned_events}
-use Rattle.scale_info_visit.proofs.Visiting.{IsVisiting, goes_on, next_part, part_passed, shown_whole, whole_next, by_answer}
+use Rattle.scale_info_visit.proofs.Visiting.{IsVisiting, goes_on, next_part, adds_alike, part_passed, shown_whole, whole_next, by_answer}
 use Rattle.scale_info_visit.proofs.Visiting.{fails_first, refusal, within}
 use Rattle.scale_info_visit.proofs.list.integers.Goals as goal
 
@@ -31,8 +32,9 @@ loop-preserved g c =
     record {
       visiting =
           goes_on (read_integer width) more rest c.split_at.result.1.now g.met.V.ValueVisitor.visited_append
+    (adds_alike events_of c.loop.counter)
           (subst (λ ds.
-          IsVisiting g.V.ValueVisitor.visited events_of whole (in_turn ds rest) c.args.visitor.now c.loop.visitor)
+          IsVisiting g.V.ValueVisitor.visited (flat_map events_of) c.loop.counter whole (in_turn ds rest) c.args.visitor.now c.loop.visitor)
           (take_next c.args.count c.loop.counter (read_integer width) c.loop-test.true) c.loop.invariant.visiting)
           (shown_whole (dyn.Unsigned n) (unsigned n ∷ []) read (unsigned_events n)
           (by_answer _ c.in_ok-shown.ensures.ok c.unsigned.ensures.ok));
@@ -57,8 +59,9 @@ returns-in_err-shown-clause-err g c =
     part_passed _ c.from_residual.result c.in_err-shown.field-0.0 g.met.V.ValueVisitor.visited_append g.met.V.ValueVisitor.stopped_later
     c.from_residual.ensures.1
     (next_part (read_integer width) more rest
+    (adds_alike events_of c.loop.counter)
     (subst (λ ds.
-    IsVisiting g.V.ValueVisitor.visited events_of whole (in_turn ds rest) c.args.visitor.now c.loop.visitor)
+    IsVisiting g.V.ValueVisitor.visited (flat_map events_of) c.loop.counter whole (in_turn ds rest) c.args.visitor.now c.loop.visitor)
     (take_next c.args.count c.loop.counter (read_integer width) c.loop-test.true) c.loop.invariant.visiting))
     (refusal _ c.in_err-shown.field-0.0 c.unsigned.result g.met.V.ValueVisitor.visited_append g.met.V.ValueVisitor.stopped_later
     (whole_next (dyn.Unsigned n) (unsigned n ∷ []) (g.met.V.ValueVisitor.visited_none c.loop.visitor) read (unsigned_events n))
