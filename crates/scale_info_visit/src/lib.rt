@@ -4,6 +4,7 @@
 //! shows it to a [`visitor::ValueVisitor`]. [`skip::skip_value`] finds the rest alone.
 #![tactic(auto)]
 
+pub mod laws;
 mod list;
 pub mod skip;
 pub mod visit;
