@@ -249,10 +249,11 @@ adds_placed shows types later type count here = record {
       placed_append shows types done (part ∷ [])
       ∙ ap (λ ts. placed shows types done ++ placed shows ts (part ∷ [])) (ap (λ n. drop n types) long ∙ here)
       ∙ ap (λ es. placed shows types done ++ es) (append-nil (shows part type));
-  more = λ done part others long.
-      (placed shows later others,
-      placed_append shows types done (part ∷ others)
-      ∙ ap (λ ts. placed shows types done ++ placed shows ts (part ∷ others)) (ap (λ n. drop n types) long ∙ here));
+  more = λ done part others long. (
+    placed shows later others,
+    placed_append shows types done (part ∷ others)
+        ∙ ap (λ ts. placed shows types done ++ placed shows ts (part ∷ others)) (ap (λ n. drop n types) long ∙ here),
+  );
 }
 
 -- some of the parts, so many, were decoded and shown, and `left` comes of the others

@@ -9,3 +9,4 @@ mod list;
 pub mod skip;
 pub mod visit;
 pub mod visitor;
+pub mod within;

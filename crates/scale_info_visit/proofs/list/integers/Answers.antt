@@ -32,7 +32,7 @@ loop-preserved g c =
     record {
       visiting =
           goes_on (read_integer width) more rest c.split_at.result.1.now g.met.V.ValueVisitor.visited_append
-    (adds_alike events_of c.loop.counter)
+          (adds_alike events_of c.loop.counter)
           (subst (λ ds.
           IsVisiting g.V.ValueVisitor.visited (flat_map events_of) c.loop.counter whole (in_turn ds rest) c.args.visitor.now c.loop.visitor)
           (take_next c.args.count c.loop.counter (read_integer width) c.loop-test.true) c.loop.invariant.visiting)
