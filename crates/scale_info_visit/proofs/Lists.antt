@@ -1,9 +1,8 @@
 -- The events of lists, records and fields as a table has them.
-use Rattle.std.proofs.Common.{◌≡◌, ℕ, suc, ◌+◌, ◌-◌, ◌<◌, List, [], ◌∷◌, ◌++◌, length, map, replicate, drop, get_or, Option, Some, None}
+use Rattle.std.proofs.Common.{◌≡◌, ℕ, ◌+◌, ◌-◌, ◌<◌, List, [], ◌∷◌, length, map, replicate, drop, get_or, Option, Some, None}
 use Rattle.std.proofs.Common.{refl, ap, sym, ◌∙◌, arith, option_map, find, cond, Bool, true, false, ◌==◌, drop-cons, add-one}
 use Rattle.std.proofs.lemmas.List.{append-nil, length-map}
 use Rattle.std.proofs.lemmas.Grind.{common_steps}
-use Rattle.std.specs.List.{flat_map}
 use Rattle.scale_info_types.specs.Portable.{Id, Text, Field, Variant, TypeDef, TypeDefComposite, TypeDefVariant}
 use Rattle.scale_info_types.specs.Portable.{TypeDefSequence, TypeDefArray, TypeDefTuple, TypeDefMap}
 use Rattle.scale_info_types.specs.declared.ty.TypeDef.TheVariants as def
@@ -11,7 +10,7 @@ use Rattle.scale_info_types.specs.Shapes.{map_field}
 use Rattle.scale_info_tables.specs.declared.portable.PortableRegistry.{PortableRegistry}
 use Rattle.scale_info_value.specs.declared.value.Dyn.{Dyn}
 use Rattle.scale_info_value.specs.declared.value.Dyn.TheVariants as dyn
-use Rattle.scale_info_value.specs.Outcomes.{Outcome, decoded, failed, Decoder, and_then, outcome_map, in_turn}
+use Rattle.scale_info_value.specs.Outcomes.{Outcome, decoded, failed, Decoder, and_then, outcome_map}
 use Rattle.scale_info_value.specs.ValueDefinitions.{field}
 use Rattle.scale_info_value.specs.Readings.{fields_within, part_within, value_within}
 use Rattle.scale_info_value.specs.Readings.{definition_within, variant_within, items_within, members_within, pairs_within}

@@ -3,7 +3,7 @@ use Rattle.std.proofs.Common.{◌≡◌, ℕ, suc, zero, Bool, true, false, ◌=
 use Rattle.std.specs.List.{flat_map}
 use Rattle.std.specs.Prelude.{if◌then◌else◌}
 use Rattle.std.specs.Str.{is_utf8}
-use Rattle.std.specs.Int.{w8, w16, w32, w64, w128, byte_len, cast_signed}
+use Rattle.std.specs.Int.{w8, w16, w32, w64, w128, cast_signed}
 use Rattle.scale_info_types.specs.Portable.{TypeDef}
 use Rattle.scale_info_types.specs.declared.ty.TypeDef.TheVariants as def
 use Rattle.scale_info_primitives.specs.declared.primitive.TypeDefPrimitive.{TypeDefPrimitive}
@@ -14,9 +14,9 @@ use Rattle.scale_info_value.specs.declared.value.Dyn.TheVariants as dyn
 use Rattle.scale_info_value.specs.Outcomes.{Outcome, decoded, failed, malformed, Decoder, and_then, outcome_map, in_turn}
 use Rattle.scale_info_value.specs.IntegerDecoders.{byte, bytes, count, integer}
 use Rattle.scale_info_value.specs.ValueDefinitions.{primitive, truth, text}
-use Rattle.scale_info_visit.specs.Events.{Event, events_of, in_place, is_byte}
+use Rattle.scale_info_visit.specs.Events.{events_of, is_byte}
 use Rattle.scale_info_visit.specs.Visits.{placed, value_by}
-use Rattle.scale_info_visit.proofs.Turns.{mapped_from, with_first}
+use Rattle.scale_info_visit.proofs.Turns.{with_first}
 use Rattle.scale_info_visit.proofs.Events.{HasNoParts, truth_alone, unsigned_alone, signed_alone, text_alone}
 
 -- the value of an outcome, if there is one, has no parts

@@ -8,7 +8,7 @@ use Rattle.std.specs.List.{flat_map}
 use Rattle.std.proofs.lemmas.List.{append-nil}
 use Rattle.std.proofs.lemmas.Grind.{flat_map-append}
 use Rattle.scale_info_value.specs.declared.value.Failure.{Failure}
-use Rattle.scale_info_value.specs.Outcomes.{Outcome, decoded, failed, Decoder, and_then, outcome_map, in_turn}
+use Rattle.scale_info_value.specs.Outcomes.{Outcome, decoded, failed, Decoder, outcome_map, in_turn}
 use Rattle.scale_info_value.proofs.InOrder.{preceded, nothing_before, reads_one, reads_none, first_fails}
 use Rattle.scale_info_visit.specs.declared.visitor.VisitError.{VisitError}
 use Rattle.scale_info_visit.specs.declared.visitor.VisitError.TheVariants as error
@@ -16,7 +16,7 @@ use Rattle.scale_info_types.specs.Portable.{TypeDef}
 use Rattle.scale_info_visit.specs.Events.{Event}
 use Rattle.scale_info_visit.specs.Visits.{HasVisited, HasFailed, StopsWithin, IsVisitErrorOf, bracketed, placed}
 use Rattle.scale_info_visit.proofs.Places.{placed_append}
-use Rattle.scale_info_visit.proofs.Turns.{Parts, with_first, mapped_from, preceded_from}
+use Rattle.scale_info_visit.proofs.Turns.{with_first, mapped_from, preceded_from}
 
 -- events do what they do one after another
 abbrev pub Appends : {V : Type 0} → (List Event → V → V → Type 0) → Type 0

@@ -1,7 +1,6 @@
 -- How many values there are in a value.
-use Rattle.std.specs.Prelude.{◌≡◌, ◌+◌, ◌<◌, ℕ, List, [], ◌∷◌, length}
+use Rattle.std.specs.Prelude.{◌≡◌, ◌+◌, ◌<◌, ℕ, List, length}
 use Rattle.std.specs.List.{sum, sum_by}
-use Rattle.scale_info_value.specs.declared.value.Failure.{Failure}
 use Rattle.scale_info_value.specs.Outcomes.{Outcome, decoded}
 use Rattle.scale_info_value.specs.declared.value.Dyn.{Dyn}
 use Rattle.scale_info_value.specs.declared.value.Dyn.TheOpen.{Dyn-F}

@@ -1,10 +1,10 @@
-use Rattle.std.proofs.Common.{◌≡◌, ◌-◌, ◌+◌, ◌∷◌, [], ◌∙◌, ap, length, arith, sym, subst, drop, replicate}
+use Rattle.std.proofs.Common.{◌-◌, ◌+◌, ◌∷◌, [], length, arith, subst, replicate}
 use Rattle.std.specs.List.{flat_map}
 use Rattle.scale_info_value.specs.declared.value.Dyn.TheVariants as dyn
-use Rattle.scale_info_value.specs.Outcomes.{decoded, in_turn}
-use Rattle.scale_info_value.specs.IntegerDecoders.{little_endian}
+use Rattle.scale_info_value.specs.Outcomes.{in_turn}
 use Rattle.scale_info_value.proofs.InOrder.{take_next}
-use Rattle.scale_info_value.proofs.Integers.{read_integer, number_there, integers_missing, still_there}
+use Rattle.scale_info_value.proofs.Integers.{read_integer, integers_missing, still_there}
+use Rattle.scale_info_visit.proofs.Turns.{integer_read}
 use Rattle.scale_info_visit.specs.Events.{events_of, unsigned}
 use Rattle.scale_info_visit.proofs.Events.{unsigned_events}
 use Rattle.scale_info_visit.proofs.Visiting.{IsVisiting, goes_on, next_part, adds_alike, part_passed, shown_whole, whole_next, by_answer}
@@ -23,12 +23,9 @@ loop-preserved g c =
     let n = c.little_endian.result in
     let whole = in_turn (replicate c.args.count (read_integer width)) c.args.input.now in
     let more = replicate (c.args.count - (c.loop.counter + 1)) (read_integer width) in
-    let number = c.little_endian.ensures.integer ∙ ap little_endian c.split_at.ensures.front in
-    let read : read_integer width rest ≡ decoded (dyn.Unsigned n) c.split_at.result.1.now =
-    number_there width rest (omega arith)
-    ∙ ap (λ m. decoded (dyn.Unsigned m) (drop width rest)) (sym number)
-    ∙ ap (λ after. decoded (dyn.Unsigned n) after) (sym c.split_at.ensures.back)
-    in
+    let read =
+    integer_read width n rest c.split_at.result.0.now c.split_at.result.1.now (omega arith)
+    c.little_endian.ensures.integer c.split_at.ensures.front c.split_at.ensures.back in
     record {
       visiting =
           goes_on (read_integer width) more rest c.split_at.result.1.now g.met.V.ValueVisitor.visited_append
@@ -50,12 +47,9 @@ returns-in_err-shown-clause-err g c =
     let n = c.little_endian.result in
     let whole = in_turn (replicate c.args.count (read_integer width)) c.args.input.now in
     let more = replicate (c.args.count - (c.loop.counter + 1)) (read_integer width) in
-    let number = c.little_endian.ensures.integer ∙ ap little_endian c.split_at.ensures.front in
-    let read : read_integer width rest ≡ decoded (dyn.Unsigned n) c.split_at.result.1.now =
-    number_there width rest (omega arith)
-    ∙ ap (λ m. decoded (dyn.Unsigned m) (drop width rest)) (sym number)
-    ∙ ap (λ after. decoded (dyn.Unsigned n) after) (sym c.split_at.ensures.back)
-    in
+    let read =
+    integer_read width n rest c.split_at.result.0.now c.split_at.result.1.now (omega arith)
+    c.little_endian.ensures.integer c.split_at.ensures.front c.split_at.ensures.back in
     part_passed _ c.from_residual.result c.in_err-shown.field-0.0 g.met.V.ValueVisitor.visited_append g.met.V.ValueVisitor.stopped_later
     c.from_residual.ensures.1
     (next_part (read_integer width) more rest

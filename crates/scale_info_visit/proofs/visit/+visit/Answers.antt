@@ -5,7 +5,6 @@ use Rattle.std.proofs.lemmas.Result.{IfOk-weaker}
 use Rattle.scale_info_types.specs.Shapes.{map_field, map_variant}
 use Rattle.scale_info_types.specs.Portable.{Id, Field, Text, TypeDef}
 use Rattle.scale_info_value.specs.declared.value.Dyn.{Dyn}
-use Rattle.scale_info_types.specs.declared.ty.TypeDef.TheVariants as def
 use Rattle.scale_info_primitives.specs.declared.primitive.TypeDefPrimitive.TheVariants as kind
 use Rattle.scale_info_value.specs.declared.value.Dyn.TheVariants as dyn
 use Rattle.scale_info_value.specs.ValueDefinitions.{field, fields_of}

@@ -1,8 +1,8 @@
-use Rattle.std.proofs.Common.{◌≡◌, ◌∷◌, [], ◌++◌, false, true, sym, subst, ◌∙◌, refl, ap}
+use Rattle.std.proofs.Common.{◌≡◌, ◌∷◌, [], false, sym, subst, ◌∙◌, refl}
 use Rattle.std.specs.Prelude.{OnOk, IfErr}
 use Rattle.scale_info_visit.specs.Events.{begin_list, end_list, is_byte, definition_at, list_events}
 use Rattle.scale_info_visit.specs.Visits.{StopsWithin}
-use Rattle.scale_info_visit.proofs.Visiting.{passed_on, on_ok_after, within_after}
+use Rattle.scale_info_visit.proofs.Visiting.{on_ok_after, within_after}
 use Rattle.scale_info_visit.proofs.visit.empty_list.Goals as goal
 
 pub returns-clause-ok : goal.returns-clause-ok
