@@ -99,8 +99,8 @@ fields_of (Some v) = v.fields
 abbrev pub pair_of : Id → Id → TypeDef
 pair_of key value = def.Tuple (record { fields = key ∷ value ∷ []; form = tt })
 
--- The definitions of the types of the parts of a value, in order: of a list with so many items, of a
--- record, or of the variant with this index.
+-- The definitions of the types of the parts of a value, in order: of a list with so many items, of
+-- a record, or of the variant with this index.
 abbrev pub part_types : PortableRegistry → Option TypeDef → ℕ → ℕ → List (Option TypeDef)
 part_types table (Some (def.Composite d)) index count = field_types table d.fields
 part_types table (Some (def.Variant d)) index count =

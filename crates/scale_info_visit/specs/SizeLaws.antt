@@ -9,14 +9,18 @@ use Rattle.scale_info_visit.specs.declared.within.Refusal.TheVariants as refusal
 
 -- what is left after some events and more
 pub left_after :
-    (es fs : List Event) (a b c : ℕ) → b + values_in es ≡ a → c + values_in fs ≡ b → c + values_in (es ++ fs) ≡ a
+    (es fs : List Event) (a b c : ℕ)
+    → b + values_in es ≡ a → c + values_in fs ≡ b → c + values_in (es ++ fs) ≡ a
 left_after es fs a b c h k = let both = sum_by-append values es fs in omega arith
 
 -- where a visitor stops after some events, it was shown these before
 pub stops_later :
-    {V E : Type 0} {Visited : List Event → V → V → Type 0} {Stopped : List Event → V → E → V → Type 0}
-    → ((es fs : List Event) (a b c : V) → Visited es a b → Visited fs b c → Visited (es ++ fs) a c)
-    → ((es fs : List Event) (a b : V) (e : E) (c : V) → Visited es a b → Stopped fs b e c → Stopped (es ++ fs) a e c)
+    {V E : Type 0} {Visited : List Event → V → V → Type 0}
+    {Stopped : List Event → V → E → V → Type 0}
+    → ((es fs : List Event) (a b c : V)
+    → Visited es a b → Visited fs b c → Visited (es ++ fs) a c)
+    → ((es fs : List Event) (a b : V) (e : E) (c : V)
+    → Visited es a b → Stopped fs b e c → Stopped (es ++ fs) a e c)
     → (es fs : List Event) (limit left : ℕ) (a b : V) (e : Refusal E) (c : V)
     → Visited es a b → left + values_in es ≡ limit
     → StopsAt Visited Stopped fs left b e c → StopsAt Visited Stopped (es ++ fs) limit a e c

@@ -2,8 +2,9 @@
 ghost use Rattle.std.specs.Prelude.{◌≡◌, ◌∷◌, ◌++◌, [], List, Ok, Err, OnOk, IfErr};
 ghost use Rattle.scale_info_visit.specs.declared.visitor.VisitError.TheVariants as error;
 ghost use Rattle.scale_info_visit.specs.Events.{Event, truth, unsigned, signed, text};
-ghost use Rattle.scale_info_visit.specs.Events.{begin_list, end_list, begin_record, end_record};
-ghost use Rattle.scale_info_visit.specs.Events.{names, begin_of, end_of, field, bytes, integers_events};
+ghost use Rattle.scale_info_visit.specs.Events.{bytes, integers_events, begin_list, end_list};
+ghost use Rattle.scale_info_visit.specs.Events.{begin_record, end_record, names, begin_of, end_of};
+ghost use Rattle.scale_info_visit.specs.Events.{field};
 ghost use Rattle.scale_info_visit.specs.Visits.{StopsWithin};
 
 use scale_info_types::form::PortableForm;
@@ -33,7 +34,7 @@ impl<E> From<Failure> for VisitError<E> {
     }
 }
 
-/// The visitor's answer, as that of the visit.
+/// What a method of the visitor returned, as what the visit returns.
 pub(crate) fn shown<E>(answer: Result<(), E>) -> Result<(), VisitError<E>>
     ensures ok { OnOk result (answer ≡ Ok tt) }
     ensures err { IfErr result (λ e. (why : E) × (answer ≡ Err why) × (e ≡ error.Stopped why)) }

@@ -44,7 +44,7 @@ enum Refusal<E> {
     Stopped(E),
 }
 
-/// The answer of the visitor that an event was passed to.
+/// What a method of the inner visitor returned, as what the outer one returns.
 fn passed<E>(answer: Result<(), E>) -> Result<(), Refusal<E>>
     ensures ok { OnOk result (answer ≡ Ok tt) }
     ensures err { IfErr result (λ e. (why : E) × (answer ≡ Err why) × (e ≡ refusal.Stopped why)) }
@@ -164,8 +164,9 @@ impl<'v, V: ValueVisitor> ValueVisitor for Limited<'v, V> {
 /// It ends at the first event past the limit. So an array of 4294967295 empty tuples, which is a
 /// table of two entries and takes no bytes, ends after as many of them as the limit allows.
 ///
-/// Errors: `Failed`, where the bytes are no value of the type; `TooLarge`, where the value is of more
-/// values than the limit; `Stopped`, where the visitor stopped. The visitor has been shown events.
+/// Errors: `Failed`, where the bytes are no value of the type; `TooLarge`, at the first value past
+/// the limit; `Stopped`, where the visitor stopped. After an error the visitor has been shown some
+/// events.
 pub fn visit_value_within<'i, V: ValueVisitor>(
     table: &PortableRegistry,
     id: u32,
