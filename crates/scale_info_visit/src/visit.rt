@@ -139,7 +139,7 @@ fn value_by<'i, V: ValueVisitor>(
 }
 
 /// Whether each of the fields has a name.
-fn all_named(fields: &[Field<PortableForm>]) -> bool
+pub fn all_named(fields: &[Field<PortableForm>]) -> bool
     ensures { result ≡ all_named (names fields.now) }
 {
     for field in fields {
