@@ -1,5 +1,5 @@
 -- Errors of visits.
-use Rattle.std.proofs.Common.{◌≡◌, List}
+use Rattle.std.proofs.Common.{List}
 use Rattle.scale_info_value.specs.declared.value.Failure.TheVariants as failure
 use Rattle.scale_info_value.specs.declared.value.Dyn.{Dyn}
 use Rattle.scale_info_value.specs.Outcomes.{Outcome, IsErrorOf}

@@ -1,5 +1,5 @@
 -- Values as JSON text.
-use Rattle.std.specs.Prelude.{◌≡◌, ℕ, ℤ, ◌^◌, ◌++◌, Bool, true, false, List, [], ◌∷◌, Option, Some, None}
+use Rattle.std.specs.Prelude.{◌≡◌, ◌<◌, length, ℕ, ℤ, ◌^◌, ◌++◌, Bool, true, false, List, [], ◌∷◌, Option, Some, None}
 use Rattle.std.specs.Prelude.{decimal, nat_lt, unsigned_abs, if◌then◌else◌, codes}
 use Rattle.std.specs.Fmt.{signed_decimal}
 use Rattle.std.specs.List.{flat_map}
@@ -9,10 +9,12 @@ use Rattle.json.specs.Token.{number, boolean}
 use Rattle.json.specs.Print.{print}
 use Rattle.scale_info_types.specs.Portable.{Text}
 use Rattle.scale_info_tables.specs.declared.portable.PortableRegistry.{PortableRegistry}
-use Rattle.scale_info_value.specs.Outcomes.{Outcome, decoded, error_of}
+use Rattle.scale_info_value.specs.Outcomes.{Outcome, decoded, error_of, IsErrorOf}
 use Rattle.scale_info_value.specs.declared.value.ValueError.{ValueError}
 use Rattle.scale_info_value.specs.declared.value.ValueError.TheVariants as error
 use Rattle.scale_info_value.specs.declared.value.Dyn.{Dyn}
+use Rattle.scale_info_value_text.specs.declared.value_text.ValueTextError.{ValueTextError}
+use Rattle.scale_info_value_text.specs.declared.value_text.ValueTextError.TheVariants as text
 use Rattle.scale_info_visit.specs.Events as event
 use Rattle.scale_info_visit.specs.Events.{Event, events, all_named}
 use Rattle.scale_info_visit.specs.declared.visitor.VisitError.{VisitError}
@@ -84,6 +86,25 @@ pub record AppendsText (table : PortableRegistry) (id : ℕ) (outcome : Outcome 
   pub value : Dyn
   pub read : outcome ≡ decoded value rest
   pub appended : new ≡ old ++ value_text table id value
+
+-- the outcome is some value with nothing left, and this is its text
+pub record IsTextOf (table : PortableRegistry) (id : ℕ) (outcome : Outcome Dyn) (text : List ℕ) :
+    Type 0 where
+  pub value : Dyn
+  pub read : outcome ≡ decoded value []
+  pub same : text ≡ value_text table id value
+
+-- the outcome is some value, and bytes are left
+pub record HasBytesLeft (outcome : Outcome Dyn) : Type 0 where
+  pub value : Dyn
+  pub rest : List ℕ
+  pub read : outcome ≡ decoded value rest
+  pub left : 0 < length rest
+
+-- the error is that of the outcome, or of bytes that are left
+abbrev pub IsTextErrorOf : Outcome Dyn → ValueTextError → Type 0
+IsTextErrorOf outcome (text.Value e) = IsErrorOf outcome e
+IsTextErrorOf outcome text.Trailing = HasBytesLeft outcome
 
 -- the error of a visit as that of decoding: a visitor that writes stops where an allocation failed
 abbrev pub error_by : {E : Type 0} → VisitError E → ValueError

@@ -1,6 +1,7 @@
 //! A visitor that writes what it is shown as JSON.
 ghost use Rattle.std.specs.Prelude.{◌≡◌, ◌++◌, IfOk, codes, string_bytes};
 ghost use Rattle.std.specs.List.{flat_map};
+ghost use Rattle.std.specs.Str.{IsUtf8};
 ghost use Rattle.std.proofs.Common.{refl, sym, ap, ◌∙◌, append_assoc};
 ghost use Rattle.std.proofs.lemmas.List.{append-nil};
 ghost use Rattle.std.proofs.lemmas.Grind.{flat_map-append};
@@ -32,7 +33,8 @@ pub(crate) struct TextWriter {
 impl TextWriter {
     /// The bytes that were there before, and the text after them.
     pub(crate) fn into_bytes(self) -> Vec<u8>
-        ensures { result.items ≡ self.out.before ++ print self.out.tokens }
+        ensures items { result.items ≡ self.out.before ++ print self.out.tokens }
+        ensures utf8 { IsUtf8 (print self.out.tokens) }
     {
         let TextWriter { out, .. } = self;
         out.into_inner()

@@ -1,5 +1,4 @@
-use Rattle.std.proofs.Common.{◌≡◌, sym, subst}
-use Rattle.std.proofs.lemmas.Result.{IfErr-at_err}
+use Rattle.std.proofs.Common.{sym, subst}
 use Rattle.scale_info_value.specs.Outcomes.{IsErrorOf}
 use Rattle.scale_info_value.specs.Readings.{reading}
 use Rattle.scale_info_value_text.proofs.Errors.{same_error}

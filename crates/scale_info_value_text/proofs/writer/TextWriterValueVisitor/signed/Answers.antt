@@ -1,4 +1,4 @@
-use Rattle.std.proofs.Common.{◌≡◌, ◌<◌, ◌^◌, ℤ, pos, negsuc, subst, arith, to_z, of_z}
+use Rattle.std.proofs.Common.{◌<◌, ◌^◌, ℤ, pos, negsuc, subst, arith, to_z, of_z}
 use Rattle.std.specs.Int.{w128}
 use Rattle.std.specs.Prelude.{nat_abs}
 use lib.Signed.{mag}
