@@ -1,0 +1,2 @@
+pub mod IntegerLists
+pub mod LentValues
