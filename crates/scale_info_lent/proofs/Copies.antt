@@ -44,7 +44,7 @@ pub list_copied : (vs : List Lent) → dyn_of (lent.List vs) ≡ dyn.List (map d
 list_copied vs = ap dyn_of (sym (rolls-List vs)) ∙ fold-roll-Lent Dyn dyn_step (layer.List vs)
 
 -- fields, first their values copied and then their names
-named_all :
+pub named_all :
     (fs : List (Option (Bor Text) × Lent)) → map named (map (λ f. (f.0, dyn_of f.1)) fs) ≡ map field_of fs
 named_all [] = refl
 named_all (f ∷ fs) = ap (λ gs. field_of f ∷ gs) (named_all fs)

@@ -9,6 +9,8 @@ use Rattle.scale_info_value.specs.IntegerDecoders.{bytes, little_endian}
 use Rattle.scale_info_lent.specs.declared.integers.IntegerWidth.{IntegerWidth}
 use Rattle.scale_info_lent.specs.declared.integers.IntegerWidth.TheVariants as width
 use Rattle.scale_info_lent.specs.declared.integers.Integers.{Integers}
+use Rattle.scale_info_lent.specs.declared.integers.Integer.{Integer}
+use Rattle.scale_info_lent.specs.declared.integers.Integer.TheVariants as integer
 
 -- the width of an integer in so many bytes
 abbrev pub width_of : IntegerWidth → Width
@@ -40,3 +42,8 @@ abbrev pub integers_of : Integers → List Dyn
 integers_of list =
     map (item_at list.width list.signed list.bytes.now)
     (range_with_len 0 (length list.bytes.now / byte_len (width_of list.width)))
+
+-- the integer, as a value
+abbrev pub dyn_of_integer : Integer → Dyn
+dyn_of_integer (integer.Unsigned n) = dyn.Unsigned n
+dyn_of_integer (integer.Signed n) = dyn.Signed n

@@ -9,6 +9,8 @@ use Rattle.scale_info_lent.specs.declared.lent.Lent.{Lent}
 use Rattle.scale_info_lent.specs.declared.lent.Lent.TheOpen.{Lent-F}
 use Rattle.scale_info_lent.specs.declared.lent.Lent.TheOpen as layer
 use Rattle.scale_info_lent.specs.declared.lent.Lent.TheFolds.{fold-Lent}
+use Rattle.scale_info_lent.specs.declared.lent.Item.{Item}
+use Rattle.scale_info_lent.specs.declared.lent.Item.TheVariants as item
 use Rattle.scale_info_lent.specs.IntegerLists.{integers_of}
 
 -- a field, its name copied
@@ -34,3 +36,8 @@ dyn_of = fold-Lent Dyn dyn_step
 -- a field with all that it borrows copied
 abbrev pub field_of : Option (Bor Text) × Lent → Option Text × Dyn
 field_of f = (option_copied f.0, dyn_of f.1)
+
+-- the value of an item
+abbrev pub value_of : Item → Dyn
+value_of (item.Held value) = dyn_of value.now
+value_of (item.Read value) = dyn_of value

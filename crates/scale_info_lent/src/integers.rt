@@ -1,7 +1,7 @@
 //! The integers of a list, in the bytes that encode them.
-ghost use Rattle.std.specs.Prelude.{◌≡◌, ◌<◌, ◌^◌, length, option_map, slice_get};
-ghost use Rattle.std.specs.Int.{byte_len, cast_signed};
-ghost use Rattle.scale_info_lent.specs.IntegerLists.{width_of, integer_of, integers_of};
+ghost use Rattle.std.specs.Prelude.{◌≡◌, ◌<◌, ◌^◌, length, option_map, slice_get, Some, FitsSigned};
+ghost use Rattle.std.specs.Int.{byte_len, cast_signed, w128};
+ghost use Rattle.scale_info_lent.specs.IntegerLists.{width_of, integers_of, dyn_of_integer};
 ghost use Rattle.scale_info_lent.specs.LentValues.{dyn_of};
 
 use crate::lent::Lent;
@@ -48,6 +48,15 @@ pub struct Integers<'i> {
     pub signed: bool,
 }
 
+/// An integer, as it is read.
+#[derive(Clone, Copy)]
+pub(crate) enum Integer {
+    /// An integer without a sign.
+    Unsigned(u128),
+    /// An integer with a sign.
+    Signed(i128),
+}
+
 impl Integers<'_> {
     /// The number of items.
     pub fn len(&self) -> usize
@@ -63,31 +72,35 @@ impl Integers<'_> {
         if index >= self.len() {
             return None;
         }
+        match self.item(index) {
+            Integer::Unsigned(integer) => Some(Lent::Unsigned(integer)),
+            Integer::Signed(integer) => Some(Lent::Signed(integer)),
+        }
+    }
+
+    /// The item at this index, where there is one.
+    pub(crate) fn item(&self, index: usize) -> Integer
+        requires { index < length (integers_of self.now) }
+        ensures { slice_get (integers_of self.now) index ≡ Some (dyn_of_integer result) }
+    {
         let all = self.bytes;
         let width = self.width.bytes();
         let (_, rest) = all.split_at(index * width);
         let (bytes, _) = rest.split_at(width);
-        Some(integer(self.width, self.signed, bytes))
-    }
-}
-
-/// The integer in these bytes.
-fn integer<'t, 'i>(width: IntegerWidth, signed: bool, bytes: &[u8]) -> Lent<'t, 'i>
-    requires { length bytes.now ≡ byte_len (width_of width) }
-    ensures { dyn_of result ≡ integer_of width signed bytes.now }
-{
-    let n = little_endian(bytes);
-    if signed {
-        Lent::Signed(with_sign(width, n))
-    } else {
-        Lent::Unsigned(n)
+        let integer = little_endian(bytes);
+        if self.signed {
+            Integer::Signed(with_sign(self.width, integer))
+        } else {
+            Integer::Unsigned(integer)
+        }
     }
 }
 
 /// The integer that this one encodes in two's complement.
 fn with_sign(width: IntegerWidth, n: u128) -> i128
     requires { n < 256 ^ byte_len (width_of width) }
-    ensures { result ≡ cast_signed (width_of width) n }
+    ensures integer { result ≡ cast_signed (width_of width) n }
+    ensures range { FitsSigned w128 result }
 {
     match width {
         IntegerWidth::One => (n as u8).cast_signed() as i128,

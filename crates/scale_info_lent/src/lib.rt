@@ -9,3 +9,4 @@ mod decode;
 pub mod integers;
 pub mod lent;
 mod list;
+mod owned;
