@@ -1,6 +1,6 @@
 -- Integers of one width, one after another.
-use Rattle.std.proofs.Common.{◌≡◌, ℕ, zero, suc, ◌+◌, ◌-◌, ◌*◌, ◌/◌, ◌<◌, ◌≤◌, List, [], ◌∷◌, ◌++◌, Bool, true, false}
-use Rattle.std.proofs.Common.{length, take, drop, map, replicate, get_or, refl, ap, sym, ◌∙◌, subst, arith, Some, Option}
+use Rattle.std.proofs.Common.{◌≡◌, ℕ, zero, suc, ◌+◌, ◌*◌, ◌/◌, ◌<◌, ◌≤◌, List, [], ◌∷◌, ◌++◌, Bool, false}
+use Rattle.std.proofs.Common.{length, take, drop, map, replicate, get_or, refl, ap, sym, ◌∙◌, subst, arith, Some}
 use Rattle.std.proofs.Common.{length-drop, drop-cons, slice_get}
 use Rattle.std.proofs.Math.Nat.{suc-mul, div-mul-le_self, mul-le-mul_right, mul-div_cancel}
 use Rattle.std.proofs.lemmas.Grind.{common_steps}
@@ -8,7 +8,7 @@ use Rattle.std.proofs.lemmas.List.{length-append, take-append-le, drop-append-le
 use Rattle.std.proofs.lemmas.List.FromFn.{length-map-range_with_len, get_or-map-range_with_len, fill_by_all}
 use Rattle.std.proofs.lemmas.Option.{slice_get-get_or}
 use Rattle.std.proofs.lemmas.Simd.{map-map}
-use Rattle.std.specs.Int.{Width, byte_len}
+use Rattle.std.specs.Int.{byte_len}
 use Rattle.std.specs.List.{range_with_len}
 use Rattle.scale_info_value.specs.declared.value.Dyn.{Dyn}
 use Rattle.scale_info_value.specs.declared.value.Dyn.TheVariants as dyn
@@ -19,8 +19,7 @@ use Rattle.scale_info_value.proofs.Integers.{read_integer, integers_missing}
 use Rattle.scale_info_value.proofs.Texts.{bytes_whole, bytes_long}
 use Rattle.scale_info_lent.specs.declared.integers.IntegerWidth.{IntegerWidth}
 use Rattle.scale_info_lent.specs.declared.integers.IntegerWidth.TheVariants as width
-use Rattle.scale_info_lent.specs.declared.integers.Integers.{Integers}
-use Rattle.scale_info_lent.specs.IntegerLists.{width_of, integer_of, integer_within, item_at, integers_of}
+use Rattle.scale_info_lent.specs.IntegerLists.{width_of, integer_of, integer_within, item_at}
 
 -- so many bytes, seen as a value
 abbrev pub read_bytes : {A : Type 0} → (List ℕ → A) → ℕ → Decoder A

@@ -1,6 +1,10 @@
 -- The parts of values.
-use Rattle.std.proofs.Common.{◌≡◌, ℕ, List, [], map, length, Option, Some, None, option_map, option_and_then, refl, ap, sym, ◌∙◌, slice_get}
+use Rattle.std.proofs.Common.{◌≡◌, ℕ, ◌<◌, arith, List, [], map, length, Option, Some, None, option_map, option_and_then, refl, ap, sym, ◌∙◌, slice_get}
+use Rattle.std.proofs.lemmas.Grind.{common_steps}
+use Rattle.std.proofs.lemmas.Option.{slice_get_past, slice_get-get_or}
 use Rattle.std.specs.Borrow.{Bor}
+use Rattle.std.specs.Option.{option_copied}
+use Rattle.std.specs.Slice.{IsItemAt}
 use Rattle.scale_info_types.specs.Portable.{Text}
 use Rattle.scale_info_value.specs.declared.value.Dyn.{Dyn, out-Dyn}
 use Rattle.scale_info_value.specs.declared.value.Dyn.TheVariants as dyn
@@ -20,7 +24,7 @@ use Rattle.scale_info_lent.specs.declared.lent.Lent.TheFolds.{fold-roll-Lent}
 use Rattle.scale_info_lent.specs.IntegerLists.{integers_of}
 use Rattle.scale_info_lent.specs.LentValues.{dyn_of, dyn_step, field_of}
 use Rattle.scale_info_lent.specs.ValueParts.{items_in, items_at, item_in, fields_in, fields_at, variant_in, variant_at}
-use Rattle.scale_info_lent.proofs.Copies.{named_all, bytes_copied, integers_copied, list_copied, record_copied}
+use Rattle.scale_info_lent.proofs.Copies.{named_all, record_copied}
 use Rattle.scale_info_lent.proofs.Copies.{variant_copied}
 
 -- a value by its outermost part
@@ -157,3 +161,11 @@ no_variant v variant_of = ap variant_at (copied v (out-Lent v) refl) ∙ none (o
     none (layer.Record fs) e = refl
     none (layer.Variant name index fs) e =
         absurd (variant_of name index fs (rolled v (layer.Variant name index fs) e ∙ rolls-Variant name index fs))
+
+-- what a slice lends at an index is the item there
+pub lent_item :
+    {X : Type 0} (xs : List X) (i : ℕ) (r : Option (Bor X)) → IsItemAt xs i r → slice_get xs i ≡ option_copied r
+lent_item xs i None h = slice_get_past xs i h.3
+lent_item xs i (Some x) h =
+    let inside : i < length xs = grind (arith, common_steps, h.0) in
+    slice_get-get_or xs i x.now inside ∙ ap (λ y. Some y) (sym h.1)

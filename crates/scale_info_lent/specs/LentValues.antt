@@ -1,5 +1,5 @@
 -- Values that borrow, with what is borrowed copied.
-use Rattle.std.specs.Prelude.{List, map, Option}
+use Rattle.std.specs.Prelude.{map, Option}
 use Rattle.std.specs.Option.{option_copied}
 use Rattle.std.specs.Borrow.{Bor}
 use Rattle.scale_info_types.specs.Portable.{Text}

@@ -1,4 +1,4 @@
-use Rattle.std.proofs.Common.{◌≡◌, ◌-◌, ◌+◌, List, Option, Some, None, find, ◌==◌, arith, ap, sym, ◌∙◌, subst, map, drop, option_map}
+use Rattle.std.proofs.Common.{◌≡◌, ◌-◌, ◌+◌, List, Option, Some, None, find, ◌==◌, arith, ap, sym, ◌∙◌, subst, map, drop}
 use Rattle.std.proofs.lemmas.Grind.{common_steps}
 use Rattle.scale_info_types.specs.Portable.{Id, Field, Text}
 use Rattle.scale_info_types.specs.Shapes.{map_field}

@@ -1,4 +1,4 @@
-use Rattle.std.proofs.Common.{Bool, ℕ, ◌/◌, map, length, ap, sym, ◌∙◌}
+use Rattle.std.proofs.Common.{Bool, ◌/◌, map, length, ap, sym, ◌∙◌}
 use Rattle.std.specs.Int.{byte_len}
 use Rattle.std.specs.List.{range_with_len}
 use Rattle.scale_info_value.specs.declared.value.Dyn.TheVariants as dyn

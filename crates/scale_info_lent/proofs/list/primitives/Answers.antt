@@ -1,9 +1,7 @@
-use Rattle.std.proofs.Common.{◌≡◌, List, ℕ, ap, sym, ◌∙◌, replicate}
+use Rattle.std.proofs.Common.{ap, ◌∙◌, replicate}
 use Rattle.scale_info_value.specs.declared.value.Dyn.TheVariants as dyn
 use Rattle.scale_info_value.specs.Outcomes.{outcome_map, in_turn}
-use Rattle.scale_info_value.specs.ValueDefinitions.{primitive}
 use Rattle.scale_info_value.proofs.Errors.{failed_as}
-use Rattle.scale_info_lent.specs.IntegerLists.{integer_within}
 use Rattle.scale_info_lent.proofs.list.primitives.Goals as goal
 
 pub returns-in_err-integers-in-Some-clause-err : goal.returns-in_err-integers-in-Some-clause-err

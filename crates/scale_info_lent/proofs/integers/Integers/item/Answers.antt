@@ -6,7 +6,7 @@ use Rattle.std.proofs.lemmas.Int.{to_z-of_z}
 use Rattle.scale_info_value.specs.declared.value.Dyn.TheVariants as dyn
 use Rattle.scale_info_value.specs.IntegerDecoders.{little_endian}
 use Rattle.scale_info_lent.specs.declared.integers.Integers.{Integers}
-use Rattle.scale_info_lent.specs.IntegerLists.{width_of, integer_of, item_at, integers_of}
+use Rattle.scale_info_lent.specs.IntegerLists.{width_of, item_at, integers_of}
 use Rattle.scale_info_lent.proofs.InBytes.{bytes_fit, item_there}
 use Rattle.scale_info_lent.proofs.integers.Integers.item.Goals as goal
 

@@ -1,17 +1,17 @@
-use Rattle.std.proofs.Common.{◌≡◌, ◌≤◌, Some, None, ap, sym, ◌∙◌, map, length, option_map, option_and_then, slice_get, arith}
-use Rattle.std.proofs.lemmas.Grind.{common_steps}
+use Rattle.std.proofs.Common.{Some, ap, sym, ◌∙◌, map, option_map, option_and_then, slice_get}
+use Rattle.std.specs.Option.{option_copied}
 use Rattle.std.proofs.lemmas.Option.{slice_get-map}
 use Rattle.scale_info_value.specs.declared.value.Dyn.TheVariants as dyn
 use Rattle.scale_info_lent.specs.IntegerLists.{integers_of}
 use Rattle.scale_info_lent.specs.LentValues.{dyn_of, value_of}
 use Rattle.scale_info_lent.proofs.Copies.{bytes_copied, integers_copied, list_copied, unsigned_copied}
-use Rattle.scale_info_lent.proofs.Parts.{item_found, no_items}
+use Rattle.scale_info_lent.proofs.Parts.{item_found, no_items, lent_item}
 use Rattle.scale_info_lent.proofs.lent.Lent.at.Goals as goal
 
 pub returns-in_err-byte-in-Bytes : goal.returns-in_err-byte-in-Bytes
 returns-in_err-byte-in-Bytes c =
     let all = c.in-Bytes.bytes.now in
-    let past : slice_get all c.args.index ≡ None = grind (arith, common_steps) in
+    let past = lent_item all c.args.index c.get.result c.get.ensures.lookup ∙ ap option_copied c.in_err-byte-in-Bytes.was in
     ap (λ o. option_map value_of o) c.from_residual.ensures
     ∙ ap (λ o. option_map dyn.Unsigned o) (sym past) ∙ sym (slice_get-map dyn.Unsigned all c.args.index)
     ∙ item_found c.args.self.now (map dyn.Unsigned all) c.args.index
@@ -20,7 +20,7 @@ returns-in_err-byte-in-Bytes c =
 pub returns-in_ok-byte-in-Bytes : goal.returns-in_ok-byte-in-Bytes
 returns-in_ok-byte-in-Bytes c =
     let all = c.in-Bytes.bytes.now in
-    let there : slice_get all c.args.index ≡ Some c.in_ok-byte-in-Bytes.byte.now = grind (arith, common_steps) in
+    let there = lent_item all c.args.index c.get.result c.get.ensures.lookup ∙ ap option_copied c.in_ok-byte-in-Bytes.was in
     ap (λ v. Some v) (unsigned_copied c.in_ok-byte-in-Bytes.byte.now)
     ∙ ap (λ o. option_map dyn.Unsigned o) (sym there) ∙ sym (slice_get-map dyn.Unsigned all c.args.index)
     ∙ item_found c.args.self.now (map dyn.Unsigned all) c.args.index
@@ -41,7 +41,10 @@ returns-in_ok-at-in-Integers c =
 pub returns-in_err-get-in-List : goal.returns-in_err-get-in-List
 returns-in_err-get-in-List c =
     let all = c.in-List.items in
-    let past : slice_get all c.args.index ≡ None = grind (arith, common_steps) in
+    let past =
+    ap (λ l. slice_get l c.args.index) (sym c.as_slice.ensures)
+    ∙ lent_item c.as_slice.result.now c.args.index c.get-in-List.result c.get-in-List.ensures.lookup
+    ∙ ap option_copied c.in_err-get-in-List.was in
     ap (λ o. option_map value_of o) c.from_residual-in_err-get-in-List.ensures
     ∙ ap (λ o. option_map dyn_of o) (sym past) ∙ sym (slice_get-map dyn_of all c.args.index)
     ∙ item_found c.args.self.now (map dyn_of all) c.args.index (ap dyn_of c.in-List.is ∙ list_copied all)
@@ -49,7 +52,10 @@ returns-in_err-get-in-List c =
 pub returns-in_ok-get-in-List : goal.returns-in_ok-get-in-List
 returns-in_ok-get-in-List c =
     let all = c.in-List.items in
-    let there : slice_get all c.args.index ≡ Some c.in_ok-get-in-List.field-0.now = grind (arith, common_steps) in
+    let there =
+    ap (λ l. slice_get l c.args.index) (sym c.as_slice.ensures)
+    ∙ lent_item c.as_slice.result.now c.args.index c.get-in-List.result c.get-in-List.ensures.lookup
+    ∙ ap option_copied c.in_ok-get-in-List.was in
     ap (λ o. option_map dyn_of o) (sym there) ∙ sym (slice_get-map dyn_of all c.args.index)
     ∙ item_found c.args.self.now (map dyn_of all) c.args.index (ap dyn_of c.in-List.is ∙ list_copied all)
 

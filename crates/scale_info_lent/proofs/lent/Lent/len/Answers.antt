@@ -1,4 +1,4 @@
-use Rattle.std.proofs.Common.{Some, ap, sym, ◌∙◌, map, length, option_map}
+use Rattle.std.proofs.Common.{ap, sym, ◌∙◌, map, length, option_map}
 use Rattle.std.proofs.lemmas.List.{length-map}
 use Rattle.scale_info_value.specs.declared.value.Dyn.TheVariants as dyn
 use Rattle.scale_info_lent.specs.IntegerLists.{integers_of}
