@@ -1,5 +1,6 @@
 -- What is found in a value.
-use Rattle.std.specs.Prelude.{ℕ, ℤ, Bool, false, List, [], Option, Some, None, option_map, option_and_then, slice_get, find}
+use Rattle.std.specs.Prelude.{ℕ, ℤ, Bool, false, List, [], Option, Some, None, option_map}
+use Rattle.std.specs.Prelude.{option_and_then, slice_get, find}
 use Rattle.std.specs.Borrow.{Bor}
 use Rattle.std.specs.Str.{bytes_eq}
 use Rattle.scale_info_types.specs.Portable.{Text}

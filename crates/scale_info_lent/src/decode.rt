@@ -223,8 +223,8 @@ fn array_value<'t, 'i>(
     list(alloc, table, &array.type_param, array.len, left, input)
 }
 
-/// The list of so many values of one type, and the rest. The type is looked up once for all of them;
-/// where there are none, for the kind of list alone.
+/// The list of so many values of one type, and the rest. The type is looked up once for all of
+/// them; where there are none, for the kind of list alone.
 #[cycle(value)]
 #[inline(always)]
 fn list<'t, 'i>(

@@ -8,7 +8,7 @@ ghost use Rattle.scale_info_lent.specs.ValueParts.{bytes_in, items_in, item_in, 
 ghost use Rattle.scale_info_lent.specs.ValueParts.{field_in, variant_in};
 
 pub use crate::decode::decode_lent;
-use crate::integers::Integers;
+pub use crate::integers::{IntegerWidth, Integers};
 use crate::owned::owned;
 use scale_info_collections::items::Items;
 use scale_info_value::value::Dyn;
@@ -30,8 +30,8 @@ pub enum Lent<'t, 'i> {
     Bytes(&'i [u8]),
     /// The items of a sequence or an array of another type of integers.
     Integers(Integers<'i>),
-    /// The items of another sequence or array, the members of a tuple, or the pairs of a map, each a
-    /// list of a key and a value.
+    /// The items of another sequence or array, the members of a tuple, or the pairs of a map, each
+    /// a list of a key and a value.
     List(Items<Lent<'t, 'i>>),
     /// The fields of a composite, each with its name, if it has one.
     Record(Items<(Option<&'t str>, Lent<'t, 'i>)>),
@@ -108,8 +108,8 @@ impl<'t, 'i> Lent<'t, 'i> {
         }
     }
 
-    /// The items of a sequence or an array of `u8`, which stay in the input; None where the value is
-    /// another.
+    /// The items of a sequence or an array of `u8`, which stay in the input; None where the value
+    /// is another.
     pub fn as_bytes(&self) -> Option<&'i [u8]>
         ensures bytes { result ≡ bytes_in self.now }
         ensures items { IfSome result
@@ -153,8 +153,8 @@ impl<'t, 'i> Lent<'t, 'i> {
         }
     }
 
-    /// The value of the first field with this name, of a record or of a variant; None where there is
-    /// no such field.
+    /// The value of the first field with this name, of a record or of a variant; None where there
+    /// is no such field.
     ///
     /// ```text
     /// value.field("nonce")?.as_u128()   // of the record { nonce: 7 }: Some(7)

@@ -6,7 +6,7 @@
 #![tactic(auto)]
 
 mod decode;
-pub mod integers;
+mod integers;
 pub mod lent;
 mod list;
 mod owned;

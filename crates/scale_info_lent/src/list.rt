@@ -123,8 +123,8 @@ fn each<'t, 'i>(
     Ok((values, rest))
 }
 
-/// The list of so many values of a primitive type, and the rest. Not inlined, so that its loop takes
-/// no stack at each level of a value.
+/// The list of so many values of a primitive type, and the rest. Not inlined, so that its loop
+/// takes no stack at each level of a value.
 #[inline(never)]
 pub(crate) fn primitives<'t, 'i>(
     alloc: Global,
@@ -147,8 +147,8 @@ pub(crate) fn primitives<'t, 'i>(
     }
 }
 
-/// The list with no item, of values of this type, if there is one: no bytes or no integers where the
-/// values are such.
+/// The list with no item, of values of this type, if there is one: no bytes or no integers where
+/// the values are such.
 pub(crate) fn no_items<'t, 'i>(alloc: Global, ty: Option<&'t Type<PortableForm>>) -> Lent<'t, 'i>
     ensures { dyn_of result ≡ dyn.List [] }
 {
