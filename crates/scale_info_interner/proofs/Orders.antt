@@ -313,7 +313,7 @@ module _ {T : Type 0} {cmp : T → T → Ordering} (o : IsTotalOrder cmp) where
         → first_against cmp xs x next ≡ Greater)
         → IsGapFor cmp xs chunks x c at
     gap_within upto past =
-        gap_of (less_part xs chunks x c at chunk order there upto bound less)
+        gap_of (less_part xs chunks x c at chunk order there upto bound less greater)
         (λ index rest e. elim (first_after chunks c at index rest order.filled e) [
           | here found p q ↦
               greater index (subst (λ v. slice_get v at ≡ Some index)
