@@ -7,7 +7,7 @@ use Rattle.std.proofs.lemmas.List.{length_push}
 use Rattle.std.proofs.lemmas.Option.{same_Some, slice_get_within}
 use Rattle.scale_info_numberings.proofs.Places.{at_seam, begins_at, begins_from, begins_more}
 use Rattle.scale_info_numberings.proofs.Places.{contains_at, place_of}
-use Rattle.scale_info_numberings.proofs.Walking.{join_walks, move_walk, split_walk, walk_rises}
+use Rattle.scale_info_numberings.proofs.Walking.{EndsFrom, join_walks, move_walk, split_walk, walk_rises}
 use Rattle.scale_info_numberings.specs.Extensions.{IsExtension, IsExtensionByOne, IsExtensionWith}
 use Rattle.scale_info_numberings.specs.Numberings.{AreDistinct, Walks}
 use Rattle.scale_info_numberings.specs.Systems.{Entry, System}
@@ -145,10 +145,7 @@ module _ {Sh N : Type 0} (S : System Sh N) (L : List N) (n : N) (Q M : List N) (
         | inr ne ↦ let l = long in subst (λ z. z ≤ length M) (ends_other (length L) half.0 f i ne) (x.within i (omega arith) h)
       ]
 
-  more_nodes :
-      (i : ℕ) (m : N)
-      → length L ≤ i → slice_get M i ≡ Some m
-      → (e : Entry Sh N) × (S m ≡ Some e) × Walks M more_ends e.refs (i + 1) (more_ends i)
+  more_nodes : EndsFrom S M more_ends (length L)
   unfolding more_ends
   more_nodes i m b at =
       elim (cases_eq i (length L)) [
