@@ -1,6 +1,6 @@
 -- An extension of an extension.
-use Rattle.std.proofs.Common.{List, Some, [], ap, append-nil, append_assoc, arith, cond, inl, inr}
-use Rattle.std.proofs.Common.{le_refl, length, ltb, slice_get, subst, sym, ℕ, ◌++◌, ◌+◌, ◌<◌, ◌∙◌}
+use Rattle.std.proofs.Common.{List, [], ap, append-nil, append_assoc, arith, cond, inl, inr}
+use Rattle.std.proofs.Common.{le_refl, length, ltb, subst, sym, ℕ, ◌++◌, ◌+◌, ◌<◌, ◌∙◌}
 use Rattle.std.proofs.Common.{◌∷◌, ◌≡◌, ◌≤◌}
 use Rattle.std.proofs.lemmas.Bool.{cases_lt, le-ltb, lt-ltb}
 use Rattle.scale_info_numberings.proofs.Extensions.{extension_grows, extension_of_numbering}
@@ -11,7 +11,7 @@ use Rattle.scale_info_numberings.specs.Extensions.{IsExtension, IsExtensionWith}
 use Rattle.scale_info_numberings.specs.Numberings.{IsNumbering, Walks}
 use Rattle.scale_info_numberings.specs.RegistrationLists.{AreRegistrations, Registration, all_roots}
 use Rattle.scale_info_numberings.specs.RegistrationLists.{last_registration}
-use Rattle.scale_info_numberings.specs.Systems.{Entry, System}
+use Rattle.scale_info_numberings.specs.Systems.{System}
 
 -- the ends of the first below a place, and those of the second from there on
 ends_by : ℕ → (ℕ → ℕ) → (ℕ → ℕ) → ℕ → ℕ
