@@ -4,9 +4,9 @@ use Rattle.std.proofs.lemmas.Result.{err_from_is_err_and}
 use Rattle.scale_info_numberings.proofs.Places.{begins_long}
 use Rattle.scale_info_numberings.proofs.WorkLists.{IsWalking, walk_ends}
 use Rattle.scale_info_walk.proofs.Visiting.{first_look, walk_begins}
-use Rattle.scale_info_walk.proofs.Visiting.{next_some, next_none, numbers_distinct, walk_looks}
+use Rattle.scale_info_walk.proofs.Visiting.{next_some, next_none}
 use Rattle.scale_info_walk.proofs.Visiting.{walk_steps, walk_long}
-use Rattle.scale_info_walk.proofs.Visiting.{look_counts, look_grows, walk_visits, cause_through}
+use Rattle.scale_info_walk.proofs.Visiting.{look_grows, walk_visits, cause_through}
 use Rattle.scale_info_walk.proofs.walk.+visit_recursively.Goals as goal
 
 pub loop-next-init : goal.loop-next-init

@@ -1,8 +1,7 @@
-use Rattle.std.proofs.Common.{arith, ◌∙◌, ap, sym, get_or, length}
+use Rattle.std.proofs.Common.{arith, get_or, length}
 use Rattle.std.proofs.lemmas.List.Elements.{Contains-get_or}
 use Rattle.std.proofs.lemmas.Result.{err_from_is_err_and}
 use Rattle.scale_info_numberings.proofs.Extensions.{one_numbering}
-use Rattle.scale_info_numberings.specs.Systems.{looks}
 use Rattle.scale_info_walk.specs.TypeSystems.{types_system}
 use Rattle.scale_info_walk.proofs.Visiting.{roots_begin, roots_more, roots_all, cause_at_root}
 use Rattle.scale_info_walk.proofs.Visiting.{cause_before}
