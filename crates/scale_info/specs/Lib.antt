@@ -78,4 +78,9 @@ pub use Rattle.scale_info_value.specs.ValueDefinitions
 pub use Rattle.scale_info_value.specs.IntegerDecoders
 pub use Rattle.scale_info_value.specs.ValueExamples
 pub use Rattle.scale_info_visit.specs.Events
+pub use Rattle.scale_info_visit.specs.Sizes
 pub use Rattle.scale_info_visit.specs.Visits
+pub use Rattle.scale_info_lent.specs.IntegerLists
+pub use Rattle.scale_info_lent.specs.LentValues
+pub use Rattle.scale_info_lent.specs.ValueParts
+pub use Rattle.scale_info_value_text.specs.ValueTexts

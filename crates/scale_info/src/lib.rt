@@ -20,6 +20,7 @@ pub use scale_info_identities::symbol::UntrackedSymbol;
 pub use scale_info_identities::type_id::TypeId;
 pub use scale_info_interner::interner;
 pub use scale_info_json::{JsonError, append_json, from_json, to_json};
+pub use scale_info_lent::lent;
 pub use scale_info_prune::prune::{PruneError, append_pruned, prune};
 pub use scale_info_registry::registry;
 pub use scale_info_registry::registry::{IntoPortable, Registry};
@@ -38,4 +39,5 @@ pub use scale_info_types::ty::{
 };
 pub use scale_info_types::{form, ty};
 pub use scale_info_value::value;
+pub use scale_info_value_text::value_text;
 pub use scale_info_walk::walk::RetainError;

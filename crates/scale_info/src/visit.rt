@@ -4,3 +4,4 @@ pub use scale_info_value::value::Failure;
 pub use scale_info_visit::skip::skip_value;
 pub use scale_info_visit::visit::visit_value;
 pub use scale_info_visit::visitor::{ValueVisitor, VisitError};
+pub use scale_info_visit::within::{WithinError, visit_value_within};

@@ -20,10 +20,7 @@ impl Scale for u8 {
     }
 
     fn decode_from(_alloc: Global, input: &[u8]) -> Result<(u8, &[u8]), DecodeError> {
-        match decode_u8(input) {
-            Some(found) => Ok(found),
-            None => Err(DecodeError::Malformed),
-        }
+        decode_u8(input).ok_or(DecodeError::Malformed)
     }
 
     ghost law = { u8_law };
@@ -39,10 +36,7 @@ impl Scale for u32 {
     }
 
     fn decode_from(_alloc: Global, input: &[u8]) -> Result<(u32, &[u8]), DecodeError> {
-        match decode_u32(input) {
-            Some(found) => Ok(found),
-            None => Err(DecodeError::Malformed),
-        }
+        decode_u32(input).ok_or(DecodeError::Malformed)
     }
 
     ghost law = { u32_law };

@@ -168,10 +168,7 @@ impl Scale for TypeDefPrimitive {
     }
 
     fn decode_from(_alloc: Global, input: &[u8]) -> Result<(TypeDefPrimitive, &[u8]), DecodeError> {
-        match decode_primitive(input) {
-            Some(found) => Ok(found),
-            None => Err(DecodeError::Malformed),
-        }
+        decode_primitive(input).ok_or(DecodeError::Malformed)
     }
 
     ghost law = { primitive_law };

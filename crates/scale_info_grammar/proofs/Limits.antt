@@ -134,39 +134,38 @@ has_texts :
     → HasEncoding (EncodesList EncodesText) vs
 has_texts = has_list has_text
 
+-- a value is encoded as its parts are
+by_parts :
+    {A B : Type 0} {S : B → List ℕ → Type 0} {v : A} (parts : A → B) → HasEncoding S (parts v)
+    → HasEncoding (λ w b. S (parts w) b) v
+by_parts parts p = record { bytes = p.bytes; encodes = p.encodes }
+
 has_id : (v : Id) → IsIdWithinLimits v → HasEncoding EncodesId v
-has_id v within =
-    let id = has_compact v.id within in record { bytes = id.bytes; encodes = id.encodes }
+has_id v within = by_parts (λ w. w.id) (has_compact v.id within)
 
 has_path : (v : portable.Path) → IsPathWithinLimits v → HasEncoding EncodesPath v
-has_path v within =
-    let segments = has_texts v.segments within in
-    record { bytes = segments.bytes; encodes = segments.encodes }
+has_path v within = by_parts (λ w. w.segments) (has_texts v.segments within)
 
 has_parameter :
     (v : portable.TypeParameter) → IsParameterWithinLimits v → HasEncoding EncodesParameter v
 has_parameter v within =
-    let parts = has_pair v.name v.ty (has_text v.name within.0) (has_option has_id v.ty within.1) in
-    record { bytes = parts.bytes; encodes = parts.encodes }
+    by_parts described.parameter_parts
+    (has_pair v.name v.ty (has_text v.name within.0) (has_option has_id v.ty within.1))
 
 has_field : (v : portable.Field) → IsFieldWithinLimits v → HasEncoding EncodesField v
 has_field v within =
-    let parts =
-    has_pair v.name (v.ty, (v.type_name, v.docs)) (has_option has_text v.name within.0)
+    by_parts described.field_parts
+    (has_pair v.name (v.ty, (v.type_name, v.docs)) (has_option has_text v.name within.0)
     (has_pair v.ty (v.type_name, v.docs) (has_id v.ty within.1)
     (has_pair v.type_name v.docs (has_option has_text v.type_name within.2)
-    (has_texts v.docs within.3)))
-    in
-    record { bytes = parts.bytes; encodes = parts.encodes }
+    (has_texts v.docs within.3))))
 
 has_variant : (v : portable.Variant) → IsVariantWithinLimits v → HasEncoding EncodesVariant v
 has_variant v within =
-    let parts =
-    has_pair v.name (v.fields, (v.index, v.docs)) (has_text v.name within.0)
+    by_parts described.variant_parts
+    (has_pair v.name (v.fields, (v.index, v.docs)) (has_text v.name within.0)
     (has_pair v.fields (v.index, v.docs) (has_list has_field v.fields within.1)
-    (has_pair v.index v.docs (has_u8 v.index within.2) (has_texts v.docs within.3)))
-    in
-    record { bytes = parts.bytes; encodes = parts.encodes }
+    (has_pair v.index v.docs (has_u8 v.index within.2) (has_texts v.docs within.3))))
 
 primitive_of : (i : ℕ) (v : TypeDefPrimitive) → IsPrimitiveByte i v → HasEncoding EncodesPrimitive v
 primitive_of i v stands_for =
@@ -231,12 +230,10 @@ has_definition (def.Map d) within =
 has_description :
     (v : portable.Description) → IsDescriptionWithinLimits v → HasEncoding EncodesDescription v
 has_description v within =
-    let parts =
-    has_pair v.path (v.type_params, (v.type_def, v.docs)) (has_path v.path within.0)
+    by_parts described.description_parts
+    (has_pair v.path (v.type_params, (v.type_def, v.docs)) (has_path v.path within.0)
     (has_pair v.type_params (v.type_def, v.docs) (has_list has_parameter v.type_params within.1)
-    (has_pair v.type_def v.docs (has_definition v.type_def within.2) (has_texts v.docs within.3)))
-    in
-    record { bytes = parts.bytes; encodes = parts.encodes }
+    (has_pair v.type_def v.docs (has_definition v.type_def within.2) (has_texts v.docs within.3))))
 
 has_portable_type : (v : PortableType) → IsEntryWithinLimits v → HasEncoding EncodesPortableType v
 has_portable_type v within =

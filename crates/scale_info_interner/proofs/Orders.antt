@@ -265,35 +265,6 @@ module _ {T : Type 0} {cmp : T → T → Ordering} (o : IsTotalOrder cmp) where
   less_part xs chunks x c (suc i) chunk order there upto bound less greater =
       less_inside xs chunks x c i chunk order there bound (λ index p. less i index (omega arith) p)
 
-  -- where a chunk does not start above x and the next does, x goes where a search in it says
-  pub gap_within :
-      (xs : List T) (chunks : List (List ℕ)) (x : T) (c at : ℕ) (chunk : List ℕ)
-      → IsElementOrder cmp xs chunks
-      → slice_get chunks c ≡ Some chunk
-      → first_against cmp xs x chunk ≢ Greater
-      → ((next : List ℕ) → slice_get chunks (suc c) ≡ Some next
-      → first_against cmp xs x next ≡ Greater)
-      → at ≤ length chunk
-      → ((i index : ℕ) → at ≡ i + 1 → slice_get chunk i ≡ Some index
-      → against cmp xs x index ≡ Less)
-      → ((index : ℕ) → slice_get chunk at ≡ Some index → against cmp xs x index ≡ Greater)
-      → IsGapFor cmp xs chunks x c at
-  gap_within xs chunks x c at chunk order there upto past bound less greater =
-      let up = parts_ordered xs chunks c at order in
-      record {
-        within = λ found p. subst (λ v. at ≤ length v) (same_Some chunk found (sym there ∙ p)) bound;
-        less = less_part xs chunks x c at chunk order there upto bound less greater;
-        greater =
-            greater_after xs x (after chunks c at)
-            (ordered_right (IsBelow cmp xs) (before chunks c at) (after chunks c at) up)
-            (λ index rest e. elim (first_after chunks c at index rest order.filled e) [
-              | here found p q ↦
-                  greater index (subst (λ v. slice_get v at ≡ Some index)
-                  (same_Some found chunk (sym p ∙ there)) q)
-              | next found p q ↦ sym (first_is xs x found index q) ∙ past found p
-            ]);
-      }
-
   front_part :
       (xs : List T) (chunks : List (List ℕ)) (x : T) (c at : ℕ) (chunk : List ℕ)
       → IsElementOrder cmp xs chunks
@@ -312,44 +283,68 @@ module _ {T : Type 0} {cmp : T → T → Ordering} (o : IsTotalOrder cmp) where
       less_inside xs (first ∷ chunks) x c i chunk order there bound
       (λ index p. less i index (omega arith) p)
 
-  -- x goes where a search in a chunk says, if an index of the chunk stands before the place or no
-  -- chunk does, and if one stands behind it or the next chunk starts above x
-  pub gap_here :
-      (xs : List T) (chunks : List (List ℕ)) (x : T) (c at : ℕ) (chunk : List ℕ)
-      → IsElementOrder cmp xs chunks
-      → slice_get chunks c ≡ Some chunk
-      → ((i : ℕ) → c ≡ suc i → 0 < at)
-      → ((next : List ℕ) → length chunk ≤ at → slice_get chunks (suc c) ≡ Some next
-      → first_against cmp xs x next ≡ Greater)
-      → at ≤ length chunk
-      → ((i index : ℕ) → at ≡ i + 1 → slice_get chunk i ≡ Some index
+  -- x goes where a search in a chunk says
+  module _ (xs : List T) (chunks : List (List ℕ)) (x : T) (c at : ℕ) (chunk : List ℕ)
+      (order : IsElementOrder cmp xs chunks) (there : slice_get chunks c ≡ Some chunk)
+      (bound : at ≤ length chunk)
+      (less : (i index : ℕ) → at ≡ i + 1 → slice_get chunk i ≡ Some index
       → against cmp xs x index ≡ Less)
-      → ((index : ℕ) → slice_get chunk at ≡ Some index → against cmp xs x index ≡ Greater)
-      → IsGapFor cmp xs chunks x c at
-  gap_here xs chunks x c at chunk order there inside past bound less greater =
-      let up = parts_ordered xs chunks c at order in
-      record {
-        within = λ found p. subst (λ v. at ≤ length v) (same_Some chunk found (sym there ∙ p)) bound;
-        less = front_part xs chunks x c at chunk order there inside bound less;
-        greater =
-            greater_after xs x (after chunks c at)
-            (ordered_right (IsBelow cmp xs) (before chunks c at) (after chunks c at) up)
-            (λ index rest e. elim (cases_lt at (length chunk)) [
-              | inl l ↦
-                  let j = get_or chunk at 0 in
-                  let here : slice_get chunk at ≡ Some j = slice_get-get_or chunk at 0 l in
-                  let split : j ∷ after chunks c (suc at) ≡ index ∷ rest =
-                  sym (after_at chunks c at j chunk there here) ∙ e in
-                  let same : j ≡ index = cc in
-                  subst (λ k. against cmp xs x k ≡ Greater) same (greater j here)
-              | inr g ↦ elim (first_after chunks c at index rest order.filled e) [
-                | here found p q ↦
-                    greater index (subst (λ v. slice_get v at ≡ Some index)
-                    (same_Some found chunk (sym p ∙ there)) q)
-                | next found p q ↦ sym (first_is xs x found index q) ∙ past found g p
-              ]
-            ]);
-      }
+      (greater : (index : ℕ) → slice_get chunk at ≡ Some index
+      → against cmp xs x index ≡ Greater) where
+    gap_of :
+        All (λ i. against cmp xs x i ≡ Less) (before chunks c at)
+        → ((index : ℕ) (rest : List ℕ) → after chunks c at ≡ index ∷ rest
+        → against cmp xs x index ≡ Greater)
+        → IsGapFor cmp xs chunks x c at
+    gap_of all_less next_greater = record {
+      within = λ found p. subst (λ v. at ≤ length v) (same_Some chunk found (sym there ∙ p)) bound;
+      less = all_less;
+      greater =
+          greater_after xs x (after chunks c at)
+          (ordered_right (IsBelow cmp xs) (before chunks c at) (after chunks c at)
+          (parts_ordered xs chunks c at order))
+          next_greater;
+    }
+
+    -- the chunk does not start above x, and the next does
+    pub gap_within :
+        first_against cmp xs x chunk ≢ Greater
+        → ((next : List ℕ) → slice_get chunks (suc c) ≡ Some next
+        → first_against cmp xs x next ≡ Greater)
+        → IsGapFor cmp xs chunks x c at
+    gap_within upto past =
+        gap_of (less_part xs chunks x c at chunk order there upto bound less greater)
+        (λ index rest e. elim (first_after chunks c at index rest order.filled e) [
+          | here found p q ↦
+              greater index (subst (λ v. slice_get v at ≡ Some index)
+              (same_Some found chunk (sym p ∙ there)) q)
+          | next found p q ↦ sym (first_is xs x found index q) ∙ past found p
+        ])
+
+    -- an index of the chunk stands before the place or no chunk does, and one stands after it or the
+    -- next chunk starts above x
+    pub gap_here :
+        ((i : ℕ) → c ≡ suc i → 0 < at)
+        → ((next : List ℕ) → length chunk ≤ at → slice_get chunks (suc c) ≡ Some next
+        → first_against cmp xs x next ≡ Greater)
+        → IsGapFor cmp xs chunks x c at
+    gap_here inside past =
+        gap_of (front_part xs chunks x c at chunk order there inside bound less)
+        (λ index rest e. elim (cases_lt at (length chunk)) [
+          | inl l ↦
+              let j = get_or chunk at 0 in
+              let here : slice_get chunk at ≡ Some j = slice_get-get_or chunk at 0 l in
+              let split : j ∷ after chunks c (suc at) ≡ index ∷ rest =
+              sym (after_at chunks c at j chunk there here) ∙ e in
+              let same : j ≡ index = cc in
+              subst (λ k. against cmp xs x k ≡ Greater) same (greater j here)
+          | inr g ↦ elim (first_after chunks c at index rest order.filled e) [
+            | here found p q ↦
+                greater index (subst (λ v. slice_get v at ≡ Some index)
+                (same_Some found chunk (sym p ∙ there)) q)
+            | next found p q ↦ sym (first_is xs x found index q) ∙ past found g p
+          ]
+        ])
 
   not_below :
       (xs : List T) (i j : ℕ) (x y : T) → IsBelow cmp xs i j → slice_get xs i ≡ Some x

@@ -1,17 +1,17 @@
 -- An extension of an extension.
-use Rattle.std.proofs.Common.{List, Some, [], ap, append-nil, append_assoc, arith, cond, inl, inr}
-use Rattle.std.proofs.Common.{le_refl, length, ltb, slice_get, subst, sym, ℕ, ◌++◌, ◌+◌, ◌<◌, ◌∙◌}
+use Rattle.std.proofs.Common.{List, [], ap, append-nil, append_assoc, arith, cond, inl, inr}
+use Rattle.std.proofs.Common.{le_refl, length, ltb, subst, sym, ℕ, ◌++◌, ◌+◌, ◌<◌, ◌∙◌}
 use Rattle.std.proofs.Common.{◌∷◌, ◌≡◌, ◌≤◌}
 use Rattle.std.proofs.lemmas.Bool.{cases_lt, le-ltb, lt-ltb}
 use Rattle.scale_info_numberings.proofs.Extensions.{extension_grows, extension_of_numbering}
 use Rattle.scale_info_numberings.proofs.Extensions.{numbering_of_extension}
 use Rattle.scale_info_numberings.proofs.Places.{begins_at, begins_from, begins_long}
-use Rattle.scale_info_numberings.proofs.Walking.{join_walks, move_walk}
+use Rattle.scale_info_numberings.proofs.Walking.{EndsFrom, join_walks, move_walk}
 use Rattle.scale_info_numberings.specs.Extensions.{IsExtension, IsExtensionWith}
 use Rattle.scale_info_numberings.specs.Numberings.{IsNumbering, Walks}
 use Rattle.scale_info_numberings.specs.RegistrationLists.{AreRegistrations, Registration, all_roots}
 use Rattle.scale_info_numberings.specs.RegistrationLists.{last_registration}
-use Rattle.scale_info_numberings.specs.Systems.{Entry, System}
+use Rattle.scale_info_numberings.specs.Systems.{System}
 
 -- the ends of the first below a place, and those of the second from there on
 ends_by : ℕ → (ℕ → ℕ) → (ℕ → ℕ) → ℕ → ℕ
@@ -30,17 +30,18 @@ module _ {Sh N : Type 0} (S : System Sh N) (K R L Q M : List N) (f g : ℕ → �
   joined_ends : ℕ → ℕ
   joined_ends = ends_by (length L) f g
 
-  move_first :
-      (rs : List N) (a c : ℕ)
-      → length K ≤ a → Walks L f rs a c → Walks M joined_ends rs a c
+  -- walks from a place on stay walks of the joined ends
+  abbrev Moves : List N → (ℕ → ℕ) → ℕ → Type 0
+  Moves X ends base =
+      (rs : List N) (a c : ℕ) → base ≤ a → Walks X ends rs a c → Walks M joined_ends rs a c
+
+  move_first : Moves L f (length K)
   unfolding joined_ends
   move_first =
       move_walk L f (length K) x.above M joined_ends (begins_at L M y.begins)
       (λ i b h. ends_low (length L) f g i h)
 
-  move_second :
-      (rs : List N) (a c : ℕ)
-      → length L ≤ a → Walks M g rs a c → Walks M joined_ends rs a c
+  move_second : Moves M g (length L)
   unfolding joined_ends
   move_second =
       move_walk M g (length L) y.above M joined_ends (λ i n e. e)
@@ -70,10 +71,7 @@ module _ {Sh N : Type 0} (S : System Sh N) (K R L Q M : List N) (f g : ℕ → �
         | inr high ↦ subst (λ z. z ≤ length M) (ends_high (length L) f g i high) (y.within i high h)
       ]
 
-  join_nodes :
-      (i : ℕ) (n : N)
-      → length K ≤ i → slice_get M i ≡ Some n
-      → (d : Entry Sh N) × (S n ≡ Some d) × Walks M joined_ends d.refs (i + 1) (joined_ends i)
+  join_nodes : EndsFrom S M joined_ends (length K)
   unfolding joined_ends
   join_nodes i n b e =
       elim (cases_lt i (length L)) [

@@ -6,8 +6,8 @@ use Rattle.std.proofs.lemmas.Option.{slice_get_within}
 use Rattle.std.specs.List.{range_with_len}
 use Rattle.scale_info_numberings.proofs.Places.{at_left, element_at, same_places}
 use Rattle.scale_info_numberings.proofs.Tours.{AgreeBelow, same_tours, tour_of}
-use Rattle.scale_info_numberings.proofs.Walking.{RisesFrom, move_walk}
-use Rattle.scale_info_numberings.specs.Extensions.{IsExtension}
+use Rattle.scale_info_numberings.proofs.Walking.{EndsFrom, RisesFrom, move_walk}
+use Rattle.scale_info_numberings.specs.Extensions.{IsExtension, IsExtensionWith}
 use Rattle.scale_info_numberings.specs.Numberings.{IsNumbering, Walks}
 use Rattle.scale_info_numberings.specs.Systems.{Grows, System}
 
@@ -93,20 +93,28 @@ pub one_numbering :
 one_numbering S R L M x y =
     one_extension S [] R L M (extension_of_numbering S R L x) (extension_of_numbering S R M y)
 
+-- an extension, by other roots or in another system, with the same ends
+pub extension_as :
+    {Sh N : Type 0} {S T : System Sh N} {K R Q L : List N} {ends : ℕ → ℕ}
+    → IsExtensionWith S K R L ends → Walks L ends Q (length K) (length L)
+    → EndsFrom T L ends (length K) → IsExtensionWith T K Q L ends
+extension_as x from_roots nodes = record {
+  begins = x.begins;
+  distinct = x.distinct;
+  above = x.above;
+  within = x.within;
+  from_roots = from_roots;
+  nodes = nodes;
+}
+
 -- an extension stays one in a system that has grown
 pub extension_grows :
     {Sh N : Type 0} (S T : System Sh N) (K R L : List N)
     → Grows S T → IsExtension S K R L → IsExtension T K R L
 extension_grows S T K R L g x = (
   x.0,
-  record {
-    begins = x.1.begins;
-    distinct = x.1.distinct;
-    above = x.1.above;
-    within = x.1.within;
-    from_roots = x.1.from_roots;
-    nodes = λ i n b e. let d = x.1.nodes i n b e in (d.0, g n d.0 d.1, d.2);
-  },
+  extension_as x.1 x.1.from_roots
+      (λ i n b e. let d = x.1.nodes i n b e in (d.0, g n d.0 d.1, d.2)),
 )
 
 -- a numbering stays one in a system that has grown

@@ -5,9 +5,10 @@ use Rattle.std.proofs.Common.{◌+◌, ◌<◌, ◌↔◌, ◌∙◌, ◌∷◌,
 use Rattle.std.proofs.lemmas.Bool.{cases_eq, eq-eqb, ne_eqb}
 use Rattle.std.proofs.lemmas.List.{length_push}
 use Rattle.std.proofs.lemmas.Option.{same_Some, slice_get_within}
+use Rattle.scale_info_numberings.proofs.Extensions.{extension_as}
 use Rattle.scale_info_numberings.proofs.Places.{at_seam, begins_at, begins_from, begins_more}
 use Rattle.scale_info_numberings.proofs.Places.{contains_at, place_of}
-use Rattle.scale_info_numberings.proofs.Walking.{join_walks, move_walk, split_walk, walk_rises}
+use Rattle.scale_info_numberings.proofs.Walking.{EndsFrom, join_walks, move_walk, split_walk, walk_rises}
 use Rattle.scale_info_numberings.specs.Extensions.{IsExtension, IsExtensionByOne, IsExtensionWith}
 use Rattle.scale_info_numberings.specs.Numberings.{AreDistinct, Walks}
 use Rattle.scale_info_numberings.specs.Systems.{Entry, System}
@@ -24,14 +25,7 @@ module _ {Sh N : Type 0} (S : System Sh N) (L : List N) (n : N) (Q M : List N) w
               contains_at L n s.0 (begins_from L M x.begins s.0 n s.1 s.2),
               (
                 ends,
-                record {
-                  begins = x.begins;
-                  distinct = x.distinct;
-                  above = x.above;
-                  within = x.within;
-                  from_roots = subst (λ z. Walks M ends Q z (length M)) s.3 w.2;
-                  nodes = x.nodes;
-                },
+                extension_as x (subst (λ z. Walks M ends Q z (length M)) s.3 w.2) x.nodes,
               ),
             )
         | inr s ↦
@@ -70,15 +64,9 @@ module _ {Sh N : Type 0} (S : System Sh N) (L : List N) (n : N) (Q M : List N) w
   refold_known c y =
       let p = place_of L n c in (
         y.0,
-        record {
-          begins = y.1.begins;
-          distinct = y.1.distinct;
-          above = y.1.above;
-          within = y.1.within;
-          from_roots =
-              (length L, inl (p.0, slice_get_within L p.0 n p.1, begins_at L M y.1.begins p.0 n p.1, refl), y.1.from_roots);
-          nodes = y.1.nodes;
-        },
+        extension_as y.1
+            (length L, inl (p.0, slice_get_within L p.0 n p.1, begins_at L M y.1.begins p.0 n p.1, refl), y.1.from_roots)
+            y.1.nodes,
       )
 
 -- the ends with another one at a place
@@ -145,10 +133,7 @@ module _ {Sh N : Type 0} (S : System Sh N) (L : List N) (n : N) (Q M : List N) (
         | inr ne ↦ let l = long in subst (λ z. z ≤ length M) (ends_other (length L) half.0 f i ne) (x.within i (omega arith) h)
       ]
 
-  more_nodes :
-      (i : ℕ) (m : N)
-      → length L ≤ i → slice_get M i ≡ Some m
-      → (e : Entry Sh N) × (S m ≡ Some e) × Walks M more_ends e.refs (i + 1) (more_ends i)
+  more_nodes : EndsFrom S M more_ends (length L)
   unfolding more_ends
   more_nodes i m b at =
       elim (cases_eq i (length L)) [

@@ -1,10 +1,11 @@
 -- Walks joined, split and carried to other lists.
 use Rattle.std.proofs.Common.{Contains, List, Some, [], ap, arith, inl, inr, length, refl}
-use Rattle.std.proofs.Common.{slice_get, subst, sym, ℕ, ◌++◌, ◌<◌, ◌∙◌, ◌∷◌, ◌≡◌, ◌≤◌}
+use Rattle.std.proofs.Common.{slice_get, subst, sym, ℕ, ◌++◌, ◌+◌, ◌<◌, ◌∙◌, ◌∷◌, ◌≡◌, ◌≤◌}
 use Rattle.std.proofs.lemmas.Option.{none-some, slice_get_within}
 use Rattle.std.specs.List.{AllZip}
 use Rattle.scale_info_numberings.proofs.Places.{contains_cases, place_of}
 use Rattle.scale_info_numberings.specs.Numberings.{AreDistinct, IsStep, Walks}
+use Rattle.scale_info_numberings.specs.Systems.{Entry, System}
 use Rattle.scale_info_numberings.specs.Tables.{ArePlaces}
 
 module _ {N : Type 0} (L : List N) (ends : ℕ → ℕ) where
@@ -25,6 +26,12 @@ module _ {N : Type 0} (L : List N) (ends : ℕ → ℕ) where
 -- the ends at and above a place stand above their places
 abbrev pub RisesFrom : {N : Type 0} → List N → (ℕ → ℕ) → ℕ → Type 0
 RisesFrom L ends base = (i : ℕ) → base ≤ i → i < length L → i < ends i
+
+-- each node from a place on ends where the ends say
+abbrev pub EndsFrom : {Sh N : Type 0} → System Sh N → List N → (ℕ → ℕ) → ℕ → Type 0
+EndsFrom {Sh} {N} S L ends base =
+    (i : ℕ) (n : N) → base ≤ i → slice_get L i ≡ Some n
+    → (d : Entry Sh N) × (S n ≡ Some d) × Walks L ends d.refs (i + 1) (ends i)
 
 module _ {N : Type 0} (L : List N) (ends : ℕ → ℕ) (base : ℕ) (up : RisesFrom L ends base) where
   step_rises : (r : N) (a c : ℕ) → base ≤ a → IsStep L ends r a c → a ≤ c

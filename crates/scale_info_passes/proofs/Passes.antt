@@ -138,6 +138,13 @@ module _ {V : Type 0} {Visited : List Piece → V → V → Type 0} where
       → HasVisitedSome S references_of on Visited a b s t
   visited_verbatim v p k r o = record { value = v; by = record { pieces = verbatim p.encoding ∷ []; prefix = p; are_pieces = pieces_of_verbatim v p.encoding p.encodes r o; visited = k p.encoding p.parts } }
 
+  -- a value of a kind that has no references
+  pub visited_alone :
+      {A : Type 0} (S : A → List ℕ → Type 0) {a b : List ℕ} {s t : V} (v : A)
+      → HasPrefix (S v) a b → ((x : List ℕ) → a ≡ x ++ b → Visited (verbatim x ∷ []) s t)
+      → HasVisitedSome S (λ _. []) (λ _ w. w) Visited a b s t
+  visited_alone S v p k = visited_verbatim v p k refl (λ f. refl)
+
   module _
       (append : (ps qs : List Piece) (a b c : V) → Visited ps a b → Visited qs b c → Visited (ps ++ qs) a c) where
     -- the first part was visited, then the second

@@ -94,31 +94,6 @@ fn append_entry(
     Ok(())
 }
 
-/// Appends the entries at these indices, one after another. On an error some of them may have been
-/// appended.
-fn append_entries(
-    alloc: Global,
-    input: &[u8],
-    offsets: &[usize],
-    numbers: &[u32],
-    indices: &[u32],
-    out: &mut Vec<u8>,
-) -> Result<(), AllocError>
-    requires offsets { HasEntriesAt input.now offsets.now }
-    requires within { All (λ index. index < length offsets.now) indices.now }
-    requires few { length indices.now ≤ 4294967295 }
-    ensures ok { OnOk result ((entries : List PortableType) →
-        AreAtOffsets input.now entries offsets.now →
-        AppendsKeptEntries entries (renumbered numbers.now) indices.now
-        out.old.items out.new.items) }
-    ensures keeps { IsPrefix out.old.items out.new.items }
-{
-    for (id, index) in indices.iter().enumerate() {
-        append_entry(alloc, input, offsets, numbers, id as u32, *index, out)?;
-    }
-    Ok(())
-}
-
 /// Appends the entries at these indices, in this order, with the ids 0, 1 and so on, and each
 /// reference by its new number.
 ///
@@ -143,9 +118,11 @@ pub fn renumber_entries(
     ensures err { OnErr result (out.new.items ≡ out.old.items) }
 {
     let start = out.len();
-    let appended = append_entries(alloc, input, offsets, numbers, indices, out);
-    if appended.is_err() {
-        out.truncate(start);
+    for (id, index) in indices.iter().enumerate() {
+        if let Err(error) = append_entry(alloc, input, offsets, numbers, id as u32, *index, out) {
+            out.truncate(start);
+            return Err(error);
+        }
     }
-    appended
+    Ok(())
 }

@@ -1,4 +1,5 @@
 mod Composed
+mod Conversions
 pub mod Enumerated
 mod Numbered
 mod Registered

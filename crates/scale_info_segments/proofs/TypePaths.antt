@@ -111,29 +111,30 @@ cut_all pairs text rest done new longer so_far lacks is_new e =
       ap texts e ∙ map_push (λ t. t.now) done new ∙ ap (λ t. texts done ++ (t ∷ [])) is_new ∙ all.2,
     )
 
--- one more pair
-pub replaced_here :
-    (pairs : List (Bor (List ℕ) × Bor (List ℕ))) (i : ℕ) (d : Bor (List ℕ) × Bor (List ℕ))
-    (text : List ℕ)
-    → i < length pairs
-    → replaced (text_pairs pairs) text ≡ replaced (text_pairs (drop i pairs)) text
-    → bytes_eq (get_or pairs i d).0.now text ≡ true
-    → (get_or pairs i d).1.now ≡ replaced (text_pairs pairs) text
-replaced_here pairs i d text within so_far same =
-    let here : replaced (text_pairs (get_or pairs i d ∷ drop (i + 1) pairs)) text ≡ (get_or pairs i d).1.now = rw same refl in
-    sym (so_far ∙ ap (λ ps. replaced (text_pairs ps) text) (drop_more pairs i d within) ∙ here)
+-- the text, where the pairs before the i-th replace it by nothing else
+module _ (pairs : List (Bor (List ℕ) × Bor (List ℕ))) (i : ℕ) (d : Bor (List ℕ) × Bor (List ℕ))
+    (text : List ℕ) (within : i < length pairs)
+    (so_far : replaced (text_pairs pairs) text ≡ replaced (text_pairs (drop i pairs)) text) where
+  replaced_from :
+      replaced (text_pairs pairs) text
+      ≡ replaced (text_pairs (get_or pairs i d ∷ drop (i + 1) pairs)) text
+  replaced_from = so_far ∙ ap (λ ps. replaced (text_pairs ps) text) (drop_more pairs i d within)
 
--- a pair whose first text is another one is passed over
-pub replaced_later :
-    (pairs : List (Bor (List ℕ) × Bor (List ℕ))) (i : ℕ) (d : Bor (List ℕ) × Bor (List ℕ))
-    (text : List ℕ)
-    → i < length pairs
-    → replaced (text_pairs pairs) text ≡ replaced (text_pairs (drop i pairs)) text
-    → bytes_eq (get_or pairs i d).0.now text ≡ false
-    → replaced (text_pairs pairs) text ≡ replaced (text_pairs (drop (i + 1) pairs)) text
-replaced_later pairs i d text within so_far differs =
-    let here : replaced (text_pairs (get_or pairs i d ∷ drop (i + 1) pairs)) text ≡ replaced (text_pairs (drop (i + 1) pairs)) text = rw differs refl in
-    so_far ∙ ap (λ ps. replaced (text_pairs ps) text) (drop_more pairs i d within) ∙ here
+  -- one more pair
+  pub replaced_here :
+      bytes_eq (get_or pairs i d).0.now text ≡ true
+      → (get_or pairs i d).1.now ≡ replaced (text_pairs pairs) text
+  replaced_here same =
+      let here : replaced (text_pairs (get_or pairs i d ∷ drop (i + 1) pairs)) text ≡ (get_or pairs i d).1.now = rw same refl in
+      sym (replaced_from ∙ here)
+
+  -- a pair whose first text is another one is passed over
+  pub replaced_later :
+      bytes_eq (get_or pairs i d).0.now text ≡ false
+      → replaced (text_pairs pairs) text ≡ replaced (text_pairs (drop (i + 1) pairs)) text
+  replaced_later differs =
+      let here : replaced (text_pairs (get_or pairs i d ∷ drop (i + 1) pairs)) text ≡ replaced (text_pairs (drop (i + 1) pairs)) text = rw differs refl in
+      replaced_from ∙ here
 
 -- past the last pair the text is its own replacement
 pub replaced_never :

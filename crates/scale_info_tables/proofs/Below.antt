@@ -6,9 +6,7 @@ use Rattle.std.specs.List.{flat_map}
 use Rattle.std.specs.Option.{option_to_list}
 use Rattle.std.proofs.lemmas.List.Elements.{All-nil, All-cons, All-head, All-tail, All-append}
 use Rattle.std.proofs.lemmas.List.Elements.{All-map, All-weaker}
-use Rattle.scale_info_types.specs.Portable.{Description, Field, Variant, TypeParameter, TypeDef}
-use Rattle.scale_info_types.specs.Portable.{TypeDefComposite, TypeDefVariant}
-use Rattle.scale_info_types.specs.declared.ty.TypeDef.TheVariants as def
+use Rattle.scale_info_types.specs.Portable.{Description, Field, Id, Variant, TypeParameter, TypeDef}
 use Rattle.scale_info_types.specs.References.{references, definition_references, field_references}
 use Rattle.scale_info_types.specs.References.{parameter_references}
 use Rattle.scale_info_tables.specs.ClosedTables.{AreBelow}
@@ -98,28 +96,17 @@ parameters_below n params = (
       (All-weaker _ _ (λ p. all_to_option (λ symbol. symbol.id < n) p.ty) params each),
 )
 
--- a test that goes by the fields goes by the references of a composite
-pub composite_below :
-    (n : ℕ) (definition : TypeDef) (composite : TypeDefComposite) (fields : List Field)
-    (answer : Bool)
-    → definition ≡ def.Composite composite → composite.fields ≡ fields
-    → (IsTrue answer ↔ All (λ field. field.ty.id < n) fields)
+-- a test of what a definition holds, of which its references are made, goes by its references
+pub definition_below :
+    {X : Type 0} {P : List X → Type 0} {n : ℕ} (R : List X → List Id)
+    → ((held : List X) → AreBelow n (R held) ↔ P held)
+    → (definition : TypeDef) (held given : List X) (answer : Bool)
+    → definition_references definition ≡ R held → held ≡ given → (IsTrue answer ↔ P given)
     → (IsTrue answer ↔ AreBelow n (definition_references definition))
-composite_below n definition composite fields answer is_composite has_fields tests =
-    rw is_composite
-    (rw has_fields
-    ((λ yes. (fields_below n fields).1 (tests.0 yes)), (λ below. tests.1 ((fields_below n fields).0 below))))
-
--- a test that goes by the variants goes by the references of an enum
-pub variant_below :
-    (n : ℕ) (definition : TypeDef) (enum : TypeDefVariant) (variants : List Variant) (answer : Bool)
-    → definition ≡ def.Variant enum → enum.variants ≡ variants
-    → (IsTrue answer ↔ All (λ v. All (λ field. field.ty.id < n) v.fields) variants)
-    → (IsTrue answer ↔ AreBelow n (definition_references definition))
-variant_below n definition enum variants answer is_enum has_variants tests =
-    rw is_enum
-    (rw has_variants
-    ((λ yes. (variants_below n variants).1 (tests.0 yes)), (λ below. tests.1 ((variants_below n variants).0 below))))
+definition_below R below definition held given answer made same tests =
+    rw made
+    (rw same
+    ((λ yes. (below given).1 (tests.0 yes)), (λ all. tests.1 ((below given).0 all))))
 
 -- where the parameters' types are below n, the references of the description go by its definition
 pub described_by_definition :

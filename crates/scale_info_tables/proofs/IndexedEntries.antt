@@ -1,5 +1,5 @@
 -- Entries with their indices.
-use Rattle.std.proofs.Common.{◌≡◌, ◌↔◌, ◌<◌, ℕ, zero, suc, ◌+◌, List, [], ◌∷◌, Bool, true, false}
+use Rattle.std.proofs.Common.{◌≡◌, ◌↔◌, ◌<◌, ℕ, zero, suc, List, [], ◌∷◌, Bool, true, false}
 use Rattle.std.proofs.Common.{IsTrue, All, length, min, take, ap, refl, arith}
 use Rattle.std.specs.Bool.{MatchBool}
 use Rattle.std.proofs.lemmas.Bool.{false≢true}
@@ -7,13 +7,13 @@ use Rattle.std.specs.List.{AllWithin, HoldsAt}
 use Rattle.std.proofs.lemmas.List.Elements.{All-from_all_within}
 use Rattle.scale_info_types.specs.declared.ty.PortableType.{PortableType}
 use Rattle.scale_info_tables.specs.IndexedEntries.{indexed_from}
+use Rattle.scale_info_tables.proofs.Interned.{length_counted}
 
 -- there are as many as entries
 pub length_indexed :
     (index : ℕ) (entries : List PortableType)
     → length (indexed_from index entries) ≡ length entries
-length_indexed index [] = refl
-length_indexed index (entry ∷ entries) = ap suc (length_indexed (index + 1) entries)
+length_indexed = length_counted indexed_from (λ n. refl) (λ n entry entries. (_, refl))
 
 -- a list of at most so many elements has no more to give
 pub taken_within :

@@ -31,12 +31,20 @@ pub unregistered_is_new :
     → DecidesValues eq → (xs : List X) (x : X) → IsUnregistered xs x → IsNew eq xs x
 unregistered_is_new eq law xs x u k = u (k.0, k.1.1 ∙ ap Some (sym ((law x k.1.0).0 k.1.2)))
 
+-- what goes through a list and counts from a number on gives as many elements
+pub length_counted :
+    {A B : Type 0} (of : ℕ → List A → List B) → ((n : ℕ) → of n [] ≡ [])
+    → ((n : ℕ) (x : A) (xs : List A) → (y : B) × (of n (x ∷ xs) ≡ y ∷ of (n + 1) xs))
+    → (n : ℕ) (xs : List A) → length (of n xs) ≡ length xs
+length_counted of none one n [] = ap length (none n)
+length_counted of none one n (x ∷ xs) =
+    ap length (one n x xs).1 ∙ ap suc (length_counted of none one (n + 1) xs)
+
 -- there are as many numbered entries as descriptions
 pub length_numbered :
     (first : ℕ) (types : List Description)
     → length (numbered_from first types) ≡ length types
-length_numbered first [] = refl
-length_numbered first (ty ∷ types) = ap suc (length_numbered (first + 1) types)
+length_numbered = length_counted numbered_from (λ n. refl) (λ n ty types. (_, refl))
 
 -- one more description gets the next id, after the others
 pub numbered_push :

@@ -1,5 +1,5 @@
 -- Entries that are moved out of a list, one by one, and the table that they make.
-use Rattle.std.proofs.Common.{◌≡◌, ◌≢◌, ◌↔◌, ℕ, ◌+◌, ◌<◌, ◌≤◌, List, [], ◌∷◌, ◌++◌, length, map}
+use Rattle.std.proofs.Common.{◌≡◌, ◌≢◌, ◌↔◌, ℕ, ◌<◌, ◌≤◌, List, [], ◌∷◌, ◌++◌, length}
 use Rattle.std.proofs.Common.{Some}
 use Rattle.std.proofs.Common.{slice_get, ap, sym, ◌∙◌, subst, arith, inl, inr, Contains}
 use Rattle.std.proofs.Common.{get_or, set, take, drop}
@@ -11,7 +11,6 @@ use Rattle.std.specs.BTreeMap.{BTreeMap, get}
 use Rattle.std.specs.Ordering.{nat_cmp}
 use Rattle.scale_info_numberings.proofs.Places.{at_left, at_seam, from_left, place_of, contains_at}
 use Rattle.scale_info_numberings.specs.Numberings.{AreDistinct, IsNumbering}
-use Rattle.scale_info_numberings.specs.Systems.{next}
 use Rattle.scale_info_types.specs.KeptEntries.{kept_entry}
 use Rattle.scale_info_types.specs.Portable.{Id}
 use Rattle.scale_info_types.specs.declared.ty.PortableType.{PortableType}

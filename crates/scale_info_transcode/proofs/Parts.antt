@@ -2,7 +2,7 @@
 use Rattle.std.proofs.Common.{ℕ, List}
 use Rattle.scale_info_bytes.specs.Encodings.{HasPrefix, HasNoPrefix}
 use Rattle.scale_info_bytes.specs.Parts.{EncodesPair}
-use Rattle.scale_info_bytes.proofs.Steps.{prefix_pair, no_prefix_first}
+use Rattle.scale_info_bytes.proofs.Steps.{prefix_pair, no_prefix_first, no_prefix_through}
 use Rattle.scale_info_transcode.proofs.Skips.{no_second_part}
 use Rattle.scale_info_transcode.specs.Skips.{IsOnlyRest}
 
@@ -22,23 +22,32 @@ module _ {A B C D : Type 0} (S : A → List ℕ → Type 0) (R : B → List ℕ 
       (prefix_pair {S = R} {R = EncodesPair T U} {v = v.1} q
       (prefix_pair {S = T} {R = U} {v = v.1.1} r t))
 
+-- a value that is encoded as its four parts
+module _ {V A B C D : Type 0} {S : A → List ℕ → Type 0} {R : B → List ℕ → Type 0}
+    {T : C → List ℕ → Type 0} {U : D → List ℕ → Type 0} {a : List ℕ}
+    (parts : V → A × (B × (C × D))) where
   -- no first part
-  pub no_first : (a : List ℕ) → HasNoPrefix S a → HasNoPrefix EncodesFour a
-  no_first a n = no_prefix_first {R = EncodesPair R (EncodesPair T U)} n
+  pub no_first : HasNoPrefix S a → HasNoPrefix (λ v x. EncodesFour S R T U (parts v) x) a
+  no_first n = no_prefix_through parts (no_prefix_first {R = EncodesPair R (EncodesPair T U)} n)
 
   -- the first part, and no second part after it
   pub no_second :
-      (a b : List ℕ) → IsOnlyRest S a b → HasNoPrefix R b → HasNoPrefix EncodesFour a
-  no_second a b p n = no_second_part p (no_prefix_first {R = EncodesPair T U} n)
+      {b : List ℕ} → IsOnlyRest S a b → HasNoPrefix R b
+      → HasNoPrefix (λ v x. EncodesFour S R T U (parts v) x) a
+  no_second p n =
+      no_prefix_through parts (no_second_part p (no_prefix_first {R = EncodesPair T U} n))
 
   -- the first two parts, and no third part after them
   pub no_third :
-      (a b c : List ℕ) → IsOnlyRest S a b → IsOnlyRest R b c → HasNoPrefix T c
-      → HasNoPrefix EncodesFour a
-  no_third a b c p q n = no_second_part p (no_second_part q (no_prefix_first {R = U} n))
+      {b c : List ℕ} → IsOnlyRest S a b → IsOnlyRest R b c → HasNoPrefix T c
+      → HasNoPrefix (λ v x. EncodesFour S R T U (parts v) x) a
+  no_third p q n =
+      no_prefix_through parts
+      (no_second_part p (no_second_part q (no_prefix_first {R = U} n)))
 
   -- the first three parts, and no fourth part after them
   pub no_fourth :
-      (a b c d : List ℕ) → IsOnlyRest S a b → IsOnlyRest R b c → IsOnlyRest T c d
-      → HasNoPrefix U d → HasNoPrefix EncodesFour a
-  no_fourth a b c d p q h n = no_second_part p (no_second_part q (no_second_part h n))
+      {b c d : List ℕ} → IsOnlyRest S a b → IsOnlyRest R b c → IsOnlyRest T c d → HasNoPrefix U d
+      → HasNoPrefix (λ v x. EncodesFour S R T U (parts v) x) a
+  no_fourth p q h n =
+      no_prefix_through parts (no_second_part p (no_second_part q (no_second_part h n)))

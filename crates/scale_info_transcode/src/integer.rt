@@ -20,10 +20,7 @@ pub fn decode_u8(input: &[u8]) -> Result<(u8, &[u8]), DecodeError>
     ensures ok { IfOk result (λ found. HasPrefix (EncodesU8 found.0) input.now found.1.now) }
     ensures malformed { IfErr result (IfMalformed (HasNoPrefix EncodesU8 input.now)) }
 {
-    match integer::decode_u8(input) {
-        Some(found) => Ok(found),
-        None => Err(DecodeError::Malformed),
-    }
+    integer::decode_u8(input).ok_or(DecodeError::Malformed)
 }
 
 impl Transcode for u32 {
@@ -32,13 +29,9 @@ impl Transcode for u32 {
     ghost written = { λ n. number (unsigned n) };
 
     fn transcode<'a>(input: &'a [u8], out: &mut Writer) -> Result<&'a [u8], DecodeError> {
-        match integer::decode_u32(input) {
-            None => Err(DecodeError::Malformed),
-            Some((value, rest)) => {
-                out.u64(value as u64)?;
-                Ok(rest)
-            }
-        }
+        let (value, rest) = integer::decode_u32(input).ok_or(DecodeError::Malformed)?;
+        out.u64(value as u64)?;
+        Ok(rest)
     }
 
     ghost law = { u32_law };
@@ -50,13 +43,9 @@ impl Transcode for Compact<u32> {
     ghost written = { λ v. number (unsigned v.0) };
 
     fn transcode<'a>(input: &'a [u8], out: &mut Writer) -> Result<&'a [u8], DecodeError> {
-        match integer::decode_compact(input) {
-            None => Err(DecodeError::Malformed),
-            Some((value, rest)) => {
-                out.u64(value as u64)?;
-                Ok(rest)
-            }
-        }
+        let (value, rest) = integer::decode_compact(input).ok_or(DecodeError::Malformed)?;
+        out.u64(value as u64)?;
+        Ok(rest)
     }
 
     ghost law = { through_law (λ v. v.0) (λ v w e i. record { 0 = e i }) compact_law };

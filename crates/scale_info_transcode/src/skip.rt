@@ -40,10 +40,7 @@ pub fn skip_part<T: Skip>(input: &[u8]) -> Result<&[u8], DecodeError>
     ensures ok { IfOk result (λ rest. IsOnlyRest T.encodes input.now rest.now) }
     ensures malformed { IfErr result (IfMalformed (HasNoPrefix T.encodes input.now)) }
 {
-    match T::skip(input) {
-        Some(rest) => Ok(rest),
-        None => Err(DecodeError::Malformed),
-    }
+    T::skip(input).ok_or(DecodeError::Malformed)
 }
 
 impl Skip for Text {

@@ -19,10 +19,7 @@ pub fn decode_str(input: &[u8]) -> Result<(&str, &[u8]), DecodeError>
     ensures ok { IfOk result (λ found. HasPrefix (EncodesText found.0.now) input.now found.1.now) }
     ensures malformed { IfErr result (IfMalformed (HasNoPrefix EncodesText input.now)) }
 {
-    match text::decode_str(input) {
-        Some(found) => Ok(found),
-        None => Err(DecodeError::Malformed),
-    }
+    text::decode_str(input).ok_or(DecodeError::Malformed)
 }
 
 /// The string that may be missing at the start of the input, and the rest.

@@ -191,13 +191,9 @@ impl Transcode for TypeDefPrimitive {
     ghost written = { primitive_tree };
 
     fn transcode<'a>(input: &'a [u8], out: &mut Writer) -> Result<&'a [u8], DecodeError> {
-        match decode_primitive(input) {
-            Some((primitive, rest)) => {
-                out.string(primitive.name())?;
-                Ok(rest)
-            }
-            None => Err(DecodeError::Malformed),
-        }
+        let (primitive, rest) = decode_primitive(input).ok_or(DecodeError::Malformed)?;
+        out.string(primitive.name())?;
+        Ok(rest)
     }
 
     ghost law = { primitive_law };

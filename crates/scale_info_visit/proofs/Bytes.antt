@@ -1,17 +1,17 @@
 -- Bytes shown one by one.
 use Rattle.std.proofs.Common.{◌≡◌, ℕ, zero, suc, ◌+◌, ◌*◌, ◌<◌, ◌≤◌, List, [], ◌∷◌, ◌++◌, length, map, take, drop, replicate}
-use Rattle.std.proofs.Common.{refl, ap, sym, ◌∙◌, slice_index_or, arith}
+use Rattle.std.proofs.Common.{refl, ap, sym, ◌∙◌, slice_index_or, append_assoc, arith, inl, inr}
 use Rattle.std.proofs.lemmas.Grind.{common_steps}
+use Rattle.std.proofs.lemmas.Bool.{cases_lt}
 use Rattle.scale_info_primitives.specs.declared.primitive.TypeDefPrimitive.TheVariants as kind
-use Rattle.scale_info_value.specs.declared.value.Failure.{Failure}
 use Rattle.scale_info_value.specs.declared.value.Dyn.TheVariants as dyn
 use Rattle.scale_info_value.specs.Outcomes.{decoded, failed, malformed, and_then, outcome_map, in_turn}
 use Rattle.scale_info_value.specs.IntegerDecoders.{bytes}
 use Rattle.scale_info_value.specs.ValueDefinitions.{primitive}
-use Rattle.scale_info_value.proofs.Texts.{bytes_whole, bytes_long}
+use Rattle.scale_info_value.proofs.Texts.{bytes_whole}
 use Rattle.scale_info_value.proofs.Integers.{read_integer, number_there, integers_missing}
-use Rattle.std.proofs.lemmas.List.{take_more, map-append, take_all}
-use Rattle.scale_info_visit.specs.Events.{unsigned, begin_list, end_list, bytes_events}
+use Rattle.std.proofs.lemmas.List.{take_more, map-append, take_all, take-append-drop}
+use Rattle.scale_info_visit.specs.Events.{unsigned, begin_list, end_list, integers_events}
 
 -- one byte more
 pub one_byte :
@@ -25,13 +25,22 @@ one_byte all at h =
 -- all bytes, and the end
 pub all_bytes :
     (all : List ℕ) (at : ℕ) → length all ≤ at
-    → (begin_list (length all) ∷ map unsigned (take at all)) ++ end_list ∷ [] ≡ bytes_events all
+    → (begin_list (length all) ∷ map unsigned (take at all)) ++ end_list ∷ [] ≡ integers_events all
 all_bytes all at h =
     ap (λ bs. begin_list (length all) ∷ map unsigned bs ++ end_list ∷ []) (take_all at all h)
 
+-- some bytes, and the others
+pub bytes_split :
+    (all : List ℕ) (at : ℕ)
+    → integers_events all ≡ (begin_list (length all) ∷ map unsigned (take at all)) ++ (map unsigned (drop at all) ++ end_list ∷ [])
+bytes_split all at =
+    ap (λ bs. begin_list (length all) ∷ map unsigned bs ++ end_list ∷ []) (sym (take-append-drop at all))
+    ∙ ap (λ es. begin_list (length all) ∷ es ++ end_list ∷ []) (map-append unsigned (take at all) (drop at all))
+    ∙ ap (λ es. begin_list (length all) ∷ es) (append_assoc (map unsigned (take at all)) (map unsigned (drop at all)) (end_list ∷ []))
+
 -- where they are not there, they are missing
-bytes_short : (n : ℕ) (input : List ℕ) (why : Failure) → bytes n input ≡ failed why → (length input < n) × (why ≡ malformed)
-bytes_short n input why h = grind (arith, common_steps)
+bytes_short : (n : ℕ) (input : List ℕ) → length input < n → bytes n input ≡ failed malformed
+bytes_short n input h = grind (arith, common_steps)
 
 -- a byte is an integer of one byte
 byte_there : (b : ℕ) (bs : List ℕ) → read_integer 1 (b ∷ bs) ≡ decoded (dyn.Unsigned b) bs
@@ -50,19 +59,14 @@ each_byte (suc n) (b ∷ bs) h =
     ∙ ap (λ o. outcome_map (λ vs. dyn.Unsigned b ∷ vs) o) (each_byte n bs (omega arith))
 
 -- so many bytes are as many integers
-pub bytes_read :
-    (n : ℕ) (input all rest : List ℕ) → bytes n input ≡ decoded all rest
-    → in_turn (replicate n (primitive kind.U8)) input ≡ decoded (map dyn.Unsigned all) rest
-bytes_read n input all rest e =
-    let h : decoded (take n input) (drop n input) ≡ decoded all rest = sym (bytes_whole n input (bytes_long n input all rest e)) ∙ e in
-    let p : take n input ≡ all = cc in
-    let q : drop n input ≡ rest = cc in
-    each_byte n input (bytes_long n input all rest e) ∙ (λ i. decoded (map dyn.Unsigned (p i)) (q i))
-
--- where there are not so many bytes, there are not so many integers
-pub bytes_missing :
-    (n : ℕ) (input : List ℕ) (why : Failure) → bytes n input ≡ failed why
-    → in_turn (replicate n (primitive kind.U8)) input ≡ failed why
-bytes_missing n input why e =
-    let h = bytes_short n input why e in
-    integers_missing n 1 input (omega (arith, h.0)) ∙ ap (λ w. failed w) (sym h.1)
+pub bytes_are_integers :
+    (n : ℕ) (input : List ℕ)
+    → in_turn (replicate n (primitive kind.U8)) input ≡ outcome_map (λ all. map dyn.Unsigned all) (bytes n input)
+bytes_are_integers n input =
+    elim (cases_lt (length input) n) [
+      | inl short ↦
+          integers_missing n 1 input (omega (arith, short))
+          ∙ ap (λ o. outcome_map (λ all. map dyn.Unsigned all) o) (sym (bytes_short n input short))
+      | inr long ↦
+          each_byte n input long ∙ ap (λ o. outcome_map (λ all. map dyn.Unsigned all) o) (sym (bytes_whole n input long))
+    ]

@@ -1,81 +1,153 @@
 -- The events of values by their parts.
-use Rattle.std.proofs.Common.{◌≡◌, ℕ, List, [], ◌∷◌, ◌++◌, length, map, Option, refl, ap, sym, ◌∙◌}
+use Rattle.std.proofs.Common.{◌≡◌, ℕ, Bool, false, List, [], ◌∷◌, ◌++◌, length, map, Option, Some, None, option_map, refl, ap, sym, ◌∙◌}
 use Rattle.std.specs.List.{flat_map}
 use Rattle.std.proofs.lemmas.List.{length-map}
-use Rattle.std.proofs.lemmas.List.Folds.{flat_map-map}
-use Rattle.scale_info_types.specs.Portable.{Text}
+use Rattle.scale_info_types.specs.Portable.{Text, TypeDef}
+use Rattle.scale_info_tables.specs.declared.portable.PortableRegistry.{PortableRegistry}
 use Rattle.scale_info_value.specs.declared.value.Dyn.{Dyn}
 use Rattle.scale_info_value.specs.declared.value.Dyn.TheVariants as dyn
 use Rattle.scale_info_value.specs.declared.value.Dyn.TheVariants.{rolls-Bool, rolls-Unsigned, rolls-Signed, rolls-Text}
 use Rattle.scale_info_value.specs.declared.value.Dyn.TheVariants.{rolls-List, rolls-Record, rolls-Variant}
 use Rattle.scale_info_value.specs.declared.value.Dyn.TheOpen as layer
 use Rattle.scale_info_value.specs.declared.value.Dyn.TheFolds.{fold-roll-Dyn}
-use Rattle.scale_info_visit.specs.Events.{Event, truth, unsigned, signed, text, begin_list, end_list, begin_record}
-use Rattle.scale_info_visit.specs.Events.{end_record, begin_variant, end_variant, keys, named, events_step, events_of}
-use Rattle.scale_info_visit.specs.Events.{field_events, bytes_events}
+use Rattle.scale_info_visit.specs.Events.{Event, truth, unsigned, signed, text, begin_record, end_record}
+use Rattle.scale_info_visit.specs.Events.{begin_variant, end_variant, keys, all_named, field_events, list_events, integers_in}
+use Rattle.scale_info_visit.specs.Events.{events_step, events_of, events_by, step_by, are_bytes, part_types, in_place}
+use Rattle.scale_info_visit.specs.Visits.{placed, bracketed, value_by, field_by}
+use Rattle.scale_info_visit.proofs.Places.{in_place_map, flat_in_place, keys_in_place}
 
 -- the event of a truth value
-pub truth_events : (b : _) → events_of (dyn.Bool b) ≡ truth b ∷ []
-truth_events b = ap events_of (sym (rolls-Bool b)) ∙ fold-roll-Dyn (List Event) events_step (layer.Bool b)
+pub truth_events : (b : Bool) → events_of (dyn.Bool b) ≡ truth b ∷ []
+truth_events b = ap events_of (sym (rolls-Bool b)) ∙ fold-roll-Dyn (List Event) (events_step false) (layer.Bool b)
 
 -- that of an integer of an unsigned type
 pub unsigned_events : (n : ℕ) → events_of (dyn.Unsigned n) ≡ unsigned n ∷ []
-unsigned_events n = ap events_of (sym (rolls-Unsigned n)) ∙ fold-roll-Dyn (List Event) events_step (layer.Unsigned n)
+unsigned_events n = ap events_of (sym (rolls-Unsigned n)) ∙ fold-roll-Dyn (List Event) (events_step false) (layer.Unsigned n)
 
 -- that of an integer of a signed type
 pub signed_events : (n : _) → events_of (dyn.Signed n) ≡ signed n ∷ []
-signed_events n = ap events_of (sym (rolls-Signed n)) ∙ fold-roll-Dyn (List Event) events_step (layer.Signed n)
+signed_events n = ap events_of (sym (rolls-Signed n)) ∙ fold-roll-Dyn (List Event) (events_step false) (layer.Signed n)
 
 -- that of a text
 pub text_events : (t : Text) → events_of (dyn.Text t) ≡ text t ∷ []
-text_events t = ap events_of (sym (rolls-Text t)) ∙ fold-roll-Dyn (List Event) events_step (layer.Text t)
+text_events t = ap events_of (sym (rolls-Text t)) ∙ fold-roll-Dyn (List Event) (events_step false) (layer.Text t)
 
--- the events of a list
-pub list_events :
-    (vs : List Dyn) → events_of (dyn.List vs) ≡ begin_list (length vs) ∷ flat_map events_of vs ++ end_list ∷ []
-list_events vs =
-    ap events_of (sym (rolls-List vs)) ∙ fold-roll-Dyn (List Event) events_step (layer.List vs)
-    ∙ (λ i. begin_list (length-map vs events_of i) ∷ flat_map-map (λ e. e) events_of vs i ++ end_list ∷ [])
+-- a value without parts is shown alike, whatever is known of its type
+abbrev pub HasNoParts : Dyn → Type 0
+HasNoParts value = (table : PortableRegistry) (type : Option TypeDef) → events_by table type value ≡ events_of value
 
--- fields with the events of their values
-abbrev parts : List (Option Text × Dyn) → List (Option Text × List Event)
-parts fs = map (λ f. (f.0, events_of f.1)) fs
+module _ (table : PortableRegistry) (type : Option TypeDef) where
+  -- a truth value
+  truth_by : (b : Bool) → events_by table type (dyn.Bool b) ≡ truth b ∷ []
+  truth_by b =
+      ap (events_by table type) (sym (rolls-Bool b))
+      ∙ ap (λ h. h type) (fold-roll-Dyn (Option TypeDef → List Event) (step_by table) (layer.Bool b))
 
--- they have the same names
-keys_of : (fs : List (Option Text × Dyn)) → keys (parts fs) ≡ keys fs
-keys_of [] = refl
-keys_of (f ∷ fs) = ap (λ ks. f.0 ∷ ks) (keys_of fs)
+  -- an integer of an unsigned type
+  pub unsigned_by : (n : ℕ) → events_by table type (dyn.Unsigned n) ≡ unsigned n ∷ []
+  unsigned_by n =
+      ap (events_by table type) (sym (rolls-Unsigned n))
+      ∙ ap (λ h. h type) (fold-roll-Dyn (Option TypeDef → List Event) (step_by table) (layer.Unsigned n))
 
--- they have the same events
-named_of : (fs : List (Option Text × Dyn)) → flat_map named (parts fs) ≡ flat_map field_events fs
-named_of [] = refl
-named_of (f ∷ fs) = ap (λ es. field_events f ++ es) (named_of fs)
+  -- an integer of a signed type
+  signed_by : (n : _) → events_by table type (dyn.Signed n) ≡ signed n ∷ []
+  signed_by n =
+      ap (events_by table type) (sym (rolls-Signed n))
+      ∙ ap (λ h. h type) (fold-roll-Dyn (Option TypeDef → List Event) (step_by table) (layer.Signed n))
 
--- the events of a record
-pub record_events :
-    (fs : List (Option Text × Dyn))
-    → events_of (dyn.Record fs) ≡ begin_record (keys fs) ∷ flat_map field_events fs ++ end_record (keys fs) ∷ []
-record_events fs =
-    ap events_of (sym (rolls-Record fs)) ∙ fold-roll-Dyn (List Event) events_step (layer.Record fs)
-    ∙ (λ i. begin_record (keys_of fs i) ∷ named_of fs i ++ end_record (keys_of fs i) ∷ [])
+  -- a text
+  text_by : (t : Text) → events_by table type (dyn.Text t) ≡ text t ∷ []
+  text_by t =
+      ap (events_by table type) (sym (rolls-Text t))
+      ∙ ap (λ h. h type) (fold-roll-Dyn (Option TypeDef → List Event) (step_by table) (layer.Text t))
 
--- the events of a variant
-pub variant_events :
-    (name : Text) (index : ℕ) (fs : List (Option Text × Dyn))
-    → events_of (dyn.Variant name index fs)
-    ≡ begin_variant name index (keys fs)
-    ∷ flat_map field_events fs ++ end_variant name index (keys fs) ∷ []
-variant_events name index fs =
-    ap events_of (sym (rolls-Variant name index fs)) ∙ fold-roll-Dyn (List Event) events_step (layer.Variant name index fs)
-    ∙ (λ i. begin_variant name index (keys_of fs i) ∷ named_of fs i ++ end_variant name index (keys_of fs i) ∷ [])
+  -- a list
+  pub list_typed :
+      (vs : List Dyn)
+      → events_by table type (dyn.List vs)
+      ≡ list_events (are_bytes table type) (in_place (value_by table) vs (part_types table type 0 (length vs)))
+  list_typed vs =
+      let items : List (Option TypeDef → List Event) = map (value_by table) vs in
+      ap (events_by table type) (sym (rolls-List vs))
+      ∙ ap (λ h. h type) (fold-roll-Dyn (Option TypeDef → List Event) (step_by table) (layer.List vs))
+      ∙ ap (λ n. list_events (are_bytes table type) (in_place (λ e t. e t) items (part_types table type 0 n))) (length-map vs (value_by table))
+      ∙ ap (list_events (are_bytes table type))
+      (in_place_map (λ e t. e t) (value_by table) vs (part_types table type 0 (length vs)))
 
--- the events of bytes, one after another
-unsigned_all : (bytes : List ℕ) → flat_map events_of (map dyn.Unsigned bytes) ≡ map unsigned bytes
-unsigned_all [] = refl
-unsigned_all (b ∷ bs) = λ i. unsigned_events b i ++ unsigned_all bs i
+  -- fields with the events of their values
+  abbrev parts : List (Option Text × Dyn) → List (Option Text × (Option TypeDef → List Event))
+  parts fs = map (λ f. (f.0, value_by table f.1)) fs
 
--- the events of a list of bytes
-pub bytes_are : (bytes : List ℕ) → events_of (dyn.List (map dyn.Unsigned bytes)) ≡ bytes_events bytes
-bytes_are bytes =
-    list_events (map dyn.Unsigned bytes)
-    ∙ (λ i. begin_list (length-map bytes dyn.Unsigned i) ∷ unsigned_all bytes i ++ end_list ∷ [])
+  -- fields between two events that have their names
+  abbrev named_parts : (List (Option Text) → Event) → (List (Option Text) → Event) → List (Option Text × List Event) → List Event
+  named_parts first last fs =
+      first (keys fs) ∷ flat_map (field_events (all_named (keys fs))) fs ++ last (keys fs) ∷ []
+
+  -- they are shown by the types of their values
+  fields_typed :
+      (first last : List (Option Text) → Event) (fs : List (Option Text × Dyn)) (types : List (Option TypeDef))
+      → named_parts first last (in_place (λ f t. (f.0, f.1 t)) (parts fs) types)
+      ≡ bracketed (first (keys fs)) (placed (field_by table (all_named (keys fs))) types) (last (keys fs)) fs
+  fields_typed first last fs types =
+      let shown : List (Option Text × List Event) = in_place (λ f t. (f.0, value_by table f.1 t)) fs types in
+      let names = keys_in_place (value_by table) fs types in
+      ap (named_parts first last) (in_place_map (λ f t. (f.0, f.1 t)) (λ f. (f.0, value_by table f.1)) fs types)
+      ∙ ap (λ ns. first ns ∷ flat_map (field_events (all_named ns)) shown ++ last ns ∷ []) names
+      ∙ ap (λ es. first (keys fs) ∷ es ++ last (keys fs) ∷ [])
+      (flat_in_place (field_events (all_named (keys fs))) (λ f t. (f.0, value_by table f.1 t)) fs types)
+
+  -- a record
+  pub record_typed :
+      (fs : List (Option Text × Dyn))
+      → events_by table type (dyn.Record fs)
+      ≡ bracketed (begin_record (keys fs))
+      (placed (field_by table (all_named (keys fs))) (part_types table type 0 (length fs))) (end_record (keys fs)) fs
+  record_typed fs =
+      ap (events_by table type) (sym (rolls-Record fs))
+      ∙ ap (λ h. h type) (fold-roll-Dyn (Option TypeDef → List Event) (step_by table) (layer.Record fs))
+      ∙ ap (λ n. named_parts begin_record end_record (in_place (λ f t. (f.0, f.1 t)) (parts fs) (part_types table type 0 n)))
+      (length-map fs (λ f. (f.0, value_by table f.1)))
+      ∙ fields_typed begin_record end_record fs (part_types table type 0 (length fs))
+
+  -- a variant
+  pub variant_typed :
+      (name : Text) (index : ℕ) (fs : List (Option Text × Dyn))
+      → events_by table type (dyn.Variant name index fs)
+      ≡ bracketed (begin_variant name index (keys fs))
+      (placed (field_by table (all_named (keys fs))) (part_types table type index (length fs))) (end_variant name index (keys fs)) fs
+  variant_typed name index fs =
+      ap (events_by table type) (sym (rolls-Variant name index fs))
+      ∙ ap (λ h. h type) (fold-roll-Dyn (Option TypeDef → List Event) (step_by table) (layer.Variant name index fs))
+      ∙ ap (λ n. named_parts (begin_variant name index) (end_variant name index)
+      (in_place (λ f t. (f.0, f.1 t)) (parts fs) (part_types table type index n)))
+      (length-map fs (λ f. (f.0, value_by table f.1)))
+      ∙ fields_typed (begin_variant name index) (end_variant name index) fs (part_types table type index (length fs))
+
+-- a truth value has no parts
+pub truth_alone : (b : Bool) → HasNoParts (dyn.Bool b)
+truth_alone b table type = truth_by table type b ∙ sym (truth_events b)
+
+-- nor has an integer of an unsigned type
+pub unsigned_alone : (n : ℕ) → HasNoParts (dyn.Unsigned n)
+unsigned_alone n table type = unsigned_by table type n ∙ sym (unsigned_events n)
+
+-- nor has one of a signed type
+pub signed_alone : (n : _) → HasNoParts (dyn.Signed n)
+signed_alone n table type = signed_by table type n ∙ sym (signed_events n)
+
+-- nor has a text
+pub text_alone : (t : Text) → HasNoParts (dyn.Text t)
+text_alone t table type = text_by table type t ∙ sym (text_events t)
+
+-- integers of an unsigned type, each shown alone
+pub integers_alone :
+    (table : PortableRegistry) (all : List ℕ) (types : List (Option TypeDef))
+    → in_place (value_by table) (map dyn.Unsigned all) types ≡ map (λ n. unsigned n ∷ []) all
+integers_alone table [] types = refl
+integers_alone table (n ∷ all) [] = λ i. unsigned_by table None n i ∷ integers_alone table all [] i
+integers_alone table (n ∷ all) (t ∷ types) = λ i. unsigned_by table t n i ∷ integers_alone table all types i
+
+-- they are all integers
+pub integers_joined : (all : List ℕ) → integers_in (map (λ n. unsigned n ∷ []) all) ≡ Some all
+integers_joined [] = refl
+integers_joined (n ∷ all) = ap (λ o. option_map (λ ns. n ∷ ns) o) (integers_joined all)

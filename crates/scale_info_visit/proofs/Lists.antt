@@ -1,64 +1,31 @@
--- What decoders in turn leave, and the lists that are shown.
-use Rattle.std.proofs.Common.{◌≡◌, ℕ, suc, ◌+◌, ◌-◌, ◌<◌, List, [], ◌∷◌, ◌++◌, length, map, replicate, drop, get_or, Option, Some, None}
+-- The events of lists, records and fields as a table has them.
+use Rattle.std.proofs.Common.{◌≡◌, ℕ, ◌+◌, ◌-◌, ◌<◌, List, [], ◌∷◌, length, map, replicate, drop, get_or, Option, Some, None}
 use Rattle.std.proofs.Common.{refl, ap, sym, ◌∙◌, arith, option_map, find, cond, Bool, true, false, ◌==◌, drop-cons, add-one}
-use Rattle.std.proofs.lemmas.List.{length-replicate}
+use Rattle.std.proofs.lemmas.List.{append-nil, length-map}
 use Rattle.std.proofs.lemmas.Grind.{common_steps}
-use Rattle.std.specs.List.{flat_map}
-use Rattle.scale_info_types.specs.Portable.{Text, Field, Variant, TypeDef, TypeDefVariant}
+use Rattle.scale_info_types.specs.Portable.{Id, Text, Field, Variant, TypeDef, TypeDefComposite, TypeDefVariant}
+use Rattle.scale_info_types.specs.Portable.{TypeDefSequence, TypeDefArray, TypeDefTuple, TypeDefMap}
 use Rattle.scale_info_types.specs.declared.ty.TypeDef.TheVariants as def
 use Rattle.scale_info_types.specs.Shapes.{map_field}
 use Rattle.scale_info_tables.specs.declared.portable.PortableRegistry.{PortableRegistry}
 use Rattle.scale_info_value.specs.declared.value.Dyn.{Dyn}
 use Rattle.scale_info_value.specs.declared.value.Dyn.TheVariants as dyn
-use Rattle.scale_info_value.specs.Outcomes.{Outcome, decoded, failed, Decoder, and_then, outcome_map, in_turn}
+use Rattle.scale_info_value.specs.Outcomes.{Outcome, decoded, failed, Decoder, and_then, outcome_map}
 use Rattle.scale_info_value.specs.ValueDefinitions.{field}
 use Rattle.scale_info_value.specs.Readings.{fields_within, part_within, value_within}
-use Rattle.scale_info_value.specs.Readings.{definition_within, variant_within}
-use Rattle.scale_info_visit.specs.Events.{Event, begin_list, end_list, begin_record, end_record, keys, names, events_of, field_events}
-use Rattle.scale_info_visit.specs.Events.{begin_of, end_of, begin_variant, end_variant}
+use Rattle.scale_info_value.specs.Readings.{definition_within, variant_within, items_within, members_within, pairs_within}
+use Rattle.scale_info_visit.specs.Events.{Event, begin_list, end_list, begin_record, end_record, keys, names, all_named}
+use Rattle.scale_info_visit.specs.Events.{begin_of, end_of, begin_variant, end_variant, bytes, unsigned, events, events_by}
+use Rattle.scale_info_visit.specs.Events.{fields_of, definition_at, pair_of, is_byte, in_place, list_events, joined}
 use Rattle.scale_info_visit.specs.Events.{field as name_of}
-use Rattle.scale_info_visit.specs.Visits.{HasVisited, field_within}
-use Rattle.scale_info_visit.proofs.Events.{list_events, record_events, variant_events}
-use Rattle.scale_info_visit.proofs.Visiting.{between}
-
--- the parts of what is decoded in turn
-abbrev Parts : {A : Type 0} → Outcome A → List (Decoder A) → List A → List ℕ → Type 0
-Parts {A} o more vs rest =
-    (v : A) × (r : List ℕ) × (ws : List A) × (o ≡ decoded v r) × (in_turn more r ≡ decoded ws rest) × (vs ≡ v ∷ ws)
-
--- what a list that begins with a value is made of
-with_rest :
-    {A : Type 0} (v : A) (o : Outcome (List A)) (vs : List A) (rest : List ℕ)
-    → outcome_map (λ ws. v ∷ ws) o ≡ decoded vs rest → (ws : List A) × (o ≡ decoded ws rest) × (vs ≡ v ∷ ws)
-with_rest v (decoded ws s) vs rest e =
-    let p : v ∷ ws ≡ vs = cc in
-    let q : s ≡ rest = cc in
-    (ws, (λ i. decoded ws (q i)), sym p)
-with_rest v (failed why) vs rest e = cc
-
--- what the first decoder and the others give
-with_first :
-    {A : Type 0} (o : Outcome A) (more : List (Decoder A)) (vs : List A) (rest : List ℕ)
-    → and_then o (λ v r. outcome_map (λ ws. v ∷ ws) (in_turn more r)) ≡ decoded vs rest → Parts o more vs rest
-with_first (decoded v r) more vs rest e =
-    let p = with_rest v (in_turn more r) vs rest e in (v, r, p.0, refl, p.1, p.2)
-with_first (failed why) more vs rest e = cc
-
--- as many values are decoded as there are decoders
-pub as_many :
-    {A : Type 0} (ds : List (Decoder A)) (input : List ℕ) (vs : List A) (rest : List ℕ)
-    → in_turn ds input ≡ decoded vs rest → length vs ≡ length ds
-as_many [] input [] rest e = refl
-as_many [] input (v ∷ vs) rest e = cc
-as_many (d ∷ ds) input vs rest e =
-    let p = with_first (d input) ds vs rest e in
-    ap length p.5 ∙ ap suc (as_many ds p.1 p.2 rest p.4)
-
--- as many as the count says
-pub so_many :
-    {A : Type 0} (n : ℕ) (d : Decoder A) (input : List ℕ) (vs : List A) (rest : List ℕ)
-    → in_turn (replicate n d) input ≡ decoded vs rest → length vs ≡ n
-so_many n d input vs rest e = as_many (replicate n d) input vs rest e ∙ length-replicate n d
+use Rattle.scale_info_value.specs.IntegerDecoders.{byte, count}
+use Rattle.scale_info_value.proofs.Steps.{variant_found, composite_is}
+use Rattle.scale_info_visit.specs.Visits.{HasVisited, field_within, bracketed, placed, value_by, field_by}
+use Rattle.scale_info_visit.specs.Visits.{fields_by, items_by, members_by, list_by}
+use Rattle.scale_info_visit.proofs.Events.{list_typed, record_typed, variant_typed, integers_alone, integers_joined}
+use Rattle.scale_info_visit.proofs.Places.{length_in_place}
+use Rattle.scale_info_visit.proofs.Visiting.{Appends, AreNext, IsNext, are_next}
+use Rattle.scale_info_visit.proofs.Turns.{mapped_from, with_first, as_many}
 
 -- a name stays as it is
 same_text : (o : Option Text) → option_map (λ t. t) o ≡ o
@@ -84,53 +51,104 @@ named_alike left table (x ∷ all) input fs rest e =
     let others = named_alike left table all p.1 p.2 rest p.4 in
     ap keys p.5 ∙ (λ i. name i ∷ others i)
 
--- a list is shown
-pub list_shown :
-    {V : Type 0} {Visited : List Event → V → V → Type 0} {outcome : Outcome (List Dyn)} {rest : List ℕ} {a b c d : V}
-    (n : ℕ)
-    → ((es fs : List Event) (a b c : V) → Visited es a b → Visited fs b c → Visited (es ++ fs) a c)
-    → ((vs : List Dyn) → outcome ≡ decoded vs rest → length vs ≡ n)
-    → Visited (begin_list n ∷ []) a b → HasVisited Visited (flat_map events_of) outcome rest b c
-    → Visited (end_list ∷ []) c d
-    → HasVisited Visited events_of (outcome_map dyn.List outcome) rest a d
-list_shown n append long p q r =
-    between (begin_list n) end_list dyn.List append p q r
-    (λ vs e. list_events vs ∙ ap (λ m. begin_list m ∷ flat_map events_of vs ++ end_list ∷ []) (long vs e))
+-- the events of a record of these fields
+pub record_same :
+    (left : ℕ) (table : PortableRegistry) (d : TypeDef) (composite : TypeDefComposite) (all : List Field) (input : List ℕ)
+    → d ≡ def.Composite composite → all ≡ composite.fields
+    → (fs : List (Option Text × Dyn)) (rest : List ℕ) → fields_within left table all input ≡ decoded fs rest
+    → events_by table (Some d) (dyn.Record fs)
+    ≡ bracketed (begin_record (names all)) (fields_by table (all_named (names all)) all) (end_record (names all)) fs
+record_same left table d composite all input is whole fs rest e =
+    ap (λ t. events_by table (Some t) (dyn.Record fs)) is
+    ∙ record_typed table (Some (def.Composite composite)) fs
+    ∙ ap (λ l. bracketed (begin_record (keys fs)) (fields_by table (all_named (keys fs)) l) (end_record (keys fs)) fs) (sym whole)
+    ∙ ap (λ ns. bracketed (begin_record ns) (fields_by table (all_named ns) all) (end_record ns) fs)
+    (named_alike left table all input fs rest e)
 
--- a record is shown
-pub record_shown :
-    {V : Type 0} {Visited : List Event → V → V → Type 0} {rest : List ℕ} {a b c d : V}
-    (left : ℕ) (table : PortableRegistry) (all : List Field) (input : List ℕ)
-    → ((es fs : List Event) (a b c : V) → Visited es a b → Visited fs b c → Visited (es ++ fs) a c)
-    → Visited (begin_record (names all) ∷ []) a b
-    → HasVisited Visited (flat_map field_events) (fields_within left table all input) rest b c
-    → Visited (end_record (names all) ∷ []) c d
-    → HasVisited Visited events_of (outcome_map dyn.Record (fields_within left table all input)) rest a d
-record_shown {rest = rest} left table all input append p q r =
-    between (begin_record (names all)) (end_record (names all)) dyn.Record append p q r
-    (λ fs e. record_events fs
-    ∙ ap (λ ns. begin_record ns ∷ flat_map field_events fs ++ end_record ns ∷ [])
-    (named_alike left table all input fs rest e))
+-- the events of a variant
+pub variant_same :
+    (left : ℕ) (table : PortableRegistry) (choice : TypeDefVariant) (variant : Variant) (input : List ℕ)
+    → find (λ v. v.index == variant.index) choice.variants ≡ Some variant
+    → (fs : List (Option Text × Dyn)) (rest : List ℕ) → fields_within left table variant.fields input ≡ decoded fs rest
+    → events_by table (Some (def.Variant choice)) (dyn.Variant variant.name variant.index fs)
+    ≡ bracketed (begin_of variant) (fields_by table (all_named (names variant.fields)) variant.fields) (end_of variant) fs
+variant_same left table choice variant input found fs rest e =
+    variant_typed table (Some (def.Variant choice)) variant.name variant.index fs
+    ∙ ap (λ o. bracketed (begin_variant variant.name variant.index (keys fs))
+    (fields_by table (all_named (keys fs)) (fields_of o)) (end_variant variant.name variant.index (keys fs)) fs) found
+    ∙ ap (λ ns. bracketed (begin_variant variant.name variant.index ns)
+    (fields_by table (all_named ns) variant.fields) (end_variant variant.name variant.index ns) fs)
+    (named_alike left table variant.fields input fs rest e)
 
--- a variant is shown
-pub variant_shown :
-    {V : Type 0} {Visited : List Event → V → V → Type 0} {rest : List ℕ} {a b c d : V}
-    (left : ℕ) (table : PortableRegistry) (variant : Variant) (index : ℕ) (all : List Field) (input : List ℕ)
-    → index ≡ variant.index → all ≡ variant.fields
-    → ((es fs : List Event) (a b c : V) → Visited es a b → Visited fs b c → Visited (es ++ fs) a c)
-    → Visited (begin_of variant ∷ []) a b
-    → HasVisited Visited (flat_map field_events) (fields_within left table all input) rest b c
-    → Visited (end_of variant ∷ []) c d
-    → HasVisited Visited events_of
-    (outcome_map (λ values. dyn.Variant variant.name index values) (fields_within left table all input)) rest a d
-variant_shown {rest = rest} left table variant index all input same whole append p q r =
-    between (begin_of variant) (end_of variant) (λ values. dyn.Variant variant.name index values) append p q r
-    (λ fs e. variant_events variant.name index fs
-    ∙ (λ i. begin_variant variant.name (same i) (named_alike left table all input fs rest e i)
-    ∷ flat_map field_events fs
-    ++ end_variant variant.name (same i) (named_alike left table all input fs rest e i) ∷ [])
-    ∙ (λ i. begin_variant variant.name variant.index (names (whole i))
-    ∷ flat_map field_events fs ++ end_variant variant.name variant.index (names (whole i)) ∷ []))
+-- the events of a list that is not shown at once
+list_apart :
+    (table : PortableRegistry) (types : List (Option TypeDef)) (n : ℕ) (vs : List Dyn) → length vs ≡ n
+    → list_events false (in_place (value_by table) vs types) ≡ bracketed (begin_list n) (placed (value_by table) types) end_list vs
+list_apart table types n vs long =
+    ap (λ m. bracketed (begin_list m) (placed (value_by table) types) end_list vs)
+    (length_in_place (value_by table) vs types ∙ long)
+
+-- the events of a sequence
+pub sequence_same :
+    (table : PortableRegistry) (d : TypeDef) (sequence : TypeDefSequence) (n : ℕ) (vs : List Dyn)
+    → d ≡ def.Sequence sequence → length vs ≡ n
+    → events_by table (Some d) (dyn.List vs) ≡ list_by table (definition_at table sequence.type_param.id) n vs
+sequence_same table d sequence n vs is long =
+    ap (λ t. events_by table (Some t) (dyn.List vs)) is
+    ∙ list_typed table (Some (def.Sequence sequence)) vs
+    ∙ ap (λ m. list_by table (definition_at table sequence.type_param.id) m vs) long
+
+-- the events of an array
+pub array_same :
+    (table : PortableRegistry) (d : TypeDef) (array : TypeDefArray) (vs : List Dyn)
+    → d ≡ def.Array array → length vs ≡ array.len
+    → events_by table (Some d) (dyn.List vs) ≡ list_by table (definition_at table array.type_param.id) array.len vs
+array_same table d array vs is long =
+    ap (λ t. events_by table (Some t) (dyn.List vs)) is
+    ∙ list_typed table (Some (def.Array array)) vs
+    ∙ ap (λ m. list_by table (definition_at table array.type_param.id) m vs) long
+
+-- the events of a tuple
+pub tuple_same :
+    (table : PortableRegistry) (d : TypeDef) (tuple : TypeDefTuple) (ids : List Id) (vs : List Dyn)
+    → d ≡ def.Tuple tuple → ids ≡ tuple.fields → length vs ≡ length ids
+    → events_by table (Some d) (dyn.List vs) ≡ bracketed (begin_list (length ids)) (members_by table ids) end_list vs
+tuple_same table d tuple ids vs is whole long =
+    ap (λ t. events_by table (Some t) (dyn.List vs)) is
+    ∙ list_typed table (Some (def.Tuple tuple)) vs
+    ∙ ap (λ l. list_events false (in_place (value_by table) vs (map (λ t. definition_at table t.id) l))) (sym whole)
+    ∙ list_apart table (map (λ t. definition_at table t.id) ids) (length ids) vs long
+
+-- the events of a map
+pub map_same :
+    (table : PortableRegistry) (d : TypeDef) (entries : TypeDefMap) (n : ℕ) (vs : List Dyn)
+    → d ≡ def.Map entries → length vs ≡ n
+    → events_by table (Some d) (dyn.List vs)
+    ≡ bracketed (begin_list n) (items_by table (Some (pair_of entries.key entries.value)) n) end_list vs
+map_same table d entries n vs is long =
+    let pair : Option TypeDef = Some (pair_of entries.key entries.value) in
+    ap (λ t. events_by table (Some t) (dyn.List vs)) is
+    ∙ list_typed table (Some (def.Map entries)) vs
+    ∙ ap (λ m. list_events false (in_place (value_by table) vs (replicate m pair))) long
+    ∙ list_apart table (replicate n pair) n vs long
+
+-- the events of items that are no bytes
+pub items_same :
+    (table : PortableRegistry) (d : TypeDef) (n : ℕ) (vs : List Dyn)
+    → is_byte (Some d) ≡ false → length vs ≡ n
+    → list_by table (Some d) n vs ≡ bracketed (begin_list n) (items_by table (Some d) n) end_list vs
+items_same table d n vs other long =
+    ap (λ b. list_events b (in_place (value_by table) vs (replicate n (Some d)))) other
+    ∙ list_apart table (replicate n (Some d)) n vs long
+
+-- the events of bytes
+pub bytes_same :
+    (table : PortableRegistry) (d : TypeDef) (n : ℕ) (all : List ℕ)
+    → is_byte (Some d) ≡ true → list_by table (Some d) n (map dyn.Unsigned all) ≡ bytes all ∷ []
+bytes_same table d n all byte_sized =
+    ap (λ b. list_events b (in_place (value_by table) (map dyn.Unsigned all) (replicate n (Some d)))) byte_sized
+    ∙ ap (λ items. list_events true items) (integers_alone table all (replicate n (Some d)))
+    ∙ ap (λ o. joined o (map (λ m. unsigned m ∷ []) all)) (integers_joined all)
 
 -- of a list from a place on, the first, and the others
 pub first_of :
@@ -139,7 +157,7 @@ first_of l j d h e =
     drop-cons l j d h ∙ (λ i. sym e i ∷ drop (sym (add-one j) i) l)
 
 -- what is found by an index has the index
-pub found_index :
+found_index :
     (index : ℕ) (vs : List Variant) (v : Variant) → find (λ w. w.index == index) vs ≡ Some v → index ≡ v.index
 found_index index [] v e = cc
 found_index index (w ∷ vs) v e = found_or (w.index == index) refl (found_index index vs v) e
@@ -154,26 +172,123 @@ found_index index (w ∷ vs) v e = found_or (w.index == index) refl (found_index
         sym q ∙ ap (λ u. u.index) p
     found_or false h more f = more f
 
--- a field is shown
-pub field_shown :
-    {V : Type 0} {Visited : List Event → V → V → Type 0} {a b c : V}
-    (left : ℕ) (table : PortableRegistry) (f : Field) (input rest : List ℕ)
-    → ((es fs : List Event) (a b c : V) → Visited es a b → Visited fs b c → Visited (es ++ fs) a c)
-    → Visited (name_of f.name ∷ []) a b
-    → HasVisited Visited events_of (value_within (left - 1) table f.ty.id input) rest b c
-    → HasVisited Visited field_events (field_within left table f input) rest a c
-field_shown {Visited = Visited} {a} {b} {c} left table f input rest append p q = record {
-  value = (f.name, q.value);
-  read =
-      ap (λ name. outcome_map (λ value. (name, value)) (value_within (left - 1) table f.ty.id input)) (same_text f.name)
-      ∙ ap (λ o. outcome_map (λ value. (f.name, value)) o) q.read;
-  visited = append (name_of f.name ∷ []) (events_of q.value) a b c p q.visited;
-}
+-- a field's value, under the field's name
+field_is :
+    (left : ℕ) (table : PortableRegistry) (f : Field) (input : List ℕ)
+    → field_within left table f input
+    ≡ outcome_map (λ value. (f.name, value)) (value_within (left - 1) table f.ty.id input)
+field_is left table f input =
+    ap (λ name. outcome_map (λ value. (name, value)) (value_within (left - 1) table f.ty.id input)) (same_text f.name)
 
--- an enum goes by its variants
-pub variant_is :
-    (left : ℕ) (table : PortableRegistry) (d : TypeDef) (choice : TypeDefVariant) (vs : List Variant) (input : List ℕ)
-    → d ≡ def.Variant choice → vs ≡ choice.variants
-    → definition_within left table d input ≡ variant_within left table vs input
-variant_is left table d choice vs input e f =
-    ap (λ t. definition_within left table t input) e ∙ ap (λ l. variant_within left table l input) (sym f)
+-- the events of a field's value by its type
+abbrev pub value_typed : PortableRegistry → Field → Dyn → List Event
+value_typed table f = events table f.ty.id
+
+-- those of the field
+abbrev pub field_typed : PortableRegistry → Field → Bool → Option Text × Dyn → List Event
+field_typed table f named v = field_by table named v (definition_at table f.ty.id)
+
+module _
+    {V : Type 0} {Visited : List Event → V → V → Type 0} {a : V} (left : ℕ) (table : PortableRegistry) (f : Field)
+    (named : Bool) (input : List ℕ) where
+  -- a field is shown
+  pub field_shown :
+      {b c : V} (rest : List ℕ) → Appends Visited
+      → Visited (name_of f.name named ∷ []) a b
+      → HasVisited Visited (value_typed table f) (value_within (left - 1) table f.ty.id input) rest b c
+      → HasVisited Visited (field_typed table f named) (field_within left table f input) rest a c
+  field_shown {b} {c} rest append p q = record {
+    value = (f.name, q.value);
+    read = field_is left table f input ∙ ap (λ o. outcome_map (λ value. (f.name, value)) o) q.read;
+    visited = append (name_of f.name named ∷ []) ((value_typed table f) q.value) a b c p q.visited;
+  }
+
+  -- the name of a field comes next
+  pub at_name :
+      Visited [] a a → AreNext Visited (field_typed table f named) (name_of f.name named ∷ []) (field_within left table f input) a a
+  at_name none =
+      are_next [] none (λ v rest read.
+      let whole = mapped_from (λ value. (f.name, value)) (value_within (left - 1) table f.ty.id input) v rest
+      (sym (field_is left table f input) ∙ read) in
+      ((value_typed table f) whole.0, ap (field_typed table f named) whole.2))
+
+  -- the value of a field comes next
+  pub in_field :
+      {b : V} → Visited (name_of f.name named ∷ []) a b
+      → IsNext Visited (field_typed table f named) (value_typed table f) (field_within left table f input) (value_within (left - 1) table f.ty.id input) a b
+  in_field p = record {
+    before = name_of f.name named ∷ [];
+    visited = p;
+    fails = λ why e. field_is left table f input ∙ ap (λ o. outcome_map (λ value. (f.name, value)) o) e;
+    contains = λ v rest read.
+        let whole = mapped_from (λ value. (f.name, value)) (value_within (left - 1) table f.ty.id input) v rest
+        (sym (field_is left table f input) ∙ read) in
+        record {
+          of = whole.0;
+          rest = rest;
+          after = [];
+          read = whole.1;
+          parts = ap (field_typed table f named) whole.2 ∙ ap (λ es. name_of f.name named ∷ es) (sym (append-nil ((value_typed table f) whole.0)));
+        };
+  }
+
+-- what is found by an index is found by its own
+pub found_itself :
+    (index : ℕ) (vs : List Variant) (v : Variant)
+    → find (λ w. w.index == index) vs ≡ Some v → find (λ w. w.index == v.index) vs ≡ Some v
+found_itself index vs v e = ap (λ i. find (λ w. w.index == i) vs) (sym (found_index index vs v e)) ∙ e
+
+-- a composite, by the definition
+pub composite_by :
+    (left : ℕ) (table : PortableRegistry) (d : TypeDef) (composite : TypeDefComposite) (fs : List Field) (input : List ℕ)
+    → d ≡ def.Composite composite → fs ≡ composite.fields
+    → definition_within left table d input ≡ outcome_map dyn.Record (fields_within left table fs input)
+composite_by left table d composite fs input e f =
+    ap (λ t. definition_within left table t input) e ∙ composite_is left table composite fs input f
+
+-- a tuple, by the definition
+pub tuple_by :
+    (left : ℕ) (table : PortableRegistry) (d : TypeDef) (tuple : TypeDefTuple) (ids : List Id) (input : List ℕ)
+    → d ≡ def.Tuple tuple → ids ≡ tuple.fields
+    → definition_within left table d input ≡ outcome_map dyn.List (members_within left table ids input)
+tuple_by left table d tuple ids input e f =
+    ap (λ t. definition_within left table t input) e
+    ∙ ap (λ l. outcome_map dyn.List (members_within left table l input)) (sym f)
+
+-- a sequence, by the definition
+pub sequence_by :
+    (left : ℕ) (table : PortableRegistry) (d : TypeDef) (sequence : TypeDefSequence) (n : ℕ) (input rest : List ℕ)
+    → d ≡ def.Sequence sequence → count input ≡ decoded n rest
+    → definition_within left table d input ≡ outcome_map dyn.List (items_within left table sequence.type_param n rest)
+sequence_by left table d sequence n input rest e f =
+    ap (λ t. definition_within left table t input) e
+    ∙ ap (λ o. outcome_map dyn.List (and_then o (λ m after. items_within left table sequence.type_param m after))) f
+
+-- a map, by the definition
+pub map_by :
+    (left : ℕ) (table : PortableRegistry) (d : TypeDef) (entries : TypeDefMap) (n : ℕ) (input rest : List ℕ)
+    → d ≡ def.Map entries → count input ≡ decoded n rest
+    → definition_within left table d input ≡ outcome_map dyn.List (pairs_within left table entries.key entries.value n rest)
+map_by left table d entries n input rest e f =
+    ap (λ t. definition_within left table t input) e
+    ∙ ap (λ o. outcome_map dyn.List (and_then o (λ m after. pairs_within left table entries.key entries.value m after))) f
+
+-- a byte that is the index of a variant chooses it
+pub variant_chosen :
+    (left : ℕ) (table : PortableRegistry) (vs : List Variant) (input rest : List ℕ) (index : ℕ) (v : Variant)
+    → byte input ≡ decoded index rest → find (λ w. w.index == index) vs ≡ Some v
+    → variant_within left table vs input
+    ≡ outcome_map (λ values. dyn.Variant v.name v.index values) (fields_within left table v.fields rest)
+variant_chosen left table vs input rest index v e f =
+    variant_found left table vs input rest index v v.fields e f refl
+    ∙ ap (λ i. outcome_map (λ values. dyn.Variant v.name i values) (fields_within left table v.fields rest))
+    (found_index index vs v f)
+
+-- as many values are decoded as there are types
+pub many_members :
+    (left : ℕ) (table : PortableRegistry) (ids : List Id) (input : List ℕ) (vs : List Dyn) (rest : List ℕ)
+    → members_within left table ids input ≡ decoded vs rest → length vs ≡ length ids
+many_members left table ids input vs rest e =
+    let parts = map (part_within left table) ids in
+    let readers : List (Decoder Dyn) = map (λ p. p.value) parts in
+    as_many readers input vs rest e ∙ length-map parts (λ p. p.value) ∙ length-map ids (part_within left table)

@@ -4,7 +4,9 @@
 //! shows it to a [`visitor::ValueVisitor`]. [`skip::skip_value`] finds the rest alone.
 #![tactic(auto)]
 
+pub mod laws;
 mod list;
 pub mod skip;
 pub mod visit;
 pub mod visitor;
+pub mod within;

@@ -1,5 +1,5 @@
 //! Values of primitive types shown, alone and in lists.
-ghost use Rattle.std.specs.Prelude.{◌≡◌, ◌≤◌, replicate, IfOk, IfErr, OnOk, OnErr};
+ghost use Rattle.std.specs.Prelude.{◌≡◌, ◌≤◌, replicate, IfOk, IfErr, OnOk};
 ghost use Rattle.std.specs.List.{flat_map};
 ghost use Rattle.scale_info_value.specs.declared.value.Dyn.TheVariants as dyn;
 ghost use Rattle.scale_info_value.specs.Outcomes.{in_turn, outcome_map};
@@ -19,8 +19,8 @@ use scale_info_value::value::Failure;
 fn show<V: ValueVisitor>(value: PrimitiveValue<'_>, visitor: &mut V) -> Result<(), V::Error>
     requires { IsInRange value }
     ensures ok { OnOk result (V.visited (events_of (dyn_of value.entry)) visitor.old visitor.new) }
-    ensures err { IfErr result (V.may_stop visitor.old) }
-    ensures keeps { OnErr result (V.kept visitor.old visitor.new) }
+    ensures err { IfErr result (λ e.
+        V.stopped (events_of (dyn_of value.entry)) visitor.old e visitor.new) }
 {
     match value {
         PrimitiveValue::Bool(v) => visitor.truth(v),
@@ -39,9 +39,9 @@ pub(crate) fn primitive<'i, V: ValueVisitor>(
     ensures ok { IfOk result (λ rest.
         HasVisited V.visited events_of (primitive kind.now input.now)
         rest.now visitor.old visitor.new) }
-    ensures err { IfErr result
-        (IsVisitErrorOf V.may_stop (primitive kind.now input.now) visitor.old) }
-    ensures keeps { OnErr result (V.kept visitor.old visitor.new) }
+    ensures err { IfErr result (IsVisitErrorOf V.visited V.stopped events_of
+        (primitive kind.now input.now)
+        visitor.old visitor.new) }
 {
     let (value, rest) = read_primitive(kind, input)?;
     shown(show(value, visitor))?;
@@ -62,10 +62,10 @@ fn integers<'i, V: ValueVisitor>(
         HasVisited V.visited (flat_map events_of)
         (in_turn (replicate count (λ bytes. outcome_map dyn.Unsigned (integer width bytes)))
         input.now) rest.now visitor.old visitor.new) }
-    ensures err { IfErr result (IsVisitErrorOf V.may_stop
+    ensures err { IfErr result (IsVisitErrorOf V.visited V.stopped (flat_map events_of)
         (in_turn (replicate count (λ bytes. outcome_map dyn.Unsigned (integer width bytes)))
-        input.now) visitor.old) }
-    ensures keeps { OnErr result (V.kept visitor.old visitor.new) }
+        input.now)
+        visitor.old visitor.new) }
 {
     if input.len() < count as usize * width {
         return Err(VisitError::Failed(Failure::Malformed));
@@ -90,9 +90,9 @@ fn each<'i, V: ValueVisitor>(
         HasVisited V.visited (flat_map events_of)
         (in_turn (replicate count (primitive kind.now)) input.now)
         rest.now visitor.old visitor.new) }
-    ensures err { IfErr result (IsVisitErrorOf V.may_stop
-        (in_turn (replicate count (primitive kind.now)) input.now) visitor.old) }
-    ensures keeps { OnErr result (V.kept visitor.old visitor.new) }
+    ensures err { IfErr result (IsVisitErrorOf V.visited V.stopped (flat_map events_of)
+        (in_turn (replicate count (primitive kind.now)) input.now)
+        visitor.old visitor.new) }
 {
     let mut rest = input;
     for _ in 0..count {
@@ -112,9 +112,9 @@ pub(crate) fn primitives<'i, V: ValueVisitor>(
         HasVisited V.visited (flat_map events_of)
         (in_turn (replicate count (primitive kind.now)) input.now)
         rest.now visitor.old visitor.new) }
-    ensures err { IfErr result (IsVisitErrorOf V.may_stop
-        (in_turn (replicate count (primitive kind.now)) input.now) visitor.old) }
-    ensures keeps { OnErr result (V.kept visitor.old visitor.new) }
+    ensures err { IfErr result (IsVisitErrorOf V.visited V.stopped (flat_map events_of)
+        (in_turn (replicate count (primitive kind.now)) input.now)
+        visitor.old visitor.new) }
 {
     match kind {
         TypeDefPrimitive::U16 => integers(2, count, input, visitor),

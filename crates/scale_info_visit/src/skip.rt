@@ -22,9 +22,7 @@ impl ValueVisitor for Skipping {
 
     ghost visited = { λ _ _ _. Unit {0} };
 
-    ghost may_stop = { λ _ _. ⊥ };
-
-    ghost kept = { λ _ _. Unit {0} };
+    ghost stopped = { λ _ _ _ _. ⊥ };
 
     fn truth(&mut self, _value: bool) -> Result<(), Infallible> {
         Ok(())
@@ -66,11 +64,11 @@ impl ValueVisitor for Skipping {
         Ok(())
     }
 
-    fn field(&mut self, _next: &Field<PortableForm>) -> Result<(), Infallible> {
+    fn field(&mut self, _next: &Field<PortableForm>, _named: bool) -> Result<(), Infallible> {
         Ok(())
     }
 
-    fn bytes(&mut self, _bytes: &[u8]) -> Result<(), Infallible> {
+    fn bytes(&mut self, _all: &[u8]) -> Result<(), Infallible> {
         Ok(())
     }
 
@@ -78,11 +76,7 @@ impl ValueVisitor for Skipping {
 
     ghost visited_append = { λ _ _ _ _ _ _ _. tt };
 
-    ghost stops_later = { λ _ _ _ _ _ never. never };
-
-    ghost kept_all = { λ _. tt };
-
-    ghost kept_later = { λ _ _ _ _ _ _. tt };
+    ghost stopped_later = { λ _ _ _ _ _ _ _ never. never };
 }
 
 /// The rest of the input after one value of the type with this id, which is at its start. It does

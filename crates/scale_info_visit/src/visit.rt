@@ -1,19 +1,18 @@
 //! Values shown by the definitions of their types.
-ghost use Rattle.std.specs.Prelude.{◌≡◌, ◌≤◌, IfOk, IfErr, OnErr, replicate};
-ghost use Rattle.std.specs.Bool.{OnTrue};
-ghost use Rattle.std.specs.List.{flat_map};
+ghost use Rattle.std.specs.Prelude.{◌≡◌, ◌≤◌, ◌∷◌, [], Some, IfOk, IfErr, OnOk, replicate, length};
 ghost use Rattle.scale_info_types.specs.declared.ty.TypeDef.TheVariants as def;
-ghost use Rattle.scale_info_primitives.specs.declared.primitive.TypeDefPrimitive.TheVariants as kind;
-ghost use Rattle.scale_info_value.specs.declared.value.Dyn.TheVariants as dyn;
-ghost use Rattle.scale_info_value.specs.Outcomes.{outcome_map, in_turn};
-ghost use Rattle.scale_info_value.specs.ValueDefinitions.{primitive};
+ghost use Rattle.scale_info_value.specs.Outcomes.{in_turn};
+ghost use Rattle.scale_info_value.specs.IntegerDecoders as decoders;
 ghost use Rattle.scale_info_value.specs.Readings.{value_within, definition_within, fields_within};
 ghost use Rattle.scale_info_value.specs.Readings.{variant_within, items_within, members_within};
-ghost use Rattle.scale_info_value.specs.Readings.{compact_within, pair_within, pairs_within};
-ghost use Rattle.scale_info_value.specs.Readings.{reading};
-ghost use Rattle.scale_info_visit.specs.Events.{events_of, field_events};
-ghost use Rattle.scale_info_visit.specs.Visits.{HasVisited, IsVisitErrorOf, field_within};
-ghost use Rattle.scale_info_visit.specs.Visits.{key_then_value};
+ghost use Rattle.scale_info_value.specs.Readings.{compact_within, pairs_within, reading};
+ghost use Rattle.scale_info_visit.specs.Events.{events, events_by, all_named, is_byte};
+ghost use Rattle.scale_info_visit.specs.Events.{definition_at, pair_of, unsigned, bytes};
+ghost use Rattle.scale_info_visit.specs.Events.{begin_list, end_list, begin_record, end_record};
+ghost use Rattle.scale_info_visit.specs.Events.{names, begin_of, end_of};
+ghost use Rattle.scale_info_visit.specs.Visits.{HasVisited, IsVisitErrorOf, StopsWithin};
+ghost use Rattle.scale_info_visit.specs.Visits.{field_within, bracketed, key_then_value, field_by};
+ghost use Rattle.scale_info_visit.specs.Visits.{fields_by, items_by, members_by, list_by};
 
 use crate::list::{primitive, primitives};
 use crate::visitor::{ValueVisitor, VisitError, shown};
@@ -21,7 +20,7 @@ use scale_info_identities::symbol::UntrackedSymbol;
 use scale_info_identities::type_id::TypeId;
 use scale_info_tables::portable::PortableRegistry;
 use scale_info_types::form::PortableForm;
-use scale_info_types::ty::variant::Variant;
+use scale_info_types::ty::variant::{TypeDefVariant, Variant};
 use scale_info_types::ty::{Field, TypeDef, TypeDefPrimitive};
 use scale_info_value::compact::compact_within;
 use scale_info_value::integer::{byte, bytes, count};
@@ -38,12 +37,14 @@ pub fn visit_value<'i, V: ValueVisitor>(
     input: &'i [u8],
     visitor: &mut V,
 ) -> Result<&'i [u8], VisitError<V::Error>>
-    ensures ok { IfOk result (λ rest.
-        HasVisited V.visited events_of (reading table.now id 1 input.now)
+    ensures ok { IfOk result (λ rest. HasVisited V.visited
+        (events table.now id)
+        (reading table.now id 1 input.now)
         rest.now visitor.old visitor.new) }
-    ensures err { IfErr result
-        (IsVisitErrorOf V.may_stop (reading table.now id 1 input.now) visitor.old) }
-    ensures keeps { OnErr result (V.kept visitor.old visitor.new) }
+    ensures err { IfErr result (IsVisitErrorOf V.visited V.stopped
+        (events table.now id)
+        (reading table.now id 1 input.now)
+        visitor.old visitor.new) }
 {
     value_within(table, id, 128, input, visitor)
 }
@@ -56,13 +57,14 @@ fn compact<'i, V: ValueVisitor>(
     input: &'i [u8],
     visitor: &mut V,
 ) -> Result<&'i [u8], VisitError<V::Error>>
-    ensures ok { IfOk result (λ rest.
-        HasVisited V.visited events_of
-        (outcome_map dyn.Unsigned (compact_within left table.now id input.now))
+    ensures ok { IfOk result (λ rest. HasVisited V.visited
+        (λ n. unsigned n ∷ [])
+        (compact_within left table.now id input.now)
         rest.now visitor.old visitor.new) }
-    ensures err { IfErr result (IsVisitErrorOf V.may_stop
-        (outcome_map dyn.Unsigned (compact_within left table.now id input.now)) visitor.old) }
-    ensures keeps { OnErr result (V.kept visitor.old visitor.new) }
+    ensures err { IfErr result (IsVisitErrorOf V.visited V.stopped
+        (λ n. unsigned n ∷ [])
+        (compact_within left table.now id input.now)
+        visitor.old visitor.new) }
 {
     let (integer, rest) = compact_within(table, id, left, input)?;
     shown(visitor.unsigned(integer))?;
@@ -78,12 +80,14 @@ fn value_within<'i, V: ValueVisitor>(
     input: &'i [u8],
     visitor: &mut V,
 ) -> Result<&'i [u8], VisitError<V::Error>>
-    ensures ok { IfOk result (λ rest.
-        HasVisited V.visited events_of (value_within left table.now id input.now)
+    ensures ok { IfOk result (λ rest. HasVisited V.visited
+        (events table.now id)
+        (value_within left table.now id input.now)
         rest.now visitor.old visitor.new) }
-    ensures err { IfErr result
-        (IsVisitErrorOf V.may_stop (value_within left table.now id input.now) visitor.old) }
-    ensures keeps { OnErr result (V.kept visitor.old visitor.new) }
+    ensures err { IfErr result (IsVisitErrorOf V.visited V.stopped
+        (events table.now id)
+        (value_within left table.now id input.now)
+        visitor.old visitor.new) }
 {
     if left == 0 {
         return Err(VisitError::Failed(Failure::TooDeep));
@@ -104,20 +108,20 @@ fn value_by<'i, V: ValueVisitor>(
     visitor: &mut V,
 ) -> Result<&'i [u8], VisitError<V::Error>>
     requires { 1 ≤ left }
-    ensures ok { IfOk result (λ rest.
-        HasVisited V.visited events_of (definition_within left table.now definition.now input.now)
+    ensures ok { IfOk result (λ rest. HasVisited V.visited
+        (events_by table.now (Some definition.now))
+        (definition_within left table.now definition.now input.now)
         rest.now visitor.old visitor.new) }
-    ensures err { IfErr result (IsVisitErrorOf V.may_stop
-        (definition_within left table.now definition.now input.now) visitor.old) }
-    ensures keeps { OnErr result (V.kept visitor.old visitor.new) }
+    ensures err { IfErr result (IsVisitErrorOf V.visited V.stopped
+        (events_by table.now (Some definition.now))
+        (definition_within left table.now definition.now input.now)
+        visitor.old visitor.new) }
 {
     match definition {
         TypeDef::Composite(composite) => {
             record(table, composite.fields.as_slice(), left, input, visitor)
         }
-        TypeDef::Variant(choice) => {
-            variant(table, choice.variants.as_slice(), left, input, visitor)
-        }
+        TypeDef::Variant(choice) => variant(table, choice, left, input, visitor),
         TypeDef::Sequence(sequence) => {
             let (count, rest) = count(input)?;
             list(table, &sequence.type_param, count, left, rest, visitor)
@@ -134,6 +138,18 @@ fn value_by<'i, V: ValueVisitor>(
     }
 }
 
+/// Whether each of the fields has a name.
+pub fn all_named(fields: &[Field<PortableForm>]) -> bool
+    ensures { result ≡ all_named (names fields.now) }
+{
+    for field in fields {
+        if field.name.is_none() {
+            return false;
+        }
+    }
+    true
+}
+
 /// Shows the record of these fields.
 #[cycle(visit)]
 fn record<'i, V: ValueVisitor>(
@@ -144,47 +160,77 @@ fn record<'i, V: ValueVisitor>(
     visitor: &mut V,
 ) -> Result<&'i [u8], VisitError<V::Error>>
     requires { 1 ≤ left }
-    ensures ok { IfOk result (λ rest.
-        HasVisited V.visited events_of
-        (outcome_map dyn.Record (fields_within left table.now all.now input.now))
+    ensures ok { IfOk result (λ rest. HasVisited V.visited
+        (bracketed (begin_record (names all.now))
+        (fields_by table.now (all_named (names all.now)) all.now) (end_record (names all.now)))
+        (fields_within left table.now all.now input.now)
         rest.now visitor.old visitor.new) }
-    ensures err { IfErr result (IsVisitErrorOf V.may_stop
-        (outcome_map dyn.Record (fields_within left table.now all.now input.now)) visitor.old) }
-    ensures keeps { OnErr result (V.kept visitor.old visitor.new) }
+    ensures err { IfErr result (IsVisitErrorOf V.visited V.stopped
+        (bracketed (begin_record (names all.now))
+        (fields_by table.now (all_named (names all.now)) all.now) (end_record (names all.now)))
+        (fields_within left table.now all.now input.now)
+        visitor.old visitor.new) }
 {
     shown(visitor.begin_record(all))?;
-    let rest = fields(table, all, left, input, visitor)?;
+    let rest = fields(table, all, all_named(all), left, input, visitor)?;
     shown(visitor.end_record(all))?;
     Ok(rest)
 }
 
-/// Shows a value of an enum with these variants.
+/// Shows a value of an enum.
 #[cycle(visit)]
 fn variant<'i, V: ValueVisitor>(
     table: &PortableRegistry,
-    variants: &[Variant<PortableForm>],
+    choice: &TypeDefVariant<PortableForm>,
     left: u8,
     input: &'i [u8],
     visitor: &mut V,
 ) -> Result<&'i [u8], VisitError<V::Error>>
     requires { 1 ≤ left }
-    ensures ok { IfOk result (λ rest.
-        HasVisited V.visited events_of (variant_within left table.now variants.now input.now)
+    ensures ok { IfOk result (λ rest. HasVisited V.visited
+        (events_by table.now (Some (def.Variant choice.now)))
+        (variant_within left table.now choice.now.variants input.now)
         rest.now visitor.old visitor.new) }
-    ensures err { IfErr result (IsVisitErrorOf V.may_stop
-        (variant_within left table.now variants.now input.now) visitor.old) }
-    ensures keeps { OnErr result (V.kept visitor.old visitor.new) }
+    ensures err { IfErr result (IsVisitErrorOf V.visited V.stopped
+        (events_by table.now (Some (def.Variant choice.now)))
+        (variant_within left table.now choice.now.variants input.now)
+        visitor.old visitor.new) }
 {
     let (index, rest) = byte(input)?;
-    match variant_with_index(variants, index) {
+    match variant_with_index(choice.variants.as_slice(), index) {
         None => Err(VisitError::Failed(Failure::Malformed)),
-        Some(variant) => {
-            shown(visitor.begin_variant(variant))?;
-            let rest = fields(table, variant.fields.as_slice(), left, rest, visitor)?;
-            shown(visitor.end_variant(variant))?;
-            Ok(rest)
-        }
+        Some(variant) => chosen(table, variant, left, rest, visitor),
     }
+}
+
+/// Shows a value of this variant, whose fields are at the start of the input.
+#[cycle(visit)]
+fn chosen<'i, V: ValueVisitor>(
+    table: &PortableRegistry,
+    variant: &Variant<PortableForm>,
+    left: u8,
+    input: &'i [u8],
+    visitor: &mut V,
+) -> Result<&'i [u8], VisitError<V::Error>>
+    requires { 1 ≤ left }
+    ensures ok { IfOk result (λ rest. HasVisited V.visited
+        (bracketed (begin_of variant.now)
+        (fields_by table.now (all_named (names variant.now.fields)) variant.now.fields)
+        (end_of variant.now))
+        (fields_within left table.now variant.now.fields input.now)
+        rest.now visitor.old visitor.new) }
+    ensures err { IfErr result (IsVisitErrorOf V.visited V.stopped
+        (bracketed (begin_of variant.now)
+        (fields_by table.now (all_named (names variant.now.fields)) variant.now.fields)
+        (end_of variant.now))
+        (fields_within left table.now variant.now.fields input.now)
+        visitor.old visitor.new) }
+{
+    let all = variant.fields.as_slice();
+    shown(visitor.begin_variant(variant))?;
+    let rest = fields(table, all, all_named(all), left, input, visitor)?;
+    shown(visitor.end_variant(variant))?;
+    Ok(rest)
 }
 
 /// Shows a value of each field's type in order, after the field's name.
@@ -192,21 +238,24 @@ fn variant<'i, V: ValueVisitor>(
 fn fields<'i, V: ValueVisitor>(
     table: &PortableRegistry,
     all: &[Field<PortableForm>],
+    named: bool,
     left: u8,
     input: &'i [u8],
     visitor: &mut V,
 ) -> Result<&'i [u8], VisitError<V::Error>>
     requires { 1 ≤ left }
-    ensures ok { IfOk result (λ rest.
-        HasVisited V.visited (flat_map field_events)
-        (fields_within left table.now all.now input.now) rest.now visitor.old visitor.new) }
-    ensures err { IfErr result
-        (IsVisitErrorOf V.may_stop (fields_within left table.now all.now input.now) visitor.old) }
-    ensures keeps { OnErr result (V.kept visitor.old visitor.new) }
+    ensures ok { IfOk result (λ rest. HasVisited V.visited
+        (fields_by table.now named all.now)
+        (fields_within left table.now all.now input.now)
+        rest.now visitor.old visitor.new) }
+    ensures err { IfErr result (IsVisitErrorOf V.visited V.stopped
+        (fields_by table.now named all.now)
+        (fields_within left table.now all.now input.now)
+        visitor.old visitor.new) }
 {
     let mut rest = input;
     for next in all {
-        rest = field(table, next, left, rest, visitor)?;
+        rest = field(table, next, named, left, rest, visitor)?;
     }
     Ok(rest)
 }
@@ -216,19 +265,22 @@ fn fields<'i, V: ValueVisitor>(
 fn field<'i, V: ValueVisitor>(
     table: &PortableRegistry,
     next: &Field<PortableForm>,
+    named: bool,
     left: u8,
     input: &'i [u8],
     visitor: &mut V,
 ) -> Result<&'i [u8], VisitError<V::Error>>
     requires { 1 ≤ left }
-    ensures ok { IfOk result (λ rest.
-        HasVisited V.visited field_events (field_within left table.now next.now input.now)
+    ensures ok { IfOk result (λ rest. HasVisited V.visited
+        (λ f. field_by table.now named f (definition_at table.now next.now.ty.id))
+        (field_within left table.now next.now input.now)
         rest.now visitor.old visitor.new) }
-    ensures err { IfErr result
-        (IsVisitErrorOf V.may_stop (field_within left table.now next.now input.now) visitor.old) }
-    ensures keeps { OnErr result (V.kept visitor.old visitor.new) }
+    ensures err { IfErr result (IsVisitErrorOf V.visited V.stopped
+        (λ f. field_by table.now named f (definition_at table.now next.now.ty.id))
+        (field_within left table.now next.now input.now)
+        visitor.old visitor.new) }
 {
-    shown(visitor.field(next))?;
+    shown(visitor.field(next, named))?;
     value_within(table, next.ty.id, left - 1, input, visitor)
 }
 
@@ -243,17 +295,17 @@ fn list<'i, V: ValueVisitor>(
     visitor: &mut V,
 ) -> Result<&'i [u8], VisitError<V::Error>>
     requires { 1 ≤ left }
-    ensures ok { IfOk result (λ rest.
-        HasVisited V.visited events_of
-        (outcome_map dyn.List (items_within left table.now ty.now count input.now))
+    ensures ok { IfOk result (λ rest. HasVisited V.visited
+        (list_by table.now (definition_at table.now ty.now.id) count)
+        (items_within left table.now ty.now count input.now)
         rest.now visitor.old visitor.new) }
-    ensures err { IfErr result (IsVisitErrorOf V.may_stop
-        (outcome_map dyn.List (items_within left table.now ty.now count input.now)) visitor.old) }
-    ensures keeps { OnErr result (V.kept visitor.old visitor.new) }
+    ensures err { IfErr result (IsVisitErrorOf V.visited V.stopped
+        (list_by table.now (definition_at table.now ty.now.id) count)
+        (items_within left table.now ty.now count input.now)
+        visitor.old visitor.new) }
 {
     if count == 0 {
-        shown(visitor.begin_list(0))?;
-        shown(visitor.end_list())?;
+        shown(empty_list(table, ty, visitor))?;
         return Ok(input);
     }
     if left == 1 {
@@ -267,18 +319,43 @@ fn list<'i, V: ValueVisitor>(
 
 /// Whether values of the type are bytes.
 fn is_byte(definition: &TypeDef<PortableForm>) -> bool
-    ensures { OnTrue result (definition.now ≡ def.Primitive kind.U8) }
+    ensures { result ≡ is_byte (Some definition.now) }
 {
     match definition {
-        TypeDef::Primitive(kind) => match kind {
-            TypeDefPrimitive::U8 => true,
-            _ => false,
-        },
+        TypeDef::Primitive(kind) => *kind == TypeDefPrimitive::U8,
         _ => false,
     }
 }
 
-/// Shows a list of so many values by the definition of their type.
+/// Whether values of the type with this id are bytes.
+fn is_byte_at(table: &PortableRegistry, id: u32) -> bool
+    ensures { result ≡ is_byte (definition_at table.now id) }
+{
+    match table.resolve(id) {
+        None => false,
+        Some(ty) => is_byte(&ty.type_def),
+    }
+}
+
+/// Shows a list of no items, also of a type that is no index.
+fn empty_list<V: ValueVisitor>(
+    table: &PortableRegistry,
+    ty: &UntrackedSymbol<TypeId>,
+    visitor: &mut V,
+) -> Result<(), V::Error>
+    ensures ok { OnOk result (V.visited
+        (list_by table.now (definition_at table.now ty.now.id) 0 []) visitor.old visitor.new) }
+    ensures err { IfErr result (λ e. StopsWithin V.stopped
+        (list_by table.now (definition_at table.now ty.now.id) 0 []) visitor.old e visitor.new) }
+{
+    if is_byte_at(table, ty.id) {
+        return visitor.bytes(&[]);
+    }
+    visitor.begin_list(0)?;
+    visitor.end_list()
+}
+
+/// Shows a list of so many values by the definition of their type: bytes at once.
 #[cycle(visit)]
 fn list_by<'i, V: ValueVisitor>(
     table: &PortableRegistry,
@@ -289,20 +366,43 @@ fn list_by<'i, V: ValueVisitor>(
     visitor: &mut V,
 ) -> Result<&'i [u8], VisitError<V::Error>>
     requires { 1 ≤ left }
-    ensures ok { IfOk result (λ rest.
-        HasVisited V.visited events_of
-        (outcome_map dyn.List
-        (in_turn (replicate count (definition_within left table.now definition.now)) input.now))
+    ensures ok { IfOk result (λ rest. HasVisited V.visited
+        (list_by table.now (Some definition.now) count)
+        (in_turn (replicate count (definition_within left table.now definition.now)) input.now)
         rest.now visitor.old visitor.new) }
-    ensures err { IfErr result (IsVisitErrorOf V.may_stop
-        (outcome_map dyn.List
-        (in_turn (replicate count (definition_within left table.now definition.now)) input.now))
-        visitor.old) }
-    ensures keeps { OnErr result (V.kept visitor.old visitor.new) }
+    ensures err { IfErr result (IsVisitErrorOf V.visited V.stopped
+        (list_by table.now (Some definition.now) count)
+        (in_turn (replicate count (definition_within left table.now definition.now)) input.now)
+        visitor.old visitor.new) }
 {
     if is_byte(definition) {
         return list_of_bytes(count, input, visitor);
     }
+    list_of_items(table, definition, count, left, input, visitor)
+}
+
+/// Shows a list of so many values that are no bytes, by the definition of their type.
+#[cycle(visit)]
+fn list_of_items<'i, V: ValueVisitor>(
+    table: &PortableRegistry,
+    definition: &TypeDef<PortableForm>,
+    count: u32,
+    left: u8,
+    input: &'i [u8],
+    visitor: &mut V,
+) -> Result<&'i [u8], VisitError<V::Error>>
+    requires { 1 ≤ left }
+    ensures ok { IfOk result (λ rest. HasVisited V.visited
+        (bracketed (begin_list count) (items_by table.now (Some definition.now) count)
+        end_list)
+        (in_turn (replicate count (definition_within left table.now definition.now)) input.now)
+        rest.now visitor.old visitor.new) }
+    ensures err { IfErr result (IsVisitErrorOf V.visited V.stopped
+        (bracketed (begin_list count) (items_by table.now (Some definition.now) count)
+        end_list)
+        (in_turn (replicate count (definition_within left table.now definition.now)) input.now)
+        visitor.old visitor.new) }
+{
     shown(visitor.begin_list(count as usize))?;
     let rest = items(table, definition, count, left, input, visitor)?;
     shown(visitor.end_list())?;
@@ -315,14 +415,14 @@ fn list_of_bytes<'i, V: ValueVisitor>(
     input: &'i [u8],
     visitor: &mut V,
 ) -> Result<&'i [u8], VisitError<V::Error>>
-    ensures ok { IfOk result (λ rest.
-        HasVisited V.visited events_of
-        (outcome_map dyn.List (in_turn (replicate count (primitive kind.U8)) input.now))
+    ensures ok { IfOk result (λ rest. HasVisited V.visited
+        (λ all. bytes all ∷ [])
+        (decoders.bytes count input.now)
         rest.now visitor.old visitor.new) }
-    ensures err { IfErr result (IsVisitErrorOf V.may_stop
-        (outcome_map dyn.List (in_turn (replicate count (primitive kind.U8)) input.now))
-        visitor.old) }
-    ensures keeps { OnErr result (V.kept visitor.old visitor.new) }
+    ensures err { IfErr result (IsVisitErrorOf V.visited V.stopped
+        (λ all. bytes all ∷ [])
+        (decoders.bytes count input.now)
+        visitor.old visitor.new) }
 {
     let (all, rest) = bytes(count as usize, input)?;
     shown(visitor.bytes(all))?;
@@ -341,14 +441,14 @@ fn items<'i, V: ValueVisitor>(
     visitor: &mut V,
 ) -> Result<&'i [u8], VisitError<V::Error>>
     requires { 1 ≤ left }
-    ensures ok { IfOk result (λ rest.
-        HasVisited V.visited (flat_map events_of)
+    ensures ok { IfOk result (λ rest. HasVisited V.visited
+        (items_by table.now (Some definition.now) count)
         (in_turn (replicate count (definition_within left table.now definition.now)) input.now)
         rest.now visitor.old visitor.new) }
-    ensures err { IfErr result (IsVisitErrorOf V.may_stop
+    ensures err { IfErr result (IsVisitErrorOf V.visited V.stopped
+        (items_by table.now (Some definition.now) count)
         (in_turn (replicate count (definition_within left table.now definition.now)) input.now)
-        visitor.old) }
-    ensures keeps { OnErr result (V.kept visitor.old visitor.new) }
+        visitor.old visitor.new) }
 {
     if let TypeDef::Primitive(kind) = definition {
         return primitives(kind, count, input, visitor);
@@ -370,13 +470,14 @@ fn members<'i, V: ValueVisitor>(
     visitor: &mut V,
 ) -> Result<&'i [u8], VisitError<V::Error>>
     requires { 1 ≤ left }
-    ensures ok { IfOk result (λ rest.
-        HasVisited V.visited events_of
-        (outcome_map dyn.List (members_within left table.now types.now input.now))
+    ensures ok { IfOk result (λ rest. HasVisited V.visited
+        (bracketed (begin_list (length types.now)) (members_by table.now types.now) end_list)
+        (members_within left table.now types.now input.now)
         rest.now visitor.old visitor.new) }
-    ensures err { IfErr result (IsVisitErrorOf V.may_stop
-        (outcome_map dyn.List (members_within left table.now types.now input.now)) visitor.old) }
-    ensures keeps { OnErr result (V.kept visitor.old visitor.new) }
+    ensures err { IfErr result (IsVisitErrorOf V.visited V.stopped
+        (bracketed (begin_list (length types.now)) (members_by table.now types.now) end_list)
+        (members_within left table.now types.now input.now)
+        visitor.old visitor.new) }
 {
     shown(visitor.begin_list(types.len()))?;
     let rest = each_member(table, types, left, input, visitor)?;
@@ -394,12 +495,14 @@ fn each_member<'i, V: ValueVisitor>(
     visitor: &mut V,
 ) -> Result<&'i [u8], VisitError<V::Error>>
     requires { 1 ≤ left }
-    ensures ok { IfOk result (λ rest.
-        HasVisited V.visited (flat_map events_of)
-        (members_within left table.now types.now input.now) rest.now visitor.old visitor.new) }
-    ensures err { IfErr result (IsVisitErrorOf V.may_stop
-        (members_within left table.now types.now input.now) visitor.old) }
-    ensures keeps { OnErr result (V.kept visitor.old visitor.new) }
+    ensures ok { IfOk result (λ rest. HasVisited V.visited
+        (members_by table.now types.now)
+        (members_within left table.now types.now input.now)
+        rest.now visitor.old visitor.new) }
+    ensures err { IfErr result (IsVisitErrorOf V.visited V.stopped
+        (members_by table.now types.now)
+        (members_within left table.now types.now input.now)
+        visitor.old visitor.new) }
 {
     let mut rest = input;
     for ty in types {
@@ -420,14 +523,16 @@ fn pairs<'i, V: ValueVisitor>(
     visitor: &mut V,
 ) -> Result<&'i [u8], VisitError<V::Error>>
     requires { 1 ≤ left }
-    ensures ok { IfOk result (λ rest.
-        HasVisited V.visited events_of
-        (outcome_map dyn.List (pairs_within left table.now key.now value.now count input.now))
+    ensures ok { IfOk result (λ rest. HasVisited V.visited
+        (bracketed (begin_list count)
+        (items_by table.now (Some (pair_of key.now value.now)) count) end_list)
+        (pairs_within left table.now key.now value.now count input.now)
         rest.now visitor.old visitor.new) }
-    ensures err { IfErr result (IsVisitErrorOf V.may_stop
-        (outcome_map dyn.List (pairs_within left table.now key.now value.now count input.now))
-        visitor.old) }
-    ensures keeps { OnErr result (V.kept visitor.old visitor.new) }
+    ensures err { IfErr result (IsVisitErrorOf V.visited V.stopped
+        (bracketed (begin_list count)
+        (items_by table.now (Some (pair_of key.now value.now)) count) end_list)
+        (pairs_within left table.now key.now value.now count input.now)
+        visitor.old visitor.new) }
 {
     shown(visitor.begin_list(count as usize))?;
     let rest = each_pair(table, key, value, count, left, input, visitor)?;
@@ -447,13 +552,14 @@ fn each_pair<'i, V: ValueVisitor>(
     visitor: &mut V,
 ) -> Result<&'i [u8], VisitError<V::Error>>
     requires { 1 ≤ left }
-    ensures ok { IfOk result (λ rest.
-        HasVisited V.visited (flat_map events_of)
+    ensures ok { IfOk result (λ rest. HasVisited V.visited
+        (items_by table.now (Some (pair_of key.now value.now)) count)
         (pairs_within left table.now key.now value.now count input.now)
         rest.now visitor.old visitor.new) }
-    ensures err { IfErr result (IsVisitErrorOf V.may_stop
-        (pairs_within left table.now key.now value.now count input.now) visitor.old) }
-    ensures keeps { OnErr result (V.kept visitor.old visitor.new) }
+    ensures err { IfErr result (IsVisitErrorOf V.visited V.stopped
+        (items_by table.now (Some (pair_of key.now value.now)) count)
+        (pairs_within left table.now key.now value.now count input.now)
+        visitor.old visitor.new) }
 {
     let mut rest = input;
     for _ in 0..count {
@@ -473,12 +579,14 @@ fn pair<'i, V: ValueVisitor>(
     visitor: &mut V,
 ) -> Result<&'i [u8], VisitError<V::Error>>
     requires { 1 ≤ left }
-    ensures ok { IfOk result (λ rest.
-        HasVisited V.visited events_of (pair_within left table.now key.now value.now input.now)
+    ensures ok { IfOk result (λ rest. HasVisited V.visited
+        (bracketed (begin_list 2) (members_by table.now (key.now ∷ value.now ∷ [])) end_list)
+        (in_turn (key_then_value left table.now key.now value.now) input.now)
         rest.now visitor.old visitor.new) }
-    ensures err { IfErr result (IsVisitErrorOf V.may_stop
-        (pair_within left table.now key.now value.now input.now) visitor.old) }
-    ensures keeps { OnErr result (V.kept visitor.old visitor.new) }
+    ensures err { IfErr result (IsVisitErrorOf V.visited V.stopped
+        (bracketed (begin_list 2) (members_by table.now (key.now ∷ value.now ∷ [])) end_list)
+        (in_turn (key_then_value left table.now key.now value.now) input.now)
+        visitor.old visitor.new) }
 {
     shown(visitor.begin_list(2))?;
     let rest = key_and_value(table, key, value, left, input, visitor)?;
@@ -497,13 +605,14 @@ fn key_and_value<'i, V: ValueVisitor>(
     visitor: &mut V,
 ) -> Result<&'i [u8], VisitError<V::Error>>
     requires { 1 ≤ left }
-    ensures ok { IfOk result (λ rest.
-        HasVisited V.visited (flat_map events_of)
+    ensures ok { IfOk result (λ rest. HasVisited V.visited
+        (members_by table.now (key.now ∷ value.now ∷ []))
         (in_turn (key_then_value left table.now key.now value.now) input.now)
         rest.now visitor.old visitor.new) }
-    ensures err { IfErr result (IsVisitErrorOf V.may_stop
-        (in_turn (key_then_value left table.now key.now value.now) input.now) visitor.old) }
-    ensures keeps { OnErr result (V.kept visitor.old visitor.new) }
+    ensures err { IfErr result (IsVisitErrorOf V.visited V.stopped
+        (members_by table.now (key.now ∷ value.now ∷ []))
+        (in_turn (key_then_value left table.now key.now value.now) input.now)
+        visitor.old visitor.new) }
 {
     let inner = left.saturating_sub(2);
     let rest = value_within(table, key.id, inner, input, visitor)?;

@@ -1,9 +1,11 @@
 //! What a value is shown to.
-ghost use Rattle.std.specs.Prelude.{◌≡◌, ◌∷◌, ◌++◌, [], List, Ok, Err, OnOk, OnErr, IfErr};
+ghost use Rattle.std.specs.Prelude.{◌≡◌, ◌∷◌, ◌++◌, [], List, Ok, Err, OnOk, IfErr};
 ghost use Rattle.scale_info_visit.specs.declared.visitor.VisitError.TheVariants as error;
 ghost use Rattle.scale_info_visit.specs.Events.{Event, truth, unsigned, signed, text};
-ghost use Rattle.scale_info_visit.specs.Events.{begin_list, end_list, begin_record, end_record};
-ghost use Rattle.scale_info_visit.specs.Events.{names, begin_of, end_of, field, bytes_events};
+ghost use Rattle.scale_info_visit.specs.Events.{bytes, integers_events, begin_list, end_list};
+ghost use Rattle.scale_info_visit.specs.Events.{begin_record, end_record, names, begin_of, end_of};
+ghost use Rattle.scale_info_visit.specs.Events.{field};
+ghost use Rattle.scale_info_visit.specs.Visits.{StopsWithin};
 
 use scale_info_types::form::PortableForm;
 use scale_info_types::ty::Field;
@@ -32,7 +34,7 @@ impl<E> From<Failure> for VisitError<E> {
     }
 }
 
-/// The visitor's answer, as that of the visit.
+/// What a method of the visitor returned, as what the visit returns.
 pub(crate) fn shown<E>(answer: Result<(), E>) -> Result<(), VisitError<E>>
     ensures ok { OnOk result (answer ≡ Ok tt) }
     ensures err { IfErr result (λ e. (why : E) × (answer ≡ Err why) × (e ≡ error.Stopped why)) }
@@ -45,9 +47,14 @@ pub(crate) fn shown<E>(answer: Result<(), E>) -> Result<(), VisitError<E>>
 
 /// What is shown the events of a value, one after another.
 ///
-/// Any type may implement it. An implementor states what events do to it, why it may stop, and what
-/// is kept where a visit ends early; it owes the contracts of the functions and the proofs of the
-/// laws. Texts and names are lent for the time of a call.
+/// Any type may implement it. An implementor states what events do to it, `visited`, and what it is
+/// to stop, `stopped`; it owes the contracts of the functions and the proofs of the laws. Texts and
+/// names are lent for the time of a call.
+///
+/// What holds of the visitor after an error follows from the two: some events were shown, all of
+/// them taken or all but the last. So a visitor that appends to an output says in both that the old
+/// output is a prefix of the new one, and then every visit keeps what was there. One that never
+/// stops says `⊥` in `stopped`, and then every error is of the bytes.
 pub trait ValueVisitor {
     /// Why the visitor stops.
     type Error: Drop;
@@ -55,89 +62,85 @@ pub trait ValueVisitor {
     /// What the events do to the visitor.
     ghost visited: { List Event → Self → Self → Type 0 };
 
-    /// The errors with which a visitor in this state may stop, now or later.
-    ghost may_stop: { Self → Self.Error → Type 0 };
-
-    /// What an error keeps of the visitor.
-    ghost kept: { Self → Self → Type 0 };
+    /// What it is to stop: shown these events, of which it refused the last, the visitor stopped
+    /// with this error and is left as this.
+    ghost stopped: { List Event → Self → Self.Error → Self → Type 0 };
 
     /// Takes a truth value.
     fn truth(&mut self, value: bool) -> Result<(), Self::Error>
         ensures ok { OnOk result (visited (truth value ∷ []) self.old self.new) }
-        ensures err { IfErr result (may_stop self.old) }
-        ensures keeps { OnErr result (kept self.old self.new) };
+        ensures err { IfErr result (λ e. stopped (truth value ∷ []) self.old e self.new) };
 
     /// Takes an integer of an unsigned type, compact or not.
     fn unsigned(&mut self, value: u128) -> Result<(), Self::Error>
         ensures ok { OnOk result (visited (unsigned value ∷ []) self.old self.new) }
-        ensures err { IfErr result (may_stop self.old) }
-        ensures keeps { OnErr result (kept self.old self.new) };
+        ensures err { IfErr result (λ e. stopped (unsigned value ∷ []) self.old e self.new) };
 
     /// Takes an integer of a signed type.
     fn signed(&mut self, value: i128) -> Result<(), Self::Error>
         ensures ok { OnOk result (visited (signed value ∷ []) self.old self.new) }
-        ensures err { IfErr result (may_stop self.old) }
-        ensures keeps { OnErr result (kept self.old self.new) };
+        ensures err { IfErr result (λ e. stopped (signed value ∷ []) self.old e self.new) };
 
     /// Takes a text, which is part of the input.
     fn text(&mut self, value: &str) -> Result<(), Self::Error>
         ensures ok { OnOk result (visited (text value.now ∷ []) self.old self.new) }
-        ensures err { IfErr result (may_stop self.old) }
-        ensures keeps { OnErr result (kept self.old self.new) };
+        ensures err { IfErr result (λ e. stopped (text value.now ∷ []) self.old e self.new) };
 
     /// Begins a list of so many items: a sequence, an array, a tuple, a map, or a pair in a map.
     fn begin_list(&mut self, count: usize) -> Result<(), Self::Error>
         ensures ok { OnOk result (visited (begin_list count ∷ []) self.old self.new) }
-        ensures err { IfErr result (may_stop self.old) }
-        ensures keeps { OnErr result (kept self.old self.new) };
+        ensures err { IfErr result (λ e. stopped (begin_list count ∷ []) self.old e self.new) };
 
     /// Ends a list.
     fn end_list(&mut self) -> Result<(), Self::Error>
         ensures ok { OnOk result (visited (end_list ∷ []) self.old self.new) }
-        ensures err { IfErr result (may_stop self.old) }
-        ensures keeps { OnErr result (kept self.old self.new) };
+        ensures err { IfErr result (λ e. stopped (end_list ∷ []) self.old e self.new) };
 
     /// Begins a composite with these fields, which are part of the table.
     fn begin_record(&mut self, fields: &[Field<PortableForm>]) -> Result<(), Self::Error>
         ensures ok { OnOk result
             (visited (begin_record (names fields.now) ∷ []) self.old self.new) }
-        ensures err { IfErr result (may_stop self.old) }
-        ensures keeps { OnErr result (kept self.old self.new) };
+        ensures err { IfErr result
+            (λ e. stopped (begin_record (names fields.now) ∷ []) self.old e self.new) };
 
     /// Ends the composite with these fields.
     fn end_record(&mut self, fields: &[Field<PortableForm>]) -> Result<(), Self::Error>
-        ensures ok { OnOk result
-            (visited (end_record (names fields.now) ∷ []) self.old self.new) }
-        ensures err { IfErr result (may_stop self.old) }
-        ensures keeps { OnErr result (kept self.old self.new) };
+        ensures ok { OnOk result (visited (end_record (names fields.now) ∷ []) self.old self.new) }
+        ensures err { IfErr result
+            (λ e. stopped (end_record (names fields.now) ∷ []) self.old e self.new) };
 
     /// Begins this variant, which is part of the table.
     fn begin_variant(&mut self, variant: &Variant<PortableForm>) -> Result<(), Self::Error>
         ensures ok { OnOk result (visited (begin_of variant.now ∷ []) self.old self.new) }
-        ensures err { IfErr result (may_stop self.old) }
-        ensures keeps { OnErr result (kept self.old self.new) };
+        ensures err { IfErr result (λ e. stopped (begin_of variant.now ∷ []) self.old e self.new) };
 
     /// Ends this variant.
     fn end_variant(&mut self, variant: &Variant<PortableForm>) -> Result<(), Self::Error>
         ensures ok { OnOk result (visited (end_of variant.now ∷ []) self.old self.new) }
-        ensures err { IfErr result (may_stop self.old) }
-        ensures keeps { OnErr result (kept self.old self.new) };
+        ensures err { IfErr result (λ e. stopped (end_of variant.now ∷ []) self.old e self.new) };
 
-    /// Takes a field of the table, whose value comes next.
-    fn field(&mut self, next: &Field<PortableForm>) -> Result<(), Self::Error>
-        ensures ok { OnOk result (visited (field next.now.name ∷ []) self.old self.new) }
-        ensures err { IfErr result (may_stop self.old) }
-        ensures keeps { OnErr result (kept self.old self.new) };
+    /// Takes a field of the table, whose value comes next. `named` says whether each field of its
+    /// record or variant has a name.
+    fn field(&mut self, next: &Field<PortableForm>, named: bool) -> Result<(), Self::Error>
+        ensures ok { OnOk result (visited (field next.now.name named ∷ []) self.old self.new) }
+        ensures err { IfErr result
+            (λ e. stopped (field next.now.name named ∷ []) self.old e self.new) };
 
-    /// Takes a list of bytes whole, which is part of the input. It does what a list of as many
-    /// integers would do, and may do it faster.
-    fn bytes(&mut self, bytes: &[u8]) -> Result<(), Self::Error>
-        ensures ok { OnOk result (visited (bytes_events bytes.now) self.old self.new) }
-        ensures err { IfErr result (may_stop self.old) }
-        ensures keeps { OnErr result (kept self.old self.new) }
+    /// Takes a list of bytes, a sequence or an array of `u8`, whole. It is part of the input.
+    ///
+    /// A visitor that wants them as any other list calls `bytes_one_by_one`.
+    fn bytes(&mut self, all: &[u8]) -> Result<(), Self::Error>
+        ensures ok { OnOk result (visited (bytes all.now ∷ []) self.old self.new) }
+        ensures err { IfErr result (λ e. stopped (bytes all.now ∷ []) self.old e self.new) };
+
+    /// Shows itself a list of bytes as a list of integers.
+    fn bytes_one_by_one(&mut self, all: &[u8]) -> Result<(), Self::Error>
+        ensures ok { OnOk result (visited (integers_events all.now) self.old self.new) }
+        ensures err { IfErr result
+            (λ e. StopsWithin stopped (integers_events all.now) self.old e self.new) }
     {
-        self.begin_list(bytes.len())?;
-        for byte in bytes {
+        self.begin_list(all.len())?;
+        for byte in all {
             self.unsigned(*byte as u128)?;
         }
         self.end_list()?;
@@ -151,14 +154,7 @@ pub trait ValueVisitor {
     ghost visited_append: { (es fs : List Event) (a b c : Self) →
         visited es a b → visited fs b c → visited (es ++ fs) a c };
 
-    /// Why it may stop later, it may stop at all.
-    ghost stops_later: { (es : List Event) (a b : Self) (e : Self.Error) →
-        visited es a b → may_stop b e → may_stop a e };
-
-    /// An error may leave all as it is.
-    ghost kept_all: { (a : Self) → kept a a };
-
-    /// What is kept after some events is kept of what was there before.
-    ghost kept_later: { (es : List Event) (a b c : Self) →
-        visited es a b → kept b c → kept a c };
+    /// Where it stopped after some events, it was shown these before.
+    ghost stopped_later: { (es fs : List Event) (a b : Self) (e : Self.Error) (c : Self) →
+        visited es a b → stopped fs b e c → stopped (es ++ fs) a e c };
 }

@@ -23,7 +23,7 @@ use Rattle.scale_info_numberings.specs.Extensions.{IsExtension}
 use Rattle.scale_info_numberings.specs.Numberings.{AreDistinct, IsNumbering}
 use Rattle.scale_info_numberings.specs.Systems.{Entry, System, IsReachedPast, root, next, looks}
 use Rattle.scale_info_numberings.specs.Systems.{refs_in}
-use Rattle.scale_info_numberings.proofs.WorkLists.{IsWalking, walk_adds, walk_passes}
+use Rattle.scale_info_numberings.proofs.WorkLists.{IsWalking, walk_adds, walk_passes, walk_starts}
 use Rattle.scale_info_numberings.proofs.Weights.{weight, weight_in, distinct_sums}
 use Rattle.scale_info_walk.specs.Walks.{AreNumbers, IsWalkError, IsLook, IsNextOf, IsWalk}
 use Rattle.scale_info_walk.specs.declared.walk.RetainError.{RetainError}
@@ -322,6 +322,34 @@ module _ {Sh : Type 0} (S : System Sh ℕ) where
         reached = λ m c u. x.reached m (contains_tail id rest m c) u;
       }
 
+  -- what holds at each reference of a walk from one root, which began with the order `old`, after
+  -- `before` steps
+  abbrev pub WalksFrom : ℕ → List ℕ → ℕ → ℕ → List ℕ → List ℕ → ℕ → List ℕ → Type 0
+  WalksFrom n old before id order numbers steps left =
+      IsWalking S old (id ∷ []) order left
+      × IsWalk S n order numbers steps
+      × (steps + length left + looks S old ≡ before + looks S order)
+
+  -- the look at the root, before which nothing is left
+  pub first_look :
+      (old left order left_after : List ℕ) (id : ℕ) → left ≡ []
+      → IsLook S id old left order left_after → IsLook S id old [] order left_after
+  first_look old left order left_after id none look =
+      subst (λ (ls : List ℕ). IsLook S id old ls order left_after) none look
+
+  -- so it is after the look at the root
+  pub walk_begins :
+      (n : ℕ) (old olds order numbers left : List ℕ) (before id steps : ℕ)
+      → AreNumbers old olds → IsLook S id old [] order left → IsWalk S n order numbers steps
+      → steps ≡ before → WalksFrom n old before id order numbers steps left
+  walk_begins n old olds order numbers left before id steps dense look walk same =
+      let counts = look_counts old [] order left id look in (
+        walk_looks old (id ∷ []) old [] order left id look
+            (walk_starts S old (id ∷ []) (numbers_distinct old olds dense)),
+        walk,
+        omega (arith, counts, same),
+      )
+
 -- ---- the walk of a list of roots, root by root
 
 module _ {Sh : Type 0} (S : System Sh ℕ) where
@@ -329,6 +357,14 @@ module _ {Sh : Type 0} (S : System Sh ℕ) where
   pub roots_none : (order : List ℕ) → order ≡ [] → IsExtension S [] [] order
   roots_none order e =
       rw e (extends_by_none S [] (λ i j n p q. absurd (none-some n p)))
+
+  -- what holds before the first root
+  pub roots_begin :
+      (n : ℕ) (order numbers : List ℕ) (steps : ℕ) → order ≡ [] → IsWalk S n order numbers steps
+      → steps ≡ 0
+      → IsExtension S [] [] order × IsWalk S n order numbers steps × (steps ≡ looks S order)
+  roots_begin n order numbers steps none walk zero =
+      (roots_none order none, walk, zero ∙ ap (looks S) (sym none))
 
   -- an extension by the first i roots, extended by the next root, is one by the first i + 1
   pub roots_more :

@@ -41,7 +41,7 @@ pub fn table_from(rt: &HostRuntime, row: &str) -> Result<Outcome, Fail> {
 }
 
 /// A text that was appended to the byte `aa`, with the byte before it in hexadecimal.
-fn appended(alloc: Global, bytes: &[u8]) -> Result<String, Fail> {
+pub fn appended(alloc: Global, bytes: &[u8]) -> Result<String, Fail> {
     let Some((first, text)) = bytes.split_first() else {
         return Err(Fail::new("the byte before the text is gone"));
     };

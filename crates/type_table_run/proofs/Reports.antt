@@ -42,36 +42,26 @@ kind_at n =
     else if n == mark (line_of Input) then Input
     else Output
 
-kind_at-mark : (error : RunError) → kind_at (mark (line_of error)) ≡ kind_of error
-kind_at-mark Malformed = refl
-kind_at-mark TrailingBytes = refl
-kind_at-mark (NoSuchType id) = refl
-kind_at-mark (Dangling id) = refl
-kind_at-mark Memory = refl
-kind_at-mark Input = refl
-kind_at-mark Output = refl
-
-mark-append : (error : RunError) (rest : List ℕ) → mark (line_of error ++ rest) ≡ mark (line_of error)
-mark-append Malformed rest = refl
-mark-append TrailingBytes rest = refl
-mark-append (NoSuchType id) rest = refl
-mark-append (Dangling id) rest = refl
-mark-append Memory rest = refl
-mark-append Input rest = refl
-mark-append Output rest = refl
-
-first-append : (error : RunError) (rest : List ℕ) → get_or (line_of error ++ rest) 0 0 ≡ 116
-first-append Malformed rest = refl
-first-append TrailingBytes rest = refl
-first-append (NoSuchType id) rest = refl
-first-append (Dangling id) rest = refl
-first-append Memory rest = refl
-first-append Input rest = refl
-first-append Output rest = refl
+-- a line of an error by its two places, which stay where more comes after them, and by its first
+-- character
+line_places : (error : RunError) (rest : List ℕ)
+    → (kind_at (mark (line_of error)) ≡ kind_of error)
+    × (mark (line_of error ++ rest) ≡ mark (line_of error))
+    × (get_or (line_of error ++ rest) 0 0 ≡ 116)
+line_places Malformed rest = (refl, refl, refl)
+line_places TrailingBytes rest = (refl, refl, refl)
+line_places (NoSuchType id) rest = (refl, refl, refl)
+line_places (Dangling id) rest = (refl, refl, refl)
+line_places Memory rest = (refl, refl, refl)
+line_places Input rest = (refl, refl, refl)
+line_places Output rest = (refl, refl, refl)
 
 -- a line of an error begins with that of an error only where they are of one kind
 same_kind : (f g : RunError) (rest : List ℕ) → line_of f ≡ line_of g ++ rest → kind_of f ≡ kind_of g
-same_kind f g rest e = sym (kind_at-mark f) ∙ ap kind_at (ap mark e ∙ mark-append g rest) ∙ kind_at-mark g
+same_kind f g rest e =
+    sym (line_places f rest).0
+    ∙ ap kind_at (ap mark e ∙ (line_places g rest).1)
+    ∙ (line_places g rest).0
 
 -- a line feed is no digit
 no_digit : (c : ℕ) → c ≡ 10 → digit_value c < 10 → ⊥
@@ -189,7 +179,7 @@ reported_error old new f g sf sg reported a = same_error f g (drop a.count (line
 usage_reports_none : (old new : Option (List ℕ)) (g : RunError) → Reported old new (line_of g) → AppendsPrefix old new usage_line → ⊥
 usage_reports_none old new g reported a =
     let first : 117 ≡ get_or (line_of g ++ drop a.count usage_line) 0 0 = ap (λ l. get_or l 0 0) (reported_prefix old new (line_of g) usage_line a reported) in
-    omega (arith, first-append g (drop a.count usage_line))
+    omega (arith, (line_places g (drop a.count usage_line)).2)
 
 -- a writer that is as before reports no error
 unchanged_reports_none : (old : Option (List ℕ)) (g : RunError) → Reported old old (line_of g) → ⊥
@@ -197,7 +187,7 @@ unchanged_reports_none None g reported = let known = reported.is_known in cc
 unchanged_reports_none (Some x) g reported =
     let none : line_of g ≡ [] = append_cancel_left x (line_of g) [] (sym reported.appends ∙ sym (append-nil x)) in
     let first : get_or (line_of g ++ []) 0 0 ≡ 0 = ap (λ l. get_or (l ++ []) 0 0) none in
-    omega (arith, first-append g [])
+    omega (arith, (line_places g []).2)
 
 -- an error whose line was reported explains what the command did, by what is known of each status
 pub explained : {F : Type 0} (contents : F → Option (List ℕ)) (errors_old errors_new : F) (status : ℕ) (arguments : List (List ℕ)) (input output_old output_new : Option (List ℕ)) (g : RunError)

@@ -1,5 +1,6 @@
-use Rattle.std.proofs.Common.{◌∷◌, ◌*◌, ◌+◌, ap, ◌∙◌, [], ◌++◌, arith, refl, get_or}
-use Rattle.std.specs.Int.{w16, w32, to_le_bytes}
+use Rattle.std.proofs.Common.{◌≡◌, ℕ, List, ◌∷◌, ◌*◌, ap, ◌∙◌, [], ◌++◌, arith, refl, get_or}
+use Rattle.std.specs.Int.{w32, to_le_bytes}
+use Rattle.scale_info_bytes.specs.Encodings.{AppendsEncoding}
 use Rattle.scale_info_bytes.specs.Integers.{in_one, in_two, in_four, in_five}
 use Rattle.scale_info_bytes.proofs.integer.encode_compact.Goals as goal
 
@@ -10,25 +11,23 @@ returns-in_ok-push-clause-ok c = record {
   parts = c.in_ok-push.ensures.items;
 }
 
+-- what was appended is an encoding
+appended :
+    {S : List ℕ → Type 0} {old new given encoding : List ℕ} → new ≡ old ++ given → given ≡ encoding
+    → S encoding → AppendsEncoding S old new
+appended {old = old} {encoding = encoding} more is encodes =
+    record { encoding = encoding; encodes = encodes; parts = more ∙ ap (λ t. old ++ t) is }
+
 pub returns-in_ok-extend_from_slice-clause-ok : goal.returns-in_ok-extend_from_slice-clause-ok
 returns-in_ok-extend_from_slice-clause-ok c =
-    let h = c.in_ok-extend_from_slice.ensures.items in
-    let k = c.to_le_bytes.ensures in
-    record {
-      encoding = to_le_bytes w16 (4 * c.args.integer + 1);
-      encodes = in_two c.if-integer-lt64.false c.if-integer-lt16384.true refl;
-      parts = h ∙ ap (λ t. c.args.out.now.items ++ t) k;
-    }
+    appended c.in_ok-extend_from_slice.ensures.items c.to_le_bytes.ensures
+    (in_two c.if-integer-lt64.false c.if-integer-lt16384.true refl)
 
 pub returns-in_ok-extend_from_slice-2-clause-ok : goal.returns-in_ok-extend_from_slice-2-clause-ok
 returns-in_ok-extend_from_slice-2-clause-ok c =
-    let h = c.in_ok-extend_from_slice-2.ensures.items in
-    let k = c.to_le_bytes-then-integer-lt1073741824.ensures in
-    record {
-      encoding = to_le_bytes w32 (4 * c.args.integer + 2);
-      encodes = in_four c.if-integer-lt16384.false c.if-integer-lt1073741824.true refl;
-      parts = h ∙ ap (λ t. c.args.out.now.items ++ t) k;
-    }
+    appended c.in_ok-extend_from_slice-2.ensures.items
+    c.to_le_bytes-then-integer-lt1073741824.ensures
+    (in_four c.if-integer-lt16384.false c.if-integer-lt1073741824.true refl)
 
 pub returns-in_ok-extend_from_slice-3-clause-ok : goal.returns-in_ok-extend_from_slice-3-clause-ok
 returns-in_ok-extend_from_slice-3-clause-ok c =

@@ -1,4 +1,4 @@
-use Rattle.std.proofs.Common.{rules, refl}
+use Rattle.std.proofs.Common.{rules}
 use Rattle.std.proofs.lemmas.Str.{IsUtf8-from_ascii}
 use Rattle.scale_info_bytes.proofs.Ascii.{after_ascii}
 use Rattle.scale_info_bytes.proofs.utf8.after_ascii.Goals as goal

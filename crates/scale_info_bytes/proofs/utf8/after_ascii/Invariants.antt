@@ -1,4 +1,4 @@
-use Rattle.std.proofs.Common.{ℕ, ◌≤◌, length}
+use Rattle.std.proofs.Common.{◌≤◌, length}
 use Rattle.std.specs.Prelude.{IsUtf8}
 use Rattle.scale_info_bytes.proofs.utf8.after_ascii.Given as goal
 

@@ -1,4 +1,4 @@
-use Rattle.std.proofs.Common.{ℕ, length}
+use Rattle.std.proofs.Common.{length}
 use Rattle.std.specs.Prelude.{IsUtf8}
 use Rattle.scale_info_bytes.proofs.utf8.is_utf8_by_char.Given as goal
 

@@ -43,10 +43,10 @@ returns-in-Err-clause-absent g c =
     let is = c.deref.ensures.value in
     gap_within g.met.T.Ord.total c.args.elements.now (map (λ w. w.items) c.args.chunks.now)
     c.args.value.now c.in-Some.chunk c.in-Err.at v.items c.requires there
+    (rw (← is) c.in-Err.ensures.bound)
+    (λ i index e p. c.in-Err.ensures.less i index e (rw is p))
+    (λ index p. c.in-Err.ensures.greater index (rw is p))
     (c.chunks_before.ensures.upto c.in-Some.chunk v.items next there)
     (λ chunk p. c.chunks_before.ensures.past chunk
     (subst (λ n. slice_get (map (λ w. w.items) c.args.chunks.now) n ≡ Some chunk)
     (omega (arith, next)) p))
-    (rw (← is) c.in-Err.ensures.bound)
-    (λ i index e p. c.in-Err.ensures.less i index e (rw is p))
-    (λ index p. c.in-Err.ensures.greater index (rw is p))

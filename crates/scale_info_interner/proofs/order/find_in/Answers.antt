@@ -16,6 +16,9 @@ returns-then-ends_below-clause-absent g c =
     let is = c.deref.ensures.value in
     gap_here g.met.T.Ord.total c.args.elements.now (map (λ w. w.items) c.args.chunks.now)
     c.args.value.now c.args.chunk c.in-Err.at v.items c.requires there
+    (rw (← is) c.in-Err.ensures.bound)
+    (λ i index e p. c.in-Err.ensures.less i index e (rw is p))
+    (λ index p. c.in-Err.ensures.greater index (rw is p))
     (λ i e. elim c.if-chunk-eq0.branch [
       | then-chunk-eq0 w ↦ let first = w.if-chunk-eq0.true in omega (arith, first, e)
       | else-chunk-eq0 w ↦ grind (arith, rules, w.is_above_others-is, c.if-is_above_others.true)
@@ -27,6 +30,3 @@ returns-then-ends_below-clause-absent g c =
           w.ends_below.ensures next (sym w.value-is ∙ c.if-ends_below.true)
           (subst (λ n. slice_get (map (λ w. w.items) c.args.chunks.now) n ≡ Some next) step p)
     ])
-    (rw (← is) c.in-Err.ensures.bound)
-    (λ i index e p. c.in-Err.ensures.less i index e (rw is p))
-    (λ index p. c.in-Err.ensures.greater index (rw is p))

@@ -1,256 +1,665 @@
-use Rattle.std.proofs.Common.{List, Option, length, ◌≡◌, ◌-◌, ◌+◌, [], Some, None, find, ◌==◌, arith, ap, sym, subst, ◌∙◌, map, replicate, drop, refl}
+use Rattle.std.proofs.Common.{List, Option, length, ◌≡◌, ◌-◌, ◌+◌, [], ◌∷◌, Some, None, true, false, find, ◌==◌, arith, ap, sym, subst, ◌∙◌, map, replicate, drop, refl, option_map}
 use Rattle.std.proofs.lemmas.Grind.{common_steps}
-use Rattle.std.specs.Bool.{OnTrue}
-use Rattle.std.proofs.lemmas.List.{length-map}
+use Rattle.std.proofs.lemmas.List.{drop-map}
 use Rattle.std.proofs.lemmas.Result.{IfOk-weaker}
-use Rattle.scale_info_types.specs.Shapes.{map_field}
-use Rattle.scale_info_types.specs.Portable.{Id, Field, Text}
+use Rattle.scale_info_types.specs.Shapes.{map_field, map_variant}
+use Rattle.scale_info_types.specs.Portable.{Id, Field, Text, TypeDef}
 use Rattle.scale_info_value.specs.declared.value.Dyn.{Dyn}
-use Rattle.scale_info_types.specs.declared.ty.TypeDef.TheVariants as def
 use Rattle.scale_info_primitives.specs.declared.primitive.TypeDefPrimitive.TheVariants as kind
 use Rattle.scale_info_value.specs.declared.value.Dyn.TheVariants as dyn
-use Rattle.scale_info_value.specs.ValueDefinitions.{field}
-use Rattle.scale_info_value.specs.Outcomes.{Decoder, outcome_map, in_turn}
+use Rattle.scale_info_value.specs.ValueDefinitions.{field, fields_of}
+use Rattle.scale_info_value.specs.Outcomes.{Decoder, and_then, outcome_map, in_turn}
 use Rattle.scale_info_value.specs.Readings.{type_at, value_within, definition_within, pair_within, part_within}
+use Rattle.scale_info_value.specs.Readings.{items_within, pairs_within}
 use Rattle.scale_info_value.proofs.InOrder.{all_fail, take_next}
 use Rattle.scale_info_value.proofs.Steps.{value_too_deep, value_no_type, value_of_type}
-use Rattle.scale_info_value.proofs.Steps.{variant_missing, variant_found, items_of_type, primitives_are}
-use Rattle.scale_info_visit.specs.Events.{events_of, field_events}
-use Rattle.scale_info_visit.specs.Visits.{HasVisited, field_within, key_then_value}
-use Rattle.scale_info_visit.proofs.Visiting.{IsVisiting, goes_on, next_fails, part_fails, by_answer, passed_on}
-use Rattle.scale_info_visit.proofs.Lists.{so_many, as_many, list_shown, record_shown, variant_shown, field_shown, found_index, first_of}
-use Rattle.scale_info_visit.proofs.Lists.{variant_is}
+use Rattle.scale_info_value.proofs.Steps.{variant_missing, items_of_type, primitives_are}
+use Rattle.scale_info_visit.specs.Events.{begin_list, end_list, begin_record, end_record, names, begin_of, end_of}
+use Rattle.scale_info_visit.specs.Events.{definition_at, field_types, pair_of, is_byte, events_by}
+use Rattle.scale_info_visit.specs.Visits.{field_within, key_then_value, value_by, field_by, fields_by, items_by, members_by, list_by}
+use Rattle.scale_info_visit.proofs.Visiting.{IsVisiting, begins, goes_on, ends, next_part, adds_placed, part_returned, part_passed, part_fails, by_answer}
+use Rattle.scale_info_visit.proofs.Visiting.{refusal_passed, refusal, passed_on, fails_first, failure_passed, between, at_first, in_parts, at_last}
+use Rattle.scale_info_visit.proofs.Visiting.{made_of, parts_next, shown_as, next_as, shown_whole, whole_next}
+use Rattle.scale_info_visit.proofs.Places.{drop_replicate}
+use Rattle.scale_info_visit.proofs.Events.{unsigned_by}
+use Rattle.scale_info_visit.proofs.Bytes.{bytes_are_integers}
+use Rattle.scale_info_visit.proofs.Turns.{so_many, as_many}
+use Rattle.scale_info_visit.proofs.Primitives.{no_parts, places_alone, byte_type}
+use Rattle.scale_info_visit.proofs.Lists.{record_same, variant_same, sequence_same, array_same, tuple_same, map_same, items_same, bytes_same}
+use Rattle.scale_info_visit.proofs.Lists.{field_shown, at_name, in_field, first_of, found_itself}
+use Rattle.scale_info_visit.proofs.Lists.{composite_by, variant_chosen, sequence_by, tuple_by, map_by, many_members}
 use Rattle.scale_info_visit.proofs.visit.+visit.Goals as goal
 
 pub value_within-returns-then-left-eq0-clause-err : goal.value_within-returns-then-left-eq0-clause-err
 value_within-returns-then-left-eq0-clause-err g t c =
-    value_too_deep c.args.left c.args.table.now c.args.id c.args.input.now (omega arith)
+    fails_first _ (g.met.V.ValueVisitor.visited_none c.args.visitor.now) (value_too_deep c.args.left c.args.table.now c.args.id c.args.input.now (omega arith))
 
 pub value_within-returns-in-None-clause-err : goal.value_within-returns-in-None-clause-err
 value_within-returns-in-None-clause-err g t c =
     let none : type_at c.args.table.now c.args.id ≡ None = grind (arith, common_steps) in
-    value_no_type c.args.left c.args.table.now c.args.id c.args.input.now (omega arith) none
+    fails_first _ (g.met.V.ValueVisitor.visited_none c.args.visitor.now)
+    (value_no_type c.args.left c.args.table.now c.args.id c.args.input.now (omega arith) none)
 
 pub value_within-returns-in-Some-clause-ok : goal.value_within-returns-in-Some-clause-ok
 value_within-returns-in-Some-clause-ok g t c =
     let some : type_at c.args.table.now c.args.id ≡ Some c.in-Some.ty.now = grind (arith, common_steps) in
+    let known : definition_at c.args.table.now c.args.id ≡ Some c.in-Some.ty.now.type_def = ap (λ o. option_map (λ d. d.type_def) o) some in
     rw (value_of_type c.args.left c.args.table.now c.args.id c.args.input.now c.in-Some.ty.now (omega arith) some)
-    c.value_by.ensures.ok
+    (IfOk-weaker c.value_by.result _ _ (λ rest p. shown_as (λ value left e. ap (λ t. events_by c.args.table.now t value) known) p) c.value_by.ensures.ok)
 
 pub value_within-returns-in-Some-clause-err : goal.value_within-returns-in-Some-clause-err
 value_within-returns-in-Some-clause-err g t c =
     let some : type_at c.args.table.now c.args.id ≡ Some c.in-Some.ty.now = grind (arith, common_steps) in
+    let known : definition_at c.args.table.now c.args.id ≡ Some c.in-Some.ty.now.type_def = ap (λ o. option_map (λ d. d.type_def) o) some in
     rw (value_of_type c.args.left c.args.table.now c.args.id c.args.input.now c.in-Some.ty.now (omega arith) some)
-    c.value_by.ensures.err
+    (part_returned _ c.value_by.result g.met.V.ValueVisitor.visited_append g.met.V.ValueVisitor.stopped_later
+    (next_as (λ value left e. ap (λ t. events_by c.args.table.now t value) known) (g.met.V.ValueVisitor.visited_none c.args.visitor.now)) c.value_by.ensures.err)
 
-pub list-returns-then-left-eq1-clause-err : goal.list-returns-then-left-eq1-clause-err
-list-returns-then-left-eq1-clause-err g t c =
-    let read = value_within (c.args.left - 1) c.args.table.now c.args.ty.now.id in
-    ap (λ o. outcome_map dyn.List o)
-    (all_fail c.args.count read c.args.input.now _ (omega arith)
-    (value_too_deep (c.args.left - 1) c.args.table.now c.args.ty.now.id c.args.input.now (omega arith)))
+pub value_by-returns-in-Composite-clause-ok : goal.value_by-returns-in-Composite-clause-ok
+value_by-returns-in-Composite-clause-ok g t c =
+    IfOk-weaker c.record.result _ _ (λ rest p. made_of dyn.Record
+    (record_same c.args.left c.args.table.now c.args.definition.now c.in-Composite.composite c.as_slice.result.now c.args.input.now c.in-Composite.is c.as_slice.ensures)
+    (composite_by c.args.left c.args.table.now c.args.definition.now c.in-Composite.composite c.as_slice.result.now c.args.input.now c.in-Composite.is c.as_slice.ensures) p)
+    c.record.ensures.ok
 
-pub list-returns-in-None-clause-err : goal.list-returns-in-None-clause-err
-list-returns-in-None-clause-err g t c =
-    let read = value_within (c.args.left - 1) c.args.table.now c.args.ty.now.id in
-    let none : type_at c.args.table.now c.args.ty.now.id ≡ None = grind (arith, common_steps) in
-    ap (λ o. outcome_map dyn.List o)
-    (all_fail c.args.count read c.args.input.now _ (omega arith)
-    (value_no_type (c.args.left - 1) c.args.table.now c.args.ty.now.id c.args.input.now (omega arith) none))
-
-pub list-returns-in-Some-clause-ok : goal.list-returns-in-Some-clause-ok
-list-returns-in-Some-clause-ok g t c =
-    let some : type_at c.args.table.now c.args.ty.now.id ≡ Some c.in-Some.item.now = grind (arith, common_steps) in
-    rw (items_of_type c.args.left c.args.table.now c.args.ty.now c.args.count c.args.input.now c.in-Some.item.now
-    (omega arith) some)
-    c.list_by.ensures.ok
-
-pub list-returns-in-Some-clause-err : goal.list-returns-in-Some-clause-err
-list-returns-in-Some-clause-err g t c =
-    let some : type_at c.args.table.now c.args.ty.now.id ≡ Some c.in-Some.item.now = grind (arith, common_steps) in
-    rw (items_of_type c.args.left c.args.table.now c.args.ty.now c.args.count c.args.input.now c.in-Some.item.now
-    (omega arith) some)
-    c.list_by.ensures.err
+pub value_by-returns-in-Composite-clause-err : goal.value_by-returns-in-Composite-clause-err
+value_by-returns-in-Composite-clause-err g t c =
+    part_returned _ c.record.result g.met.V.ValueVisitor.visited_append g.met.V.ValueVisitor.stopped_later
+    (parts_next dyn.Record
+    (record_same c.args.left c.args.table.now c.args.definition.now c.in-Composite.composite c.as_slice.result.now c.args.input.now c.in-Composite.is c.as_slice.ensures)
+    (composite_by c.args.left c.args.table.now c.args.definition.now c.in-Composite.composite c.as_slice.result.now c.args.input.now c.in-Composite.is c.as_slice.ensures)
+    (g.met.V.ValueVisitor.visited_none c.args.visitor.now))
+    c.record.ensures.err
 
 pub value_by-returns-in-Variant-clause-ok : goal.value_by-returns-in-Variant-clause-ok
 value_by-returns-in-Variant-clause-ok g t c =
-    rw (variant_is c.args.left c.args.table.now c.args.definition.now c.in-Variant.choice
-    c.as_slice-in-Variant.result.now c.args.input.now c.in-Variant.is c.as_slice-in-Variant.ensures)
-    c.variant.ensures.ok
+    rw c.in-Variant.is c.variant.ensures.ok
 
 pub value_by-returns-in-Variant-clause-err : goal.value_by-returns-in-Variant-clause-err
 value_by-returns-in-Variant-clause-err g t c =
-    rw (variant_is c.args.left c.args.table.now c.args.definition.now c.in-Variant.choice
-    c.as_slice-in-Variant.result.now c.args.input.now c.in-Variant.is c.as_slice-in-Variant.ensures)
-    c.variant.ensures.err
+    rw c.in-Variant.is c.variant.ensures.err
+
+pub value_by-returns-in_ok-count-in-Sequence-clause-ok : goal.value_by-returns-in_ok-count-in-Sequence-clause-ok
+value_by-returns-in_ok-count-in-Sequence-clause-ok g t c =
+    IfOk-weaker c.list.result _ _ (λ rest p. made_of dyn.List
+    (λ vs rest e. sequence_same c.args.table.now c.args.definition.now c.in-Sequence.sequence c.in_ok-count-in-Sequence.count vs c.in-Sequence.is
+    (so_many c.in_ok-count-in-Sequence.count (value_within (c.args.left - 1) c.args.table.now c.in-Sequence.sequence.type_param.id) c.in_ok-count-in-Sequence.rest.now vs rest e))
+    (sequence_by c.args.left c.args.table.now c.args.definition.now c.in-Sequence.sequence c.in_ok-count-in-Sequence.count c.args.input.now c.in_ok-count-in-Sequence.rest.now c.in-Sequence.is c.in_ok-count-in-Sequence.ensures.ok) p)
+    c.list.ensures.ok
+
+pub value_by-returns-in_ok-count-in-Sequence-clause-err : goal.value_by-returns-in_ok-count-in-Sequence-clause-err
+value_by-returns-in_ok-count-in-Sequence-clause-err g t c =
+    part_returned _ c.list.result g.met.V.ValueVisitor.visited_append g.met.V.ValueVisitor.stopped_later
+    (parts_next dyn.List
+    (λ vs rest e. sequence_same c.args.table.now c.args.definition.now c.in-Sequence.sequence c.in_ok-count-in-Sequence.count vs c.in-Sequence.is
+    (so_many c.in_ok-count-in-Sequence.count (value_within (c.args.left - 1) c.args.table.now c.in-Sequence.sequence.type_param.id) c.in_ok-count-in-Sequence.rest.now vs rest e))
+    (sequence_by c.args.left c.args.table.now c.args.definition.now c.in-Sequence.sequence c.in_ok-count-in-Sequence.count c.args.input.now c.in_ok-count-in-Sequence.rest.now c.in-Sequence.is c.in_ok-count-in-Sequence.ensures.ok)
+    (g.met.V.ValueVisitor.visited_none c.args.visitor.now))
+    c.list.ensures.err
+
+pub value_by-returns-in-Array-clause-ok : goal.value_by-returns-in-Array-clause-ok
+value_by-returns-in-Array-clause-ok g t c =
+    IfOk-weaker c.list-in-Array.result _ _ (λ rest p. made_of dyn.List
+    (λ vs rest e. array_same c.args.table.now c.args.definition.now c.in-Array.array vs c.in-Array.is
+    (so_many c.in-Array.array.len (value_within (c.args.left - 1) c.args.table.now c.in-Array.array.type_param.id) c.args.input.now vs rest e))
+    (ap (λ d. definition_within c.args.left c.args.table.now d c.args.input.now) c.in-Array.is) p)
+    c.list-in-Array.ensures.ok
+
+pub value_by-returns-in-Array-clause-err : goal.value_by-returns-in-Array-clause-err
+value_by-returns-in-Array-clause-err g t c =
+    part_returned _ c.list-in-Array.result g.met.V.ValueVisitor.visited_append g.met.V.ValueVisitor.stopped_later
+    (parts_next dyn.List
+    (λ vs rest e. array_same c.args.table.now c.args.definition.now c.in-Array.array vs c.in-Array.is
+    (so_many c.in-Array.array.len (value_within (c.args.left - 1) c.args.table.now c.in-Array.array.type_param.id) c.args.input.now vs rest e))
+    (ap (λ d. definition_within c.args.left c.args.table.now d c.args.input.now) c.in-Array.is)
+    (g.met.V.ValueVisitor.visited_none c.args.visitor.now))
+    c.list-in-Array.ensures.err
+
+pub value_by-returns-in-Tuple-clause-ok : goal.value_by-returns-in-Tuple-clause-ok
+value_by-returns-in-Tuple-clause-ok g t c =
+    IfOk-weaker c.members.result _ _ (λ rest p. made_of dyn.List
+    (λ vs rest e. tuple_same c.args.table.now c.args.definition.now c.in-Tuple.tuple c.as_slice-in-Tuple.result.now vs c.in-Tuple.is c.as_slice-in-Tuple.ensures
+    (many_members c.args.left c.args.table.now c.as_slice-in-Tuple.result.now c.args.input.now vs rest e))
+    (tuple_by c.args.left c.args.table.now c.args.definition.now c.in-Tuple.tuple c.as_slice-in-Tuple.result.now c.args.input.now c.in-Tuple.is c.as_slice-in-Tuple.ensures) p)
+    c.members.ensures.ok
+
+pub value_by-returns-in-Tuple-clause-err : goal.value_by-returns-in-Tuple-clause-err
+value_by-returns-in-Tuple-clause-err g t c =
+    part_returned _ c.members.result g.met.V.ValueVisitor.visited_append g.met.V.ValueVisitor.stopped_later
+    (parts_next dyn.List
+    (λ vs rest e. tuple_same c.args.table.now c.args.definition.now c.in-Tuple.tuple c.as_slice-in-Tuple.result.now vs c.in-Tuple.is c.as_slice-in-Tuple.ensures
+    (many_members c.args.left c.args.table.now c.as_slice-in-Tuple.result.now c.args.input.now vs rest e))
+    (tuple_by c.args.left c.args.table.now c.args.definition.now c.in-Tuple.tuple c.as_slice-in-Tuple.result.now c.args.input.now c.in-Tuple.is c.as_slice-in-Tuple.ensures)
+    (g.met.V.ValueVisitor.visited_none c.args.visitor.now))
+    c.members.ensures.err
+
+pub value_by-returns-in-Primitive-clause-ok : goal.value_by-returns-in-Primitive-clause-ok
+value_by-returns-in-Primitive-clause-ok g t c =
+    IfOk-weaker c.primitive.result _ _
+    (λ rest p. shown_as (λ value left e. no_parts c.in-Primitive.kind c.args.input.now value left (sym (ap (λ d. definition_within c.args.left c.args.table.now d c.args.input.now) c.in-Primitive.is) ∙ e) c.args.table.now (Some c.args.definition.now))
+    (rw c.in-Primitive.is p))
+    c.primitive.ensures.ok
+
+pub value_by-returns-in-Primitive-clause-err : goal.value_by-returns-in-Primitive-clause-err
+value_by-returns-in-Primitive-clause-err g t c =
+    part_returned _ c.primitive.result g.met.V.ValueVisitor.visited_append g.met.V.ValueVisitor.stopped_later
+    (next_as (λ value left e. no_parts c.in-Primitive.kind c.args.input.now value left (sym (ap (λ d. definition_within c.args.left c.args.table.now d c.args.input.now) c.in-Primitive.is) ∙ e) c.args.table.now (Some c.args.definition.now)) (g.met.V.ValueVisitor.visited_none c.args.visitor.now))
+    (rw c.in-Primitive.is c.primitive.ensures.err)
+
+pub value_by-returns-in-Compact-clause-ok : goal.value_by-returns-in-Compact-clause-ok
+value_by-returns-in-Compact-clause-ok g t c =
+    IfOk-weaker c.compact.result _ _ (λ rest p. made_of dyn.Unsigned
+    (λ n rest e. unsigned_by c.args.table.now (Some c.args.definition.now) n)
+    (ap (λ d. definition_within c.args.left c.args.table.now d c.args.input.now) c.in-Compact.is) p)
+    c.compact.ensures.ok
+
+pub value_by-returns-in-Compact-clause-err : goal.value_by-returns-in-Compact-clause-err
+value_by-returns-in-Compact-clause-err g t c =
+    part_returned _ c.compact.result g.met.V.ValueVisitor.visited_append g.met.V.ValueVisitor.stopped_later
+    (parts_next dyn.Unsigned
+    (λ n rest e. unsigned_by c.args.table.now (Some c.args.definition.now) n)
+    (ap (λ d. definition_within c.args.left c.args.table.now d c.args.input.now) c.in-Compact.is)
+    (g.met.V.ValueVisitor.visited_none c.args.visitor.now))
+    c.compact.ensures.err
+
+pub value_by-returns-in_ok-count-in-Map-clause-ok : goal.value_by-returns-in_ok-count-in-Map-clause-ok
+value_by-returns-in_ok-count-in-Map-clause-ok g t c =
+    IfOk-weaker c.pairs.result _ _ (λ rest p. made_of dyn.List
+    (λ vs rest e. map_same c.args.table.now c.args.definition.now c.in-Map.map c.in_ok-count-in-Map.count vs c.in-Map.is (so_many c.in_ok-count-in-Map.count (pair_within c.args.left c.args.table.now c.in-Map.map.key c.in-Map.map.value) c.in_ok-count-in-Map.rest.now vs rest e))
+    (map_by c.args.left c.args.table.now c.args.definition.now c.in-Map.map c.in_ok-count-in-Map.count c.args.input.now c.in_ok-count-in-Map.rest.now c.in-Map.is c.in_ok-count-in-Map.ensures.ok) p)
+    c.pairs.ensures.ok
+
+pub value_by-returns-in_ok-count-in-Map-clause-err : goal.value_by-returns-in_ok-count-in-Map-clause-err
+value_by-returns-in_ok-count-in-Map-clause-err g t c =
+    part_returned _ c.pairs.result g.met.V.ValueVisitor.visited_append g.met.V.ValueVisitor.stopped_later
+    (parts_next dyn.List
+    (λ vs rest e. map_same c.args.table.now c.args.definition.now c.in-Map.map c.in_ok-count-in-Map.count vs c.in-Map.is (so_many c.in_ok-count-in-Map.count (pair_within c.args.left c.args.table.now c.in-Map.map.key c.in-Map.map.value) c.in_ok-count-in-Map.rest.now vs rest e))
+    (map_by c.args.left c.args.table.now c.args.definition.now c.in-Map.map c.in_ok-count-in-Map.count c.args.input.now c.in_ok-count-in-Map.rest.now c.in-Map.is c.in_ok-count-in-Map.ensures.ok)
+    (g.met.V.ValueVisitor.visited_none c.args.visitor.now))
+    c.pairs.ensures.err
+
+pub value_by-returns-in_err-count-in-Sequence-clause-err : goal.value_by-returns-in_err-count-in-Sequence-clause-err
+value_by-returns-in_err-count-in-Sequence-clause-err g t c =
+    failure_passed _ _ _ c.from_residual.result c.in_err-count-in-Sequence.field-0.0 (g.met.V.ValueVisitor.visited_none c.args.visitor.now) c.from_residual.ensures.1
+    (ap (λ d. definition_within c.args.left c.args.table.now d c.args.input.now) c.in-Sequence.is
+    ∙ ap (λ o. outcome_map dyn.List (and_then o (λ n rest. items_within c.args.left c.args.table.now c.in-Sequence.sequence.type_param n rest)))
+    c.in_err-count-in-Sequence.ensures.err)
+
+pub value_by-returns-in_err-count-in-Map-clause-err : goal.value_by-returns-in_err-count-in-Map-clause-err
+value_by-returns-in_err-count-in-Map-clause-err g t c =
+    failure_passed _ _ _ c.from_residual-in_err-count-in-Map.result c.in_err-count-in-Map.field-0.0 (g.met.V.ValueVisitor.visited_none c.args.visitor.now)
+    c.from_residual-in_err-count-in-Map.ensures.1
+    (ap (λ d. definition_within c.args.left c.args.table.now d c.args.input.now) c.in-Map.is
+    ∙ ap (λ o. outcome_map dyn.List (and_then o (λ n rest. pairs_within c.args.left c.args.table.now c.in-Map.map.key c.in-Map.map.value n rest)))
+    c.in_err-count-in-Map.ensures.err)
+
+pub value_by-returns-in-BitSequence-clause-err : goal.value_by-returns-in-BitSequence-clause-err
+value_by-returns-in-BitSequence-clause-err g t c =
+    fails_first _ (g.met.V.ValueVisitor.visited_none c.args.visitor.now) (ap (λ d. definition_within c.args.left c.args.table.now d c.args.input.now) c.in-BitSequence.is)
 
 pub variant-returns-in-None-clause-err : goal.variant-returns-in-None-clause-err
 variant-returns-in-None-clause-err g t c =
-    let none : find (λ v. v.index == c.in_ok-index.index) c.args.variants.now ≡ None = grind (arith, common_steps) in
-    variant_missing c.args.left c.args.table.now c.args.variants.now c.args.input.now c.in_ok-index.rest.now
-    c.in_ok-index.index c.in_ok-index.ensures.ok none
+    let none : find (λ v. v.index == c.in_ok-index.index) c.args.choice.now.variants ≡ None = grind (arith, common_steps) in
+    fails_first _ (g.met.V.ValueVisitor.visited_none c.args.visitor.now)
+    (variant_missing c.args.left c.args.table.now c.args.choice.now.variants c.args.input.now c.in_ok-index.rest.now c.in_ok-index.index c.in_ok-index.ensures.ok none)
+
+pub variant-returns-in-Some-clause-ok : goal.variant-returns-in-Some-clause-ok
+variant-returns-in-Some-clause-ok g t c =
+    let some : find (λ v. v.index == c.in_ok-index.index) c.args.choice.now.variants ≡ Some c.in-Some.variant.now =
+    grind (arith, common_steps) in
+    let v = c.in-Some.variant.now in
+    IfOk-weaker c.chosen.result _ _ (λ rest p. made_of (λ values. dyn.Variant v.name v.index values)
+    (variant_same c.args.left c.args.table.now c.args.choice.now v c.in_ok-index.rest.now
+    (found_itself c.in_ok-index.index c.args.choice.now.variants v some))
+    (variant_chosen c.args.left c.args.table.now c.args.choice.now.variants c.args.input.now c.in_ok-index.rest.now c.in_ok-index.index v c.in_ok-index.ensures.ok some) p)
+    c.chosen.ensures.ok
+
+pub variant-returns-in-Some-clause-err : goal.variant-returns-in-Some-clause-err
+variant-returns-in-Some-clause-err g t c =
+    let some : find (λ v. v.index == c.in_ok-index.index) c.args.choice.now.variants ≡ Some c.in-Some.variant.now =
+    grind (arith, common_steps) in
+    let v = c.in-Some.variant.now in
+    part_returned _ c.chosen.result g.met.V.ValueVisitor.visited_append g.met.V.ValueVisitor.stopped_later
+    (parts_next (λ values. dyn.Variant v.name v.index values)
+    (variant_same c.args.left c.args.table.now c.args.choice.now v c.in_ok-index.rest.now
+    (found_itself c.in_ok-index.index c.args.choice.now.variants v some))
+    (variant_chosen c.args.left c.args.table.now c.args.choice.now.variants c.args.input.now c.in_ok-index.rest.now c.in_ok-index.index v c.in_ok-index.ensures.ok some)
+    (g.met.V.ValueVisitor.visited_none c.args.visitor.now))
+    c.chosen.ensures.err
+
+pub variant-returns-in_err-index-clause-err : goal.variant-returns-in_err-index-clause-err
+variant-returns-in_err-index-clause-err g t c =
+    let variants = map (map_variant {G = Unit {0}} (part_within c.args.left c.args.table.now) (λ t. t)) c.args.choice.now.variants in
+    failure_passed _ _ _ c.from_residual.result c.in_err-index.field-0.0 (g.met.V.ValueVisitor.visited_none c.args.visitor.now) c.from_residual.ensures.1
+    (ap (λ o. and_then o (λ index rest. fields_of index (find (λ v. v.index == index) variants) rest)) c.in_err-index.ensures.err)
+
+pub record-returns-clause-ok : goal.record-returns-clause-ok
+record-returns-clause-ok g t c =
+    between (begin_record (names c.args.all.now)) (end_record (names c.args.all.now)) g.met.V.ValueVisitor.visited_append
+    (by_answer _ c.in_ok-shown.ensures.ok c.begin_record.ensures.ok)
+    (rw c.all_named.ensures at c.in_ok-rest.ensures.ok)
+    (by_answer _ c.in_ok-shown-2.ensures.ok c.end_record.ensures.ok)
+
+pub record-returns-in_err-shown-clause-err : goal.record-returns-in_err-shown-clause-err
+record-returns-in_err-shown-clause-err g t c =
+    refusal_passed _ c.from_residual.result c.in_err-shown.field-0.0 c.begin_record.result g.met.V.ValueVisitor.visited_append
+    g.met.V.ValueVisitor.stopped_later c.from_residual.ensures.1 (at_first (begin_record (names c.args.all.now)) (end_record (names c.args.all.now)) _ (g.met.V.ValueVisitor.visited_none c.args.visitor.now))
+    c.in_err-shown.ensures.err c.begin_record.ensures.err
+
+pub record-returns-in_err-rest-clause-err : goal.record-returns-in_err-rest-clause-err
+record-returns-in_err-rest-clause-err g t c =
+    part_passed _ c.from_residual-in_err-rest.result c.in_err-rest.field-0.0 g.met.V.ValueVisitor.visited_append
+    g.met.V.ValueVisitor.stopped_later c.from_residual-in_err-rest.ensures.1
+    (in_parts (begin_record (names c.args.all.now)) (end_record (names c.args.all.now)) _ (by_answer _ c.in_ok-shown.ensures.ok c.begin_record.ensures.ok))
+    (rw c.all_named.ensures at c.in_err-rest.ensures.err)
+
+pub record-returns-in_err-shown-2-clause-err : goal.record-returns-in_err-shown-2-clause-err
+record-returns-in_err-shown-2-clause-err g t c =
+    refusal_passed _ c.from_residual-in_err-shown-2.result c.in_err-shown-2.field-0.0 c.end_record.result g.met.V.ValueVisitor.visited_append
+    g.met.V.ValueVisitor.stopped_later c.from_residual-in_err-shown-2.ensures.1
+    (at_last (begin_record (names c.args.all.now)) (end_record (names c.args.all.now)) g.met.V.ValueVisitor.visited_append
+    (by_answer _ c.in_ok-shown.ensures.ok c.begin_record.ensures.ok) (rw c.all_named.ensures at c.in_ok-rest.ensures.ok))
+    c.in_err-shown-2.ensures.err c.end_record.ensures.err
+
+pub chosen-returns-clause-ok : goal.chosen-returns-clause-ok
+chosen-returns-clause-ok g t c =
+    between (begin_of c.args.variant.now) (end_of c.args.variant.now) g.met.V.ValueVisitor.visited_append
+    (by_answer _ c.in_ok-shown.ensures.ok c.begin_variant.ensures.ok)
+    (rw (c.all_named.ensures, c.as_slice-all.ensures) at c.in_ok-rest.ensures.ok)
+    (by_answer _ c.in_ok-shown-2.ensures.ok c.end_variant.ensures.ok)
+
+pub chosen-returns-in_err-shown-clause-err : goal.chosen-returns-in_err-shown-clause-err
+chosen-returns-in_err-shown-clause-err g t c =
+    refusal_passed _ c.from_residual.result c.in_err-shown.field-0.0 c.begin_variant.result g.met.V.ValueVisitor.visited_append
+    g.met.V.ValueVisitor.stopped_later c.from_residual.ensures.1 (at_first (begin_of c.args.variant.now) (end_of c.args.variant.now) _ (g.met.V.ValueVisitor.visited_none c.args.visitor.now))
+    c.in_err-shown.ensures.err c.begin_variant.ensures.err
+
+pub chosen-returns-in_err-rest-clause-err : goal.chosen-returns-in_err-rest-clause-err
+chosen-returns-in_err-rest-clause-err g t c =
+    part_passed _ c.from_residual-in_err-rest.result c.in_err-rest.field-0.0 g.met.V.ValueVisitor.visited_append
+    g.met.V.ValueVisitor.stopped_later c.from_residual-in_err-rest.ensures.1
+    (in_parts (begin_of c.args.variant.now) (end_of c.args.variant.now) _ (by_answer _ c.in_ok-shown.ensures.ok c.begin_variant.ensures.ok))
+    (rw (c.all_named.ensures, c.as_slice-all.ensures) at c.in_err-rest.ensures.err)
+
+pub chosen-returns-in_err-shown-2-clause-err : goal.chosen-returns-in_err-shown-2-clause-err
+chosen-returns-in_err-shown-2-clause-err g t c =
+    refusal_passed _ c.from_residual-in_err-shown-2.result c.in_err-shown-2.field-0.0 c.end_variant.result g.met.V.ValueVisitor.visited_append
+    g.met.V.ValueVisitor.stopped_later c.from_residual-in_err-shown-2.ensures.1
+    (at_last (begin_of c.args.variant.now) (end_of c.args.variant.now) g.met.V.ValueVisitor.visited_append
+    (by_answer _ c.in_ok-shown.ensures.ok c.begin_variant.ensures.ok) (rw (c.all_named.ensures, c.as_slice-all.ensures) at c.in_ok-rest.ensures.ok))
+    c.in_err-shown-2.ensures.err c.end_variant.ensures.err
+
+pub members-returns-clause-ok : goal.members-returns-clause-ok
+members-returns-clause-ok g t c =
+    between (begin_list (length c.args.types.now)) end_list g.met.V.ValueVisitor.visited_append
+    (by_answer _ c.in_ok-shown.ensures.ok c.begin_list.ensures.ok)
+    c.in_ok-rest.ensures.ok
+    (by_answer _ c.in_ok-shown-2.ensures.ok c.end_list.ensures.ok)
+
+pub members-returns-in_err-shown-clause-err : goal.members-returns-in_err-shown-clause-err
+members-returns-in_err-shown-clause-err g t c =
+    refusal_passed _ c.from_residual.result c.in_err-shown.field-0.0 c.begin_list.result g.met.V.ValueVisitor.visited_append
+    g.met.V.ValueVisitor.stopped_later c.from_residual.ensures.1 (at_first (begin_list (length c.args.types.now)) end_list _ (g.met.V.ValueVisitor.visited_none c.args.visitor.now))
+    c.in_err-shown.ensures.err c.begin_list.ensures.err
+
+pub members-returns-in_err-rest-clause-err : goal.members-returns-in_err-rest-clause-err
+members-returns-in_err-rest-clause-err g t c =
+    part_passed _ c.from_residual-in_err-rest.result c.in_err-rest.field-0.0 g.met.V.ValueVisitor.visited_append
+    g.met.V.ValueVisitor.stopped_later c.from_residual-in_err-rest.ensures.1
+    (in_parts (begin_list (length c.args.types.now)) end_list _ (by_answer _ c.in_ok-shown.ensures.ok c.begin_list.ensures.ok))
+    c.in_err-rest.ensures.err
+
+pub members-returns-in_err-shown-2-clause-err : goal.members-returns-in_err-shown-2-clause-err
+members-returns-in_err-shown-2-clause-err g t c =
+    refusal_passed _ c.from_residual-in_err-shown-2.result c.in_err-shown-2.field-0.0 c.end_list.result g.met.V.ValueVisitor.visited_append
+    g.met.V.ValueVisitor.stopped_later c.from_residual-in_err-shown-2.ensures.1
+    (at_last (begin_list (length c.args.types.now)) end_list g.met.V.ValueVisitor.visited_append
+    (by_answer _ c.in_ok-shown.ensures.ok c.begin_list.ensures.ok) c.in_ok-rest.ensures.ok)
+    c.in_err-shown-2.ensures.err c.end_list.ensures.err
+
+pub pairs-returns-clause-ok : goal.pairs-returns-clause-ok
+pairs-returns-clause-ok g t c =
+    between (begin_list c.args.count) end_list g.met.V.ValueVisitor.visited_append
+    (by_answer _ c.in_ok-shown.ensures.ok c.begin_list.ensures.ok)
+    c.in_ok-rest.ensures.ok
+    (by_answer _ c.in_ok-shown-2.ensures.ok c.end_list.ensures.ok)
+
+pub pairs-returns-in_err-shown-clause-err : goal.pairs-returns-in_err-shown-clause-err
+pairs-returns-in_err-shown-clause-err g t c =
+    refusal_passed _ c.from_residual.result c.in_err-shown.field-0.0 c.begin_list.result g.met.V.ValueVisitor.visited_append
+    g.met.V.ValueVisitor.stopped_later c.from_residual.ensures.1 (at_first (begin_list c.args.count) end_list _ (g.met.V.ValueVisitor.visited_none c.args.visitor.now))
+    c.in_err-shown.ensures.err c.begin_list.ensures.err
+
+pub pairs-returns-in_err-rest-clause-err : goal.pairs-returns-in_err-rest-clause-err
+pairs-returns-in_err-rest-clause-err g t c =
+    part_passed _ c.from_residual-in_err-rest.result c.in_err-rest.field-0.0 g.met.V.ValueVisitor.visited_append
+    g.met.V.ValueVisitor.stopped_later c.from_residual-in_err-rest.ensures.1
+    (in_parts (begin_list c.args.count) end_list _ (by_answer _ c.in_ok-shown.ensures.ok c.begin_list.ensures.ok))
+    c.in_err-rest.ensures.err
+
+pub pairs-returns-in_err-shown-2-clause-err : goal.pairs-returns-in_err-shown-2-clause-err
+pairs-returns-in_err-shown-2-clause-err g t c =
+    refusal_passed _ c.from_residual-in_err-shown-2.result c.in_err-shown-2.field-0.0 c.end_list.result g.met.V.ValueVisitor.visited_append
+    g.met.V.ValueVisitor.stopped_later c.from_residual-in_err-shown-2.ensures.1
+    (at_last (begin_list c.args.count) end_list g.met.V.ValueVisitor.visited_append
+    (by_answer _ c.in_ok-shown.ensures.ok c.begin_list.ensures.ok) c.in_ok-rest.ensures.ok)
+    c.in_err-shown-2.ensures.err c.end_list.ensures.err
+
+pub list_of_items-returns-clause-ok : goal.list_of_items-returns-clause-ok
+list_of_items-returns-clause-ok g t c =
+    between (begin_list c.args.count) end_list g.met.V.ValueVisitor.visited_append
+    (by_answer _ c.in_ok-shown.ensures.ok c.begin_list.ensures.ok)
+    c.in_ok-rest.ensures.ok
+    (by_answer _ c.in_ok-shown-2.ensures.ok c.end_list.ensures.ok)
+
+pub list_of_items-returns-in_err-shown-clause-err : goal.list_of_items-returns-in_err-shown-clause-err
+list_of_items-returns-in_err-shown-clause-err g t c =
+    refusal_passed _ c.from_residual.result c.in_err-shown.field-0.0 c.begin_list.result g.met.V.ValueVisitor.visited_append
+    g.met.V.ValueVisitor.stopped_later c.from_residual.ensures.1 (at_first (begin_list c.args.count) end_list _ (g.met.V.ValueVisitor.visited_none c.args.visitor.now))
+    c.in_err-shown.ensures.err c.begin_list.ensures.err
+
+pub list_of_items-returns-in_err-rest-clause-err : goal.list_of_items-returns-in_err-rest-clause-err
+list_of_items-returns-in_err-rest-clause-err g t c =
+    part_passed _ c.from_residual-in_err-rest.result c.in_err-rest.field-0.0 g.met.V.ValueVisitor.visited_append
+    g.met.V.ValueVisitor.stopped_later c.from_residual-in_err-rest.ensures.1
+    (in_parts (begin_list c.args.count) end_list _ (by_answer _ c.in_ok-shown.ensures.ok c.begin_list.ensures.ok))
+    c.in_err-rest.ensures.err
+
+pub list_of_items-returns-in_err-shown-2-clause-err : goal.list_of_items-returns-in_err-shown-2-clause-err
+list_of_items-returns-in_err-shown-2-clause-err g t c =
+    refusal_passed _ c.from_residual-in_err-shown-2.result c.in_err-shown-2.field-0.0 c.end_list.result g.met.V.ValueVisitor.visited_append
+    g.met.V.ValueVisitor.stopped_later c.from_residual-in_err-shown-2.ensures.1
+    (at_last (begin_list c.args.count) end_list g.met.V.ValueVisitor.visited_append
+    (by_answer _ c.in_ok-shown.ensures.ok c.begin_list.ensures.ok) c.in_ok-rest.ensures.ok)
+    c.in_err-shown-2.ensures.err c.end_list.ensures.err
+
+pub pair-returns-clause-ok : goal.pair-returns-clause-ok
+pair-returns-clause-ok g t c =
+    between (begin_list 2) end_list g.met.V.ValueVisitor.visited_append
+    (by_answer _ c.in_ok-shown.ensures.ok c.begin_list.ensures.ok)
+    c.in_ok-rest.ensures.ok
+    (by_answer _ c.in_ok-shown-2.ensures.ok c.end_list.ensures.ok)
+
+pub pair-returns-in_err-shown-clause-err : goal.pair-returns-in_err-shown-clause-err
+pair-returns-in_err-shown-clause-err g t c =
+    refusal_passed _ c.from_residual.result c.in_err-shown.field-0.0 c.begin_list.result g.met.V.ValueVisitor.visited_append
+    g.met.V.ValueVisitor.stopped_later c.from_residual.ensures.1 (at_first (begin_list 2) end_list _ (g.met.V.ValueVisitor.visited_none c.args.visitor.now))
+    c.in_err-shown.ensures.err c.begin_list.ensures.err
+
+pub pair-returns-in_err-rest-clause-err : goal.pair-returns-in_err-rest-clause-err
+pair-returns-in_err-rest-clause-err g t c =
+    part_passed _ c.from_residual-in_err-rest.result c.in_err-rest.field-0.0 g.met.V.ValueVisitor.visited_append
+    g.met.V.ValueVisitor.stopped_later c.from_residual-in_err-rest.ensures.1
+    (in_parts (begin_list 2) end_list _ (by_answer _ c.in_ok-shown.ensures.ok c.begin_list.ensures.ok))
+    c.in_err-rest.ensures.err
+
+pub pair-returns-in_err-shown-2-clause-err : goal.pair-returns-in_err-shown-2-clause-err
+pair-returns-in_err-shown-2-clause-err g t c =
+    refusal_passed _ c.from_residual-in_err-shown-2.result c.in_err-shown-2.field-0.0 c.end_list.result g.met.V.ValueVisitor.visited_append
+    g.met.V.ValueVisitor.stopped_later c.from_residual-in_err-shown-2.ensures.1
+    (at_last (begin_list 2) end_list g.met.V.ValueVisitor.visited_append
+    (by_answer _ c.in_ok-shown.ensures.ok c.begin_list.ensures.ok) c.in_ok-rest.ensures.ok)
+    c.in_err-shown-2.ensures.err c.end_list.ensures.err
 
 pub items-loop-preserved : goal.items-loop-preserved
 items-loop-preserved g t c =
     let read = definition_within c.args.left c.args.table.now c.args.definition.now in
     let more = replicate (c.args.count - (c.loop.counter + 1)) read in
     goes_on read more c.loop.rest.now c.in_ok-rest.rest.now g.met.V.ValueVisitor.visited_append
+    (adds_placed (value_by c.args.table.now) (replicate c.args.count (Some c.args.definition.now)) (replicate (c.args.count - (c.loop.counter + 1)) (Some c.args.definition.now)) (Some c.args.definition.now) c.loop.counter
+    (drop_replicate c.args.count c.loop.counter (Some c.args.definition.now) c.loop-test.true))
     (subst (λ ds.
-    IsVisiting g.V.ValueVisitor.visited events_of (in_turn (replicate c.args.count read) c.args.input.now)
+    IsVisiting g.V.ValueVisitor.visited (items_by c.args.table.now (Some c.args.definition.now) c.args.count) c.loop.counter (in_turn (replicate c.args.count read) c.args.input.now)
     (in_turn ds c.loop.rest.now) c.args.visitor.now c.loop.visitor)
     (take_next c.args.count c.loop.counter read c.loop-test.true) c.loop.invariant)
-    c.in_ok-rest.ensures.ok
-
-pub each_pair-loop-preserved : goal.each_pair-loop-preserved
-each_pair-loop-preserved g t c =
-    let read = pair_within c.args.left c.args.table.now c.args.key.now c.args.value.now in
-    let more = replicate (c.args.count - (c.loop.counter + 1)) read in
-    goes_on read more c.loop.rest.now c.in_ok-rest.rest.now g.met.V.ValueVisitor.visited_append
-    (subst (λ ds.
-    IsVisiting g.V.ValueVisitor.visited events_of (in_turn (replicate c.args.count read) c.args.input.now)
-    (in_turn ds c.loop.rest.now) c.args.visitor.now c.loop.visitor)
-    (take_next c.args.count c.loop.counter read c.loop-test.true) c.loop.invariant)
-    c.in_ok-rest.ensures.ok
-
-pub each_member-loop-ty-preserved : goal.each_member-loop-ty-preserved
-each_member-loop-ty-preserved g t c =
-    let part = part_within c.args.left c.args.table.now in
-    let readers : List Id → List (Decoder Dyn) = λ ids. map (λ p. p.value) (map part ids) in
-    goes_on (part c.ty-item.result).value (readers (drop (c.loop-ty.ty-index + 1) c.args.types.now)) c.loop-ty.rest.now
-    c.in_ok-rest.rest.now g.met.V.ValueVisitor.visited_append
-    (subst (λ ids.
-    IsVisiting g.V.ValueVisitor.visited events_of (in_turn (readers c.args.types.now) c.args.input.now)
-    (in_turn (readers ids) c.loop-ty.rest.now) c.args.visitor.now c.loop-ty.visitor)
-    (first_of c.args.types.now c.loop-ty.ty-index c.ty-item.result c.loop-ty-test.true c.ty-item.is) c.loop-ty.invariant)
-    c.in_ok-rest.ensures.ok
-
-pub fields-loop-next-preserved : goal.fields-loop-next-preserved
-fields-loop-next-preserved g t c =
-    let part = part_within c.args.left c.args.table.now in
-    let readers : List Field → List (Decoder (Option Text × Dyn)) = λ fs. map field (map (map_field {G = Unit {0}} part (λ t. t)) fs) in
-    goes_on (field_within c.args.left c.args.table.now c.next-item.result)
-    (readers (drop (c.loop-next.next-index + 1) c.args.all.now)) c.loop-next.rest.now
-    c.in_ok-rest.rest.now g.met.V.ValueVisitor.visited_append
-    (subst (λ fs.
-    IsVisiting g.V.ValueVisitor.visited field_events (in_turn (readers c.args.all.now) c.args.input.now)
-    (in_turn (readers fs) c.loop-next.rest.now) c.args.visitor.now c.loop-next.visitor)
-    (first_of c.args.all.now c.loop-next.next-index c.next-item.result c.loop-next-test.true c.next-item.is)
-    c.loop-next.invariant)
     c.in_ok-rest.ensures.ok
 
 pub items-returns-in_err-rest-clause-err : goal.items-returns-in_err-rest-clause-err
 items-returns-in_err-rest-clause-err g t c =
     let read = definition_within c.args.left c.args.table.now c.args.definition.now in
     let more = replicate (c.args.count - (c.loop.counter + 1)) read in
-    passed_on c.from_residual.result c.in_err-rest.field-0.0 _ c.from_residual.ensures.1
-    (next_fails read more c.loop.rest.now g.met.V.ValueVisitor.stops_later
+    part_passed _ c.from_residual.result c.in_err-rest.field-0.0 g.met.V.ValueVisitor.visited_append
+    g.met.V.ValueVisitor.stopped_later c.from_residual.ensures.1
+    (next_part read more c.loop.rest.now
+    (adds_placed (value_by c.args.table.now) (replicate c.args.count (Some c.args.definition.now)) (replicate (c.args.count - (c.loop.counter + 1)) (Some c.args.definition.now)) (Some c.args.definition.now) c.loop.counter
+    (drop_replicate c.args.count c.loop.counter (Some c.args.definition.now) c.loop-test.true))
     (subst (λ ds.
-    IsVisiting g.V.ValueVisitor.visited events_of (in_turn (replicate c.args.count read) c.args.input.now)
+    IsVisiting g.V.ValueVisitor.visited (items_by c.args.table.now (Some c.args.definition.now) c.args.count) c.loop.counter (in_turn (replicate c.args.count read) c.args.input.now)
+    (in_turn ds c.loop.rest.now) c.args.visitor.now c.loop.visitor)
+    (take_next c.args.count c.loop.counter read c.loop-test.true) c.loop.invariant))
+    c.in_err-rest.ensures.err
+
+pub each_pair-loop-preserved : goal.each_pair-loop-preserved
+each_pair-loop-preserved g t c =
+    let kv = key_then_value c.args.left c.args.table.now c.args.key.now c.args.value.now in
+    let read = pair_within c.args.left c.args.table.now c.args.key.now c.args.value.now in
+    let more = replicate (c.args.count - (c.loop.counter + 1)) read in
+    goes_on read more c.loop.rest.now c.in_ok-rest.rest.now g.met.V.ValueVisitor.visited_append
+    (adds_placed (value_by c.args.table.now) (replicate c.args.count (Some (pair_of c.args.key.now c.args.value.now))) (replicate (c.args.count - (c.loop.counter + 1)) (Some (pair_of c.args.key.now c.args.value.now))) (Some (pair_of c.args.key.now c.args.value.now)) c.loop.counter
+    (drop_replicate c.args.count c.loop.counter (Some (pair_of c.args.key.now c.args.value.now)) c.loop-test.true))
+    (subst (λ ds.
+    IsVisiting g.V.ValueVisitor.visited (items_by c.args.table.now (Some (pair_of c.args.key.now c.args.value.now)) c.args.count) c.loop.counter (in_turn (replicate c.args.count read) c.args.input.now)
     (in_turn ds c.loop.rest.now) c.args.visitor.now c.loop.visitor)
     (take_next c.args.count c.loop.counter read c.loop-test.true) c.loop.invariant)
-    c.in_err-rest.field-0.0 c.in_err-rest.ensures.err)
+    (made_of dyn.List
+    (λ vs rest e. tuple_same c.args.table.now (pair_of c.args.key.now c.args.value.now) _ (c.args.key.now ∷ c.args.value.now ∷ []) vs refl refl
+    (as_many kv c.loop.rest.now vs rest e)) refl c.in_ok-rest.ensures.ok)
 
 pub each_pair-returns-in_err-rest-clause-err : goal.each_pair-returns-in_err-rest-clause-err
 each_pair-returns-in_err-rest-clause-err g t c =
+    let kv = key_then_value c.args.left c.args.table.now c.args.key.now c.args.value.now in
     let read = pair_within c.args.left c.args.table.now c.args.key.now c.args.value.now in
     let more = replicate (c.args.count - (c.loop.counter + 1)) read in
-    passed_on c.from_residual.result c.in_err-rest.field-0.0 _ c.from_residual.ensures.1
-    (next_fails read more c.loop.rest.now g.met.V.ValueVisitor.stops_later
+    part_passed _ c.from_residual.result c.in_err-rest.field-0.0 g.met.V.ValueVisitor.visited_append
+    g.met.V.ValueVisitor.stopped_later c.from_residual.ensures.1
+    (next_part read more c.loop.rest.now
+    (adds_placed (value_by c.args.table.now) (replicate c.args.count (Some (pair_of c.args.key.now c.args.value.now))) (replicate (c.args.count - (c.loop.counter + 1)) (Some (pair_of c.args.key.now c.args.value.now))) (Some (pair_of c.args.key.now c.args.value.now)) c.loop.counter
+    (drop_replicate c.args.count c.loop.counter (Some (pair_of c.args.key.now c.args.value.now)) c.loop-test.true))
     (subst (λ ds.
-    IsVisiting g.V.ValueVisitor.visited events_of (in_turn (replicate c.args.count read) c.args.input.now)
+    IsVisiting g.V.ValueVisitor.visited (items_by c.args.table.now (Some (pair_of c.args.key.now c.args.value.now)) c.args.count) c.loop.counter (in_turn (replicate c.args.count read) c.args.input.now)
     (in_turn ds c.loop.rest.now) c.args.visitor.now c.loop.visitor)
-    (take_next c.args.count c.loop.counter read c.loop-test.true) c.loop.invariant)
+    (take_next c.args.count c.loop.counter read c.loop-test.true) c.loop.invariant))
+    (part_fails _ g.met.V.ValueVisitor.visited_append g.met.V.ValueVisitor.stopped_later
+    (parts_next dyn.List
+    (λ vs rest e. tuple_same c.args.table.now (pair_of c.args.key.now c.args.value.now) _ (c.args.key.now ∷ c.args.value.now ∷ []) vs refl refl
+    (as_many kv c.loop.rest.now vs rest e)) refl (g.met.V.ValueVisitor.visited_none c.loop.visitor))
     c.in_err-rest.field-0.0 c.in_err-rest.ensures.err)
 
-pub record-returns-clause-ok : goal.record-returns-clause-ok
-record-returns-clause-ok g t c =
-    record_shown c.args.left c.args.table.now c.args.all.now c.args.input.now g.met.V.ValueVisitor.visited_append
-    (by_answer _ c.in_ok-shown.ensures.ok c.begin_record.ensures.ok) c.in_ok-rest.ensures.ok
-    (by_answer _ c.in_ok-shown-2.ensures.ok c.end_record.ensures.ok)
-
-pub members-returns-clause-ok : goal.members-returns-clause-ok
-members-returns-clause-ok g t c =
+pub each_member-loop-ty-preserved : goal.each_member-loop-ty-preserved
+each_member-loop-ty-preserved g t c =
     let part = part_within c.args.left c.args.table.now in
-    let parts = map part c.args.types.now in
-    let readers : List (Decoder Dyn) = map (λ p. p.value) parts in
-    list_shown (length c.args.types.now) g.met.V.ValueVisitor.visited_append
-    (λ vs e. as_many readers c.args.input.now vs c.in_ok-rest.rest.now e ∙ length-map parts (λ p. p.value) ∙ length-map c.args.types.now part)
-    (by_answer _ c.in_ok-shown.ensures.ok c.begin_list.ensures.ok) c.in_ok-rest.ensures.ok
-    (by_answer _ c.in_ok-shown-2.ensures.ok c.end_list.ensures.ok)
+    let readers : List Id → List (Decoder Dyn) = λ ids. map (λ p. p.value) (map part ids) in
+    let types : List Id → List (Option TypeDef) = λ ids. map (λ t. definition_at c.args.table.now t.id) ids in
+    let next = first_of c.args.types.now c.loop-ty.ty-index c.ty-item.result c.loop-ty-test.true c.ty-item.is in
+    let others = drop (c.loop-ty.ty-index + 1) c.args.types.now in
+    goes_on (part c.ty-item.result).value (readers others) c.loop-ty.rest.now c.in_ok-rest.rest.now g.met.V.ValueVisitor.visited_append
+    (adds_placed (value_by c.args.table.now) (types c.args.types.now) (types others) (definition_at c.args.table.now c.ty-item.result.id) c.loop-ty.ty-index
+    (drop-map (λ t. definition_at c.args.table.now t.id) c.loop-ty.ty-index c.args.types.now ∙ ap types next))
+    (subst (λ ids.
+    IsVisiting g.V.ValueVisitor.visited (members_by c.args.table.now c.args.types.now) c.loop-ty.ty-index (in_turn (readers c.args.types.now) c.args.input.now)
+    (in_turn (readers ids) c.loop-ty.rest.now) c.args.visitor.now c.loop-ty.visitor) next c.loop-ty.invariant)
+    c.in_ok-rest.ensures.ok
 
-pub pairs-returns-clause-ok : goal.pairs-returns-clause-ok
-pairs-returns-clause-ok g t c =
-    let read = pair_within c.args.left c.args.table.now c.args.key.now c.args.value.now in
-    list_shown c.args.count g.met.V.ValueVisitor.visited_append
-    (λ vs e. so_many c.args.count read c.args.input.now vs c.in_ok-rest.rest.now e)
-    (by_answer _ c.in_ok-shown.ensures.ok c.begin_list.ensures.ok) c.in_ok-rest.ensures.ok
-    (by_answer _ c.in_ok-shown-2.ensures.ok c.end_list.ensures.ok)
+pub each_member-returns-in_err-rest-clause-err : goal.each_member-returns-in_err-rest-clause-err
+each_member-returns-in_err-rest-clause-err g t c =
+    let part = part_within c.args.left c.args.table.now in
+    let readers : List Id → List (Decoder Dyn) = λ ids. map (λ p. p.value) (map part ids) in
+    let types : List Id → List (Option TypeDef) = λ ids. map (λ t. definition_at c.args.table.now t.id) ids in
+    let next = first_of c.args.types.now c.loop-ty.ty-index c.ty-item.result c.loop-ty-test.true c.ty-item.is in
+    let others = drop (c.loop-ty.ty-index + 1) c.args.types.now in
+    part_passed _ c.from_residual.result c.in_err-rest.field-0.0 g.met.V.ValueVisitor.visited_append
+    g.met.V.ValueVisitor.stopped_later c.from_residual.ensures.1
+    (next_part (part c.ty-item.result).value (readers others) c.loop-ty.rest.now
+    (adds_placed (value_by c.args.table.now) (types c.args.types.now) (types others) (definition_at c.args.table.now c.ty-item.result.id) c.loop-ty.ty-index
+    (drop-map (λ t. definition_at c.args.table.now t.id) c.loop-ty.ty-index c.args.types.now ∙ ap types next))
+    (subst (λ ids.
+    IsVisiting g.V.ValueVisitor.visited (members_by c.args.table.now c.args.types.now) c.loop-ty.ty-index (in_turn (readers c.args.types.now) c.args.input.now)
+    (in_turn (readers ids) c.loop-ty.rest.now) c.args.visitor.now c.loop-ty.visitor) next c.loop-ty.invariant))
+    c.in_err-rest.ensures.err
 
-pub list_by-returns-clause-ok : goal.list_by-returns-clause-ok
-list_by-returns-clause-ok g t c =
-    let read = definition_within c.args.left c.args.table.now c.args.definition.now in
-    list_shown c.args.count g.met.V.ValueVisitor.visited_append
-    (λ vs e. so_many c.args.count read c.args.input.now vs c.in_ok-rest.rest.now e)
-    (by_answer _ c.in_ok-shown.ensures.ok c.begin_list.ensures.ok) c.in_ok-rest.ensures.ok
-    (by_answer _ c.in_ok-shown-2.ensures.ok c.end_list.ensures.ok)
+pub fields-loop-next-preserved : goal.fields-loop-next-preserved
+fields-loop-next-preserved g t c =
+    let part = part_within c.args.left c.args.table.now in
+    let readers : List Field → List (Decoder (Option Text × Dyn)) = λ fs. map field (map (map_field {G = Unit {0}} part (λ t. t)) fs) in
+    let next = first_of c.args.all.now c.loop-next.next-index c.next-item.result c.loop-next-test.true c.next-item.is in
+    let others = drop (c.loop-next.next-index + 1) c.args.all.now in
+    goes_on (field_within c.args.left c.args.table.now c.next-item.result) (readers others) c.loop-next.rest.now c.in_ok-rest.rest.now g.met.V.ValueVisitor.visited_append
+    (adds_placed (field_by c.args.table.now c.args.named) (field_types c.args.table.now c.args.all.now) (field_types c.args.table.now others) (definition_at c.args.table.now c.next-item.result.ty.id)
+    c.loop-next.next-index
+    (drop-map (λ f. definition_at c.args.table.now f.ty.id) c.loop-next.next-index c.args.all.now ∙ ap (field_types c.args.table.now) next))
+    (subst (λ fs.
+    IsVisiting g.V.ValueVisitor.visited (fields_by c.args.table.now c.args.named c.args.all.now) c.loop-next.next-index (in_turn (readers c.args.all.now) c.args.input.now)
+    (in_turn (readers fs) c.loop-next.rest.now) c.args.visitor.now c.loop-next.visitor) next c.loop-next.invariant)
+    c.in_ok-rest.ensures.ok
 
-pub pair-returns-clause-ok : goal.pair-returns-clause-ok
-pair-returns-clause-ok g t c =
-    let readers = key_then_value c.args.left c.args.table.now c.args.key.now c.args.value.now in
-    list_shown 2 g.met.V.ValueVisitor.visited_append
-    (λ vs e. as_many readers c.args.input.now vs c.in_ok-rest.rest.now e)
-    (by_answer _ c.in_ok-shown.ensures.ok c.begin_list.ensures.ok) c.in_ok-rest.ensures.ok
-    (by_answer _ c.in_ok-shown-2.ensures.ok c.end_list.ensures.ok)
+pub fields-returns-in_err-rest-clause-err : goal.fields-returns-in_err-rest-clause-err
+fields-returns-in_err-rest-clause-err g t c =
+    let part = part_within c.args.left c.args.table.now in
+    let readers : List Field → List (Decoder (Option Text × Dyn)) = λ fs. map field (map (map_field {G = Unit {0}} part (λ t. t)) fs) in
+    let next = first_of c.args.all.now c.loop-next.next-index c.next-item.result c.loop-next-test.true c.next-item.is in
+    let others = drop (c.loop-next.next-index + 1) c.args.all.now in
+    part_passed _ c.from_residual.result c.in_err-rest.field-0.0 g.met.V.ValueVisitor.visited_append
+    g.met.V.ValueVisitor.stopped_later c.from_residual.ensures.1
+    (next_part (field_within c.args.left c.args.table.now c.next-item.result) (readers others) c.loop-next.rest.now
+    (adds_placed (field_by c.args.table.now c.args.named) (field_types c.args.table.now c.args.all.now) (field_types c.args.table.now others) (definition_at c.args.table.now c.next-item.result.ty.id)
+    c.loop-next.next-index
+    (drop-map (λ f. definition_at c.args.table.now f.ty.id) c.loop-next.next-index c.args.all.now ∙ ap (field_types c.args.table.now) next))
+    (subst (λ fs.
+    IsVisiting g.V.ValueVisitor.visited (fields_by c.args.table.now c.args.named c.args.all.now) c.loop-next.next-index (in_turn (readers c.args.all.now) c.args.input.now)
+    (in_turn (readers fs) c.loop-next.rest.now) c.args.visitor.now c.loop-next.visitor) next c.loop-next.invariant))
+    c.in_err-rest.ensures.err
 
-pub list-returns-then-count-eq0-clause-ok : goal.list-returns-then-count-eq0-clause-ok
-list-returns-then-count-eq0-clause-ok g t c =
-    rw c.if-count-eq0.true
-    (list_shown 0 g.met.V.ValueVisitor.visited_append (λ vs e. as_many [] c.args.input.now vs c.args.input.now e)
-    (by_answer _ c.in_ok-shown.ensures.ok c.begin_list.ensures.ok)
-    (record { value = []; read = refl; visited = g.met.V.ValueVisitor.visited_none c.begin_list.new.self })
-    (by_answer _ c.in_ok-shown-2.ensures.ok c.end_list.ensures.ok))
+pub items-returns-in-Primitive-clause-ok : goal.items-returns-in-Primitive-clause-ok
+items-returns-in-Primitive-clause-ok g t c =
+    rw (primitives_are c.args.left c.args.table.now c.args.definition.now c.in-Primitive.kind c.args.count c.args.input.now c.in-Primitive.is)
+    (IfOk-weaker c.primitives.result _ _ (λ rest p. shown_as (λ vs rest e. places_alone c.args.table.now (replicate c.args.count (Some c.args.definition.now)) c.args.count c.in-Primitive.kind c.args.input.now vs rest e) p) c.primitives.ensures.ok)
 
-pub variant-returns-in_err-rest-in-Some-clause-err : goal.variant-returns-in_err-rest-in-Some-clause-err
-variant-returns-in_err-rest-in-Some-clause-err g t c =
-    let some : find (λ v. v.index == c.in_ok-index.index) c.args.variants.now ≡ Some c.in-Some.variant.now =
-    grind (arith, common_steps) in
-    passed_on c.from_residual-in_err-rest-in-Some.result c.in_err-rest-in-Some.field-0.0 _
-    c.from_residual-in_err-rest-in-Some.ensures.1
-    (part_fails g.met.V.ValueVisitor.stops_later (by_answer _ c.in_ok-shown-in-Some.ensures.ok c.begin_variant.ensures.ok)
-    (λ why e.
-    variant_found c.args.left c.args.table.now c.args.variants.now c.args.input.now c.in_ok-index.rest.now
-    c.in_ok-index.index c.in-Some.variant.now c.as_slice.result.now c.in_ok-index.ensures.ok some c.as_slice.ensures
-    ∙ ap (λ o. outcome_map (λ values. dyn.Variant c.in-Some.variant.now.name c.in_ok-index.index values) o) e)
-    c.in_err-rest-in-Some.field-0.0 c.in_err-rest-in-Some.ensures.err)
+pub items-returns-in-Primitive-clause-err : goal.items-returns-in-Primitive-clause-err
+items-returns-in-Primitive-clause-err g t c =
+    rw (primitives_are c.args.left c.args.table.now c.args.definition.now c.in-Primitive.kind c.args.count c.args.input.now c.in-Primitive.is)
+    (part_returned _ c.primitives.result g.met.V.ValueVisitor.visited_append g.met.V.ValueVisitor.stopped_later
+    (next_as (λ vs rest e. places_alone c.args.table.now (replicate c.args.count (Some c.args.definition.now)) c.args.count c.in-Primitive.kind c.args.input.now vs rest e) (g.met.V.ValueVisitor.visited_none c.args.visitor.now)) c.primitives.ensures.err)
 
-pub variant-returns-in_ok-shown-in-Some-2-clause-ok : goal.variant-returns-in_ok-shown-in-Some-2-clause-ok
-variant-returns-in_ok-shown-in-Some-2-clause-ok g t c =
-    let some : find (λ v. v.index == c.in_ok-index.index) c.args.variants.now ≡ Some c.in-Some.variant.now =
-    grind (arith, common_steps) in
-    let same = found_index c.in_ok-index.index c.args.variants.now c.in-Some.variant.now some in
-    subst (λ o. HasVisited g.V.ValueVisitor.visited events_of o c.in_ok-rest-in-Some.rest.now c.args.visitor.now c.end_variant.new.self)
-    (sym (variant_found c.args.left c.args.table.now c.args.variants.now c.args.input.now c.in_ok-index.rest.now
-    c.in_ok-index.index c.in-Some.variant.now c.as_slice.result.now c.in_ok-index.ensures.ok some c.as_slice.ensures))
-    (variant_shown c.args.left c.args.table.now c.in-Some.variant.now c.in_ok-index.index c.as_slice.result.now
-    c.in_ok-index.rest.now same c.as_slice.ensures g.met.V.ValueVisitor.visited_append
-    (by_answer _ c.in_ok-shown-in-Some.ensures.ok c.begin_variant.ensures.ok) c.in_ok-rest-in-Some.ensures.ok
-    (by_answer _ c.in_ok-shown-in-Some-2.ensures.ok c.end_variant.ensures.ok))
+pub field-returns-in_err-shown-clause-err : goal.field-returns-in_err-shown-clause-err
+field-returns-in_err-shown-clause-err g t c =
+    refusal_passed _ c.from_residual.result c.in_err-shown.field-0.0 c.field.result g.met.V.ValueVisitor.visited_append
+    g.met.V.ValueVisitor.stopped_later c.from_residual.ensures.1
+    (at_name c.args.left c.args.table.now c.args.next.now c.args.named c.args.input.now (g.met.V.ValueVisitor.visited_none c.args.visitor.now))
+    c.in_err-shown.ensures.err c.field.ensures.err
 
 pub field-returns-clause-ok : goal.field-returns-clause-ok
 field-returns-clause-ok g t c =
     IfOk-weaker c.value_within.result _ _
-    (λ rest p. field_shown c.args.left c.args.table.now c.args.next.now c.args.input.now rest.now
-    g.met.V.ValueVisitor.visited_append (by_answer _ c.in_ok-shown.ensures.ok c.field.ensures.ok) p)
+    (λ rest p. field_shown c.args.left c.args.table.now c.args.next.now c.args.named c.args.input.now rest.now g.met.V.ValueVisitor.visited_append (by_answer _ c.in_ok-shown.ensures.ok c.field.ensures.ok) p)
     c.value_within.ensures.ok
+
+pub field-returns-clause-err : goal.field-returns-clause-err
+field-returns-clause-err g t c =
+    part_returned _ c.value_within.result g.met.V.ValueVisitor.visited_append g.met.V.ValueVisitor.stopped_later
+    (in_field c.args.left c.args.table.now c.args.next.now c.args.named c.args.input.now (by_answer _ c.in_ok-shown.ensures.ok c.field.ensures.ok))
+    c.value_within.ensures.err
+
+pub key_and_value-returns-clause-ok : goal.key_and_value-returns-clause-ok
+key_and_value-returns-clause-ok g t c =
+    let inner : c.saturating_sub-inner.result ≡ c.args.left - 2 = omega arith in
+    let key = (part_within c.args.left c.args.table.now c.args.key.now).inner in
+    let value = (part_within c.args.left c.args.table.now c.args.value.now).inner in
+    let types : List (Option TypeDef) = definition_at c.args.table.now c.args.key.now.id ∷ definition_at c.args.table.now c.args.value.now.id ∷ [] in
+    IfOk-weaker c.value_within-2.result _ _
+    (λ rest p. ends rest.now (goes_on value [] c.in_ok-rest.rest.now rest.now g.met.V.ValueVisitor.visited_append (adds_placed (value_by c.args.table.now) types [] (definition_at c.args.table.now c.args.value.now.id) 1 refl)
+    (goes_on key (value ∷ []) c.args.input.now c.in_ok-rest.rest.now g.met.V.ValueVisitor.visited_append (adds_placed (value_by c.args.table.now) types (definition_at c.args.table.now c.args.value.now.id ∷ []) (definition_at c.args.table.now c.args.key.now.id) 0 refl) (begins refl (g.met.V.ValueVisitor.visited_none c.args.visitor.now)) (rw inner at c.in_ok-rest.ensures.ok)) p))
+    (rw inner at c.value_within-2.ensures.ok)
+
+pub key_and_value-returns-in_err-rest-clause-err : goal.key_and_value-returns-in_err-rest-clause-err
+key_and_value-returns-in_err-rest-clause-err g t c =
+    let inner : c.saturating_sub-inner.result ≡ c.args.left - 2 = omega arith in
+    let key = (part_within c.args.left c.args.table.now c.args.key.now).inner in
+    let value = (part_within c.args.left c.args.table.now c.args.value.now).inner in
+    let types : List (Option TypeDef) = definition_at c.args.table.now c.args.key.now.id ∷ definition_at c.args.table.now c.args.value.now.id ∷ [] in
+    part_passed _ c.from_residual.result c.in_err-rest.field-0.0 g.met.V.ValueVisitor.visited_append
+    g.met.V.ValueVisitor.stopped_later c.from_residual.ensures.1
+    (next_part key (value ∷ []) c.args.input.now (adds_placed (value_by c.args.table.now) types (definition_at c.args.table.now c.args.value.now.id ∷ []) (definition_at c.args.table.now c.args.key.now.id) 0 refl) (begins refl (g.met.V.ValueVisitor.visited_none c.args.visitor.now))) (rw inner at c.in_err-rest.ensures.err)
+
+pub key_and_value-returns-clause-err : goal.key_and_value-returns-clause-err
+key_and_value-returns-clause-err g t c =
+    let inner : c.saturating_sub-inner.result ≡ c.args.left - 2 = omega arith in
+    let key = (part_within c.args.left c.args.table.now c.args.key.now).inner in
+    let value = (part_within c.args.left c.args.table.now c.args.value.now).inner in
+    let types : List (Option TypeDef) = definition_at c.args.table.now c.args.key.now.id ∷ definition_at c.args.table.now c.args.value.now.id ∷ [] in
+    part_returned _ c.value_within-2.result g.met.V.ValueVisitor.visited_append g.met.V.ValueVisitor.stopped_later
+    (next_part value [] c.in_ok-rest.rest.now (adds_placed (value_by c.args.table.now) types [] (definition_at c.args.table.now c.args.value.now.id) 1 refl)
+    (goes_on key (value ∷ []) c.args.input.now c.in_ok-rest.rest.now g.met.V.ValueVisitor.visited_append (adds_placed (value_by c.args.table.now) types (definition_at c.args.table.now c.args.value.now.id ∷ []) (definition_at c.args.table.now c.args.key.now.id) 0 refl) (begins refl (g.met.V.ValueVisitor.visited_none c.args.visitor.now)) (rw inner at c.in_ok-rest.ensures.ok)))
+    (rw inner at c.value_within-2.ensures.err)
+
+pub list-returns-then-left-eq1-clause-err : goal.list-returns-then-left-eq1-clause-err
+list-returns-then-left-eq1-clause-err g t c =
+    let read = value_within (c.args.left - 1) c.args.table.now c.args.ty.now.id in
+    fails_first _ (g.met.V.ValueVisitor.visited_none c.args.visitor.now)
+    (all_fail c.args.count read c.args.input.now _ (omega arith) (value_too_deep (c.args.left - 1) c.args.table.now c.args.ty.now.id c.args.input.now (omega arith)))
+
+pub list-returns-in-None-clause-err : goal.list-returns-in-None-clause-err
+list-returns-in-None-clause-err g t c =
+    let read = value_within (c.args.left - 1) c.args.table.now c.args.ty.now.id in
+    let none : type_at c.args.table.now c.args.ty.now.id ≡ None = grind (arith, common_steps) in
+    fails_first _ (g.met.V.ValueVisitor.visited_none c.args.visitor.now)
+    (all_fail c.args.count read c.args.input.now _ (omega arith) (value_no_type (c.args.left - 1) c.args.table.now c.args.ty.now.id c.args.input.now (omega arith) none))
+
+pub list-returns-in-Some-clause-ok : goal.list-returns-in-Some-clause-ok
+list-returns-in-Some-clause-ok g t c =
+    let some : type_at c.args.table.now c.args.ty.now.id ≡ Some c.in-Some.item.now = grind (arith, common_steps) in
+    let known : definition_at c.args.table.now c.args.ty.now.id ≡ Some c.in-Some.item.now.type_def = ap (λ o. option_map (λ d. d.type_def) o) some in
+    rw (items_of_type c.args.left c.args.table.now c.args.ty.now c.args.count c.args.input.now c.in-Some.item.now (omega arith) some)
+    (IfOk-weaker c.list_by.result _ _ (λ rest p. shown_as (λ vs left e. ap (λ t. list_by c.args.table.now t c.args.count vs) known) p) c.list_by.ensures.ok)
+
+pub list-returns-in-Some-clause-err : goal.list-returns-in-Some-clause-err
+list-returns-in-Some-clause-err g t c =
+    let some : type_at c.args.table.now c.args.ty.now.id ≡ Some c.in-Some.item.now = grind (arith, common_steps) in
+    let known : definition_at c.args.table.now c.args.ty.now.id ≡ Some c.in-Some.item.now.type_def = ap (λ o. option_map (λ d. d.type_def) o) some in
+    rw (items_of_type c.args.left c.args.table.now c.args.ty.now c.args.count c.args.input.now c.in-Some.item.now (omega arith) some)
+    (part_returned _ c.list_by.result g.met.V.ValueVisitor.visited_append g.met.V.ValueVisitor.stopped_later
+    (next_as (λ vs left e. ap (λ t. list_by c.args.table.now t c.args.count vs) known) (g.met.V.ValueVisitor.visited_none c.args.visitor.now)) c.list_by.ensures.err)
+
+pub list-returns-then-count-eq0-clause-ok : goal.list-returns-then-count-eq0-clause-ok
+list-returns-then-count-eq0-clause-ok g t c =
+    rw c.if-count-eq0.true
+    (shown_whole [] (list_by c.args.table.now (definition_at c.args.table.now c.args.ty.now.id) 0 []) refl refl (by_answer _ c.in_ok-shown.ensures.ok c.empty_list.ensures.ok))
+
+pub list-returns-in_err-shown-clause-err : goal.list-returns-in_err-shown-clause-err
+list-returns-in_err-shown-clause-err g t c =
+    rw c.if-count-eq0.true
+    (passed_on c.from_residual.result c.in_err-shown.field-0.0 _ c.from_residual.ensures.1
+    (refusal _ c.in_err-shown.field-0.0 c.empty_list.result g.met.V.ValueVisitor.visited_append g.met.V.ValueVisitor.stopped_later
+    (whole_next [] (list_by c.args.table.now (definition_at c.args.table.now c.args.ty.now.id) 0 []) (g.met.V.ValueVisitor.visited_none c.args.visitor.now) refl refl) c.in_err-shown.ensures.err c.empty_list.ensures.err))
+
+pub list_by-returns-then-is_byte-clause-ok : goal.list_by-returns-then-is_byte-clause-ok
+list_by-returns-then-is_byte-clause-ok g t c =
+    let byte_sized : is_byte (Some c.args.definition.now) ≡ true = sym c.is_byte.ensures ∙ c.if-is_byte.true in
+    IfOk-weaker c.list_of_bytes.result _ _ (λ rest p. made_of (λ all. map dyn.Unsigned all)
+    (λ all rest e. bytes_same c.args.table.now c.args.definition.now c.args.count all byte_sized)
+    (primitives_are c.args.left c.args.table.now c.args.definition.now kind.U8 c.args.count c.args.input.now (byte_type c.args.definition.now byte_sized) ∙ bytes_are_integers c.args.count c.args.input.now) p)
+    c.list_of_bytes.ensures.ok
 
 pub list_by-returns-then-is_byte-clause-err : goal.list_by-returns-then-is_byte-clause-err
 list_by-returns-then-is_byte-clause-err g t c =
-    let is : c.args.definition.now ≡ def.Primitive kind.U8 = subst (λ b. OnTrue b (c.args.definition.now ≡ def.Primitive kind.U8)) c.if-is_byte.true c.is_byte.ensures in
-    rw (primitives_are c.args.left c.args.table.now c.args.definition.now kind.U8 c.args.count c.args.input.now is)
+    let byte_sized : is_byte (Some c.args.definition.now) ≡ true = sym c.is_byte.ensures ∙ c.if-is_byte.true in
+    part_returned _ c.list_of_bytes.result g.met.V.ValueVisitor.visited_append g.met.V.ValueVisitor.stopped_later
+    (parts_next (λ all. map dyn.Unsigned all)
+    (λ all rest e. bytes_same c.args.table.now c.args.definition.now c.args.count all byte_sized)
+    (primitives_are c.args.left c.args.table.now c.args.definition.now kind.U8 c.args.count c.args.input.now (byte_type c.args.definition.now byte_sized) ∙ bytes_are_integers c.args.count c.args.input.now)
+    (g.met.V.ValueVisitor.visited_none c.args.visitor.now))
     c.list_of_bytes.ensures.err
 
-pub items-returns-in-Primitive-clause-err : goal.items-returns-in-Primitive-clause-err
-items-returns-in-Primitive-clause-err g t c =
-    rw (primitives_are c.args.left c.args.table.now c.args.definition.now c.in-Primitive.kind c.args.count
-    c.args.input.now c.in-Primitive.is)
-    c.primitives.ensures.err
+pub list_by-returns-clause-ok : goal.list_by-returns-clause-ok
+list_by-returns-clause-ok g t c =
+    let other : is_byte (Some c.args.definition.now) ≡ false = sym c.is_byte.ensures ∙ c.if-is_byte.false in
+    let read = definition_within c.args.left c.args.table.now c.args.definition.now in
+    IfOk-weaker c.list_of_items.result _ _ (λ rest p. shown_as (λ vs rest e. items_same c.args.table.now c.args.definition.now c.args.count vs other (so_many c.args.count read c.args.input.now vs rest e)) p)
+    c.list_of_items.ensures.ok
+
+pub list_by-returns-clause-err : goal.list_by-returns-clause-err
+list_by-returns-clause-err g t c =
+    let other : is_byte (Some c.args.definition.now) ≡ false = sym c.is_byte.ensures ∙ c.if-is_byte.false in
+    let read = definition_within c.args.left c.args.table.now c.args.definition.now in
+    part_returned _ c.list_of_items.result g.met.V.ValueVisitor.visited_append g.met.V.ValueVisitor.stopped_later
+    (next_as (λ vs rest e. items_same c.args.table.now c.args.definition.now c.args.count vs other (so_many c.args.count read c.args.input.now vs rest e)) (g.met.V.ValueVisitor.visited_none c.args.visitor.now))
+    c.list_of_items.ensures.err

@@ -1,79 +1,86 @@
-use Rattle.std.proofs.Common.{◌-◌, ◌*◌, ◌+◌, drop, replicate}
+use Rattle.std.proofs.Common.{◌-◌, ◌*◌, ◌+◌, drop, replicate, Some}
 use Rattle.scale_info_value.specs.Outcomes.{in_turn}
 use Rattle.scale_info_value.specs.Readings.{definition_within, members_within, fields_within, pair_within}
-use Rattle.scale_info_visit.specs.Events.{events_of, field_events}
+use Rattle.scale_info_visit.specs.Events.{pair_of}
+use Rattle.scale_info_visit.specs.Visits.{fields_by, items_by, members_by}
 use Rattle.scale_info_visit.proofs.Visiting.{IsVisiting}
 use Rattle.scale_info_visit.proofs.visit.+visit.Given as goal
 
 abbrev pub decreases-value_within : goal.decreases-value_within
-decreases-value_within g l = 6 * l.left
+decreases-value_within g l = 7 * l.left
 
 abbrev pub decreases-value_by : goal.decreases-value_by
-decreases-value_by g l = 6 * l.left - 1
+decreases-value_by g l = 7 * l.left - 1
 
 abbrev pub decreases-record : goal.decreases-record
-decreases-record g l = 6 * l.left - 2
+decreases-record g l = 7 * l.left - 3
 
 abbrev pub decreases-variant : goal.decreases-variant
-decreases-variant g l = 6 * l.left - 2
+decreases-variant g l = 7 * l.left - 2
+
+abbrev pub decreases-chosen : goal.decreases-chosen
+decreases-chosen g l = 7 * l.left - 3
 
 abbrev pub decreases-fields : goal.decreases-fields
-decreases-fields g l = 6 * l.left - 3
+decreases-fields g l = 7 * l.left - 4
 
 abbrev pub decreases-field : goal.decreases-field
-decreases-field g l = 6 * l.left - 4
+decreases-field g l = 7 * l.left - 5
 
 abbrev pub decreases-list : goal.decreases-list
-decreases-list g l = 6 * l.left - 2
+decreases-list g l = 7 * l.left - 2
 
 abbrev pub decreases-list_by : goal.decreases-list_by
-decreases-list_by g l = 6 * l.left + 1
+decreases-list_by g l = 7 * l.left + 2
+
+abbrev pub decreases-list_of_items : goal.decreases-list_of_items
+decreases-list_of_items g l = 7 * l.left + 1
 
 abbrev pub decreases-items : goal.decreases-items
-decreases-items g l = 6 * l.left
+decreases-items g l = 7 * l.left
 
 abbrev pub decreases-members : goal.decreases-members
-decreases-members g l = 6 * l.left - 2
+decreases-members g l = 7 * l.left - 2
 
 abbrev pub decreases-each_member : goal.decreases-each_member
-decreases-each_member g l = 6 * l.left - 3
+decreases-each_member g l = 7 * l.left - 3
 
 abbrev pub decreases-pairs : goal.decreases-pairs
-decreases-pairs g l = 6 * l.left - 2
+decreases-pairs g l = 7 * l.left - 2
 
 abbrev pub decreases-each_pair : goal.decreases-each_pair
-decreases-each_pair g l = 6 * l.left - 3
+decreases-each_pair g l = 7 * l.left - 3
 
 abbrev pub decreases-pair : goal.decreases-pair
-decreases-pair g l = 6 * l.left - 4
+decreases-pair g l = 7 * l.left - 4
 
 abbrev pub decreases-key_and_value : goal.decreases-key_and_value
-decreases-key_and_value g l = 6 * l.left - 5
+decreases-key_and_value g l = 7 * l.left - 5
 
 abbrev pub invariant-items-loop : goal.invariant-items-loop
 invariant-items-loop g l =
-    IsVisiting g.V.ValueVisitor.visited events_of
+    IsVisiting g.V.ValueVisitor.visited (items_by l.table (Some l.definition) l.count) l.counter
     (in_turn (replicate l.count (definition_within l.left l.table l.definition)) l.input)
     (in_turn (replicate (l.count - l.counter) (definition_within l.left l.table l.definition)) l.rest)
     l.fn.visitor l.visitor
 
 abbrev pub invariant-each_member-loop-ty : goal.invariant-each_member-loop-ty
 invariant-each_member-loop-ty g l =
-    IsVisiting g.V.ValueVisitor.visited events_of
+    IsVisiting g.V.ValueVisitor.visited (members_by l.table l.types) l.ty-index
     (members_within l.left l.table l.types l.input)
     (members_within l.left l.table (drop l.ty-index l.types) l.rest)
     l.fn.visitor l.visitor
 
 abbrev pub invariant-fields-loop-next : goal.invariant-fields-loop-next
 invariant-fields-loop-next g l =
-    IsVisiting g.V.ValueVisitor.visited field_events
+    IsVisiting g.V.ValueVisitor.visited (fields_by l.table l.named l.all) l.next-index
     (fields_within l.left l.table l.all l.input)
     (fields_within l.left l.table (drop l.next-index l.all) l.rest)
     l.fn.visitor l.visitor
 
 abbrev pub invariant-each_pair-loop : goal.invariant-each_pair-loop
 invariant-each_pair-loop g l =
-    IsVisiting g.V.ValueVisitor.visited events_of
+    IsVisiting g.V.ValueVisitor.visited (items_by l.table (Some (pair_of l.key l.value)) l.count) l.counter
     (in_turn (replicate l.count (pair_within l.left l.table l.key l.value)) l.input)
     (in_turn (replicate (l.count - l.counter) (pair_within l.left l.table l.key l.value)) l.rest)
     l.fn.visitor l.visitor

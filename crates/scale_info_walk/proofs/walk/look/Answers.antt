@@ -1,10 +1,11 @@
 use Rattle.std.proofs.Common.{rules, arith, ◌≡◌, ◌≢◌, ◌<◌, ◌≤◌, ◌∷◌, ◌++◌, [], Some, length}
-use Rattle.std.proofs.Common.{slice_get, inl, inr, refl, ap, ◌∙◌, get_or}
+use Rattle.std.proofs.Common.{slice_get, inl, inr, refl, ap, ◌∙◌, ◌^◌, get_or}
 use Rattle.std.proofs.lemmas.Option.{slice_get_read}
 use Rattle.scale_info_numberings.proofs.Places.{contains_head}
 use Rattle.scale_info_numberings.specs.Systems.{root}
 use Rattle.scale_info_walk.proofs.Visiting.{known, unknown, numbers_long, numbers_within, walk_more}
 use Rattle.scale_info_walk.proofs.Visiting.{short_before}
+use Rattle.scale_info_walk.proofs.walk.look.Given as given
 use Rattle.scale_info_walk.proofs.walk.look.Goals as goal
 
 pub returns-in_default-clause-cause : goal.returns-in_default-clause-cause
@@ -34,43 +35,44 @@ overflow_cast-number g c =
     let f = c.requires.few in
     omega arith
 
-pub returns-clause-walk : goal.returns-clause-walk
-returns-clause-walk g c =
-    let order = c.args.walk.now.order.items in
+-- what is known after an id without a number was added: it had none, it stands last in the order,
+-- and it has few references
+added :
+    (g : given.Over) (c : goal.In_ok-prepend_refs g)
+    → (slice_get c.args.walk.now.numbers.items c.args.id ≡ Some 4294967295)
+    × (c.push.new.self.items ≡ c.args.walk.now.order.items ++ c.args.id ∷ [])
+    × (length c.in_ok-prepend_refs.ensures.refs.0.refs < 2 ^ 63)
+added g c =
     let numbers = c.args.walk.now.numbers.items in
     let number = c.in-Some.number.now in
     let inside : c.args.id < length numbers = search rules in
     let is : number ≡ get_or numbers c.args.id number = search rules in
     let none : number ≡ 4294967295 = search rules in
-    let at : slice_get numbers c.args.id ≡ Some 4294967295 =
-    slice_get_read numbers (length numbers) c.args.id number refl inside is ∙ ap Some none in
+    let refs = c.in_ok-prepend_refs.ensures.refs in (
+      slice_get_read numbers (length numbers) c.args.id number refl inside is ∙ ap Some none,
+      search rules,
+      short_before refs.0.refs c.args.refs.now c.prepend_refs.new.refs refs.2 c.in_ok-prepend_refs.ensures.few,
+    )
+
+pub returns-clause-walk : goal.returns-clause-walk
+returns-clause-walk g c =
     let refs = c.in_ok-prepend_refs.ensures.refs in
-    let pushed : c.push.new.self.items ≡ order ++ c.args.id ∷ [] = search rules in
-    let next : c.len.result ≡ length order = search rules in
-    let short = short_before refs.0.refs c.args.refs.now c.prepend_refs.new.refs refs.2 c.in_ok-prepend_refs.ensures.few in
-    rw (pushed, next)
-    (walk_more (g.R.References.system c.args.source.now) (g.R.References.count c.args.source.now) order numbers
-    c.args.walk.now.steps c.args.id refs.0 c.requires at refs.1 short)
+    let next : c.len.result ≡ length c.args.walk.now.order.items = search rules in
+    rw ((added g c).1, next)
+    (walk_more (g.R.References.system c.args.source.now) (g.R.References.count c.args.source.now)
+    c.args.walk.now.order.items c.args.walk.now.numbers.items c.args.walk.now.steps c.args.id refs.0 c.requires
+    (added g c).0 refs.1 (added g c).2)
 
 pub returns-clause-look : goal.returns-clause-look
 returns-clause-look g c =
-    let order = c.args.walk.now.order.items in
-    let numbers = c.args.walk.now.numbers.items in
-    let number = c.in-Some.number.now in
-    let inside : c.args.id < length numbers = search rules in
-    let is : number ≡ get_or numbers c.args.id number = search rules in
-    let none : number ≡ 4294967295 = search rules in
-    let at : slice_get numbers c.args.id ≡ Some 4294967295 =
-    slice_get_read numbers (length numbers) c.args.id number refl inside is ∙ ap Some none in
     let refs = c.in_ok-prepend_refs.ensures.refs in
-    let pushed : c.push.new.self.items ≡ order ++ c.args.id ∷ [] = search rules in
     let long = c.requires.long in
     let small = c.requires.few in
     inr (
       refs.0,
       refs.1,
-      unknown order numbers c.requires.dense c.args.id at (omega arith),
-      pushed,
+      unknown c.args.walk.now.order.items c.args.walk.now.numbers.items c.requires.dense c.args.id (added g c).0 (omega arith),
+      (added g c).1,
       refs.2,
-      short_before refs.0.refs c.args.refs.now c.prepend_refs.new.refs refs.2 c.in_ok-prepend_refs.ensures.few,
+      (added g c).2,
     )

@@ -1,10 +1,9 @@
-use Rattle.std.proofs.Common.{arith, ◌∙◌, ap, sym, get_or, length}
+use Rattle.std.proofs.Common.{arith, get_or, length}
 use Rattle.std.proofs.lemmas.List.Elements.{Contains-get_or}
 use Rattle.std.proofs.lemmas.Result.{err_from_is_err_and}
 use Rattle.scale_info_numberings.proofs.Extensions.{one_numbering}
-use Rattle.scale_info_numberings.specs.Systems.{looks}
 use Rattle.scale_info_walk.specs.TypeSystems.{types_system}
-use Rattle.scale_info_walk.proofs.Visiting.{roots_none, roots_more, roots_all, cause_at_root}
+use Rattle.scale_info_walk.proofs.Visiting.{roots_begin, roots_more, roots_all, cause_at_root}
 use Rattle.scale_info_walk.proofs.Visiting.{cause_before}
 use Rattle.scale_info_walk.proofs.walk.number_recursive.Goals as goal
 
@@ -17,13 +16,8 @@ returns-in_err-found-clause-cause c =
 
 pub loop-root-init : goal.loop-root-init
 loop-root-init c =
-    let S = types_system c.args.types.now in
-    let order = c.in_ok-found.ensures.order in
-    let steps = c.in_ok-found.ensures.steps in (
-      roots_none S c.in_ok-found.found.order.items order,
-      c.in_ok-found.ensures.walk,
-      steps ∙ ap (looks S) (sym order),
-    )
+    roots_begin (types_system c.args.types.now) (length c.args.types.now) _ _ _
+    c.in_ok-found.ensures.order c.in_ok-found.ensures.walk c.in_ok-found.ensures.steps
 
 pub returns-in_err-visit_recursively-clause-cause : goal.returns-in_err-visit_recursively-clause-cause
 returns-in_err-visit_recursively-clause-cause c =

@@ -1,7 +1,7 @@
 use Rattle.std.proofs.Common.{arith, ◌≡◌, ◌∷◌, [], ℕ, List, suc, length, ap, subst}
 use Rattle.std.proofs.lemmas.Result.{err_from_is_err_and}
-use Rattle.scale_info_walk.specs.Walks.{IsLook}
-use Rattle.scale_info_numberings.proofs.WorkLists.{IsWalking, walk_starts, walk_ends}
+use Rattle.scale_info_numberings.proofs.WorkLists.{IsWalking, walk_ends}
+use Rattle.scale_info_walk.proofs.Visiting.{first_look, walk_begins}
 use Rattle.scale_info_walk.proofs.Visiting.{next_some, next_none, numbers_distinct, walk_inside}
 use Rattle.scale_info_walk.proofs.Visiting.{walk_looks, look_counts}
 use Rattle.scale_info_walk.proofs.Visiting.{look_shrinks, cause_through}
@@ -10,17 +10,9 @@ use Rattle.scale_info_walk.proofs.walk.visit.Goals as goal
 pub loop-next-init : goal.loop-next-init
 loop-next-init g c =
     let S = g.R.References.system c.args.source.now in
-    let old = c.args.walk.now.order.items in
-    let look : IsLook S c.args.id old [] c.look.new.walk.order.items c.look.new.refs =
-    subst (λ (xs : List ℕ). IsLook S c.args.id old xs c.look.new.walk.order.items c.look.new.refs)
-    c.new-refs.ensures c.in_ok-look.ensures.look in
-    let counts = look_counts S old [] c.look.new.walk.order.items c.look.new.refs c.args.id look in
-    let steps = c.in_ok-look.ensures.steps in (
-      walk_looks S old (c.args.id ∷ []) old [] c.look.new.walk.order.items c.look.new.refs c.args.id look
-          (walk_starts S old (c.args.id ∷ []) (numbers_distinct old c.args.walk.now.numbers.items c.requires.dense)),
-      c.in_ok-look.ensures.walk,
-      omega arith,
-    )
+    walk_begins S (g.R.References.count c.args.source.now) _ c.args.walk.now.numbers.items _ _ _ _ c.args.id _ c.requires.dense
+    (first_look S _ _ _ _ c.args.id c.new-refs.ensures c.in_ok-look.ensures.look) c.in_ok-look.ensures.walk
+    c.in_ok-look.ensures.steps
 
 pub loop-next-smaller : goal.loop-next-smaller
 loop-next-smaller g c =

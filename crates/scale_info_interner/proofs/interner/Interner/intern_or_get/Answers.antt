@@ -37,12 +37,9 @@ full_absent :
     → IsKnown g.T.PartialEq.eq c.args.self.now c.args.value
     → ⊥
 full_absent g c k =
-    gap_absent g.met.T.Ord.total g.T.PartialEq.eq g.met.T.Ord.matches_eq c.deref.result.now
-    c.self.inside.elements.items c.args.self.now (map (λ v. v.items) c.deref-2.result.now)
-    (map (λ v. v.items) c.self.inside.chunks.items) c.args.value c.in-Err.place.chunk
-    c.in-Err.place.at c.deref.ensures.value c.self.view_is
-    (ap (λ cs. map (λ v. v.items) cs) c.deref-2.ensures.value) c.self.invariant.0
-    c.in-Err.ensures.absent k
+    gap_absent g.met.T.Ord.total g.T.PartialEq.eq g.met.T.Ord.matches_eq _ _ _ _ _ _ _ _
+    c.deref.ensures.value c.self.view_is (ap (λ cs. map (λ v. v.items) cs) c.deref-2.ensures.value)
+    c.self.invariant.0 c.in-Err.ensures.absent k
 
 pub returns-then-is_full-clause-known : goal.returns-then-is_full-clause-known
 returns-then-is_full-clause-known g c = λ i k. absurd (full_absent g c (i, k))
@@ -54,12 +51,9 @@ returns-then-is_full-clause-full g c =
 pub returns-in_err-symbol-clause-known : goal.returns-in_err-symbol-clause-known
 returns-in_err-symbol-clause-known g c = λ i k.
     absurd
-    (gap_absent g.met.T.Ord.total g.T.PartialEq.eq g.met.T.Ord.matches_eq c.deref.result.now
-    c.self.inside.elements.items c.args.self.now (map (λ v. v.items) c.deref-2.result.now)
-    (map (λ v. v.items) c.self.inside.chunks.items) c.args.value c.in-Err.place.chunk
-    c.in-Err.place.at c.deref.ensures.value c.self.view_is
-    (ap (λ cs. map (λ v. v.items) cs) c.deref-2.ensures.value) c.self.invariant.0
-    c.in-Err.ensures.absent (i, k))
+    (gap_absent g.met.T.Ord.total g.T.PartialEq.eq g.met.T.Ord.matches_eq _ _ _ _ _ _ _ _
+    c.deref.ensures.value c.self.view_is (ap (λ cs. map (λ v. v.items) cs) c.deref-2.ensures.value)
+    c.self.invariant.0 c.in-Err.ensures.absent (i, k))
 
 pub invariant_of-self-2 : goal.invariant_of-self-2
 invariant_of-self-2 g c =
@@ -84,12 +78,9 @@ invariant_of-self-2 g c =
 pub returns-clause-known : goal.returns-clause-known
 returns-clause-known g c = λ i k.
     absurd
-    (gap_absent g.met.T.Ord.total g.T.PartialEq.eq g.met.T.Ord.matches_eq c.deref.result.now
-    c.self.inside.elements.items c.args.self.now (map (λ v. v.items) c.deref-2.result.now)
-    (map (λ v. v.items) c.self.inside.chunks.items) c.args.value c.in-Err.place.chunk
-    c.in-Err.place.at c.deref.ensures.value c.self.view_is
-    (ap (λ cs. map (λ v. v.items) cs) c.deref-2.ensures.value) c.self.invariant.0
-    c.in-Err.ensures.absent (i, k))
+    (gap_absent g.met.T.Ord.total g.T.PartialEq.eq g.met.T.Ord.matches_eq _ _ _ _ _ _ _ _
+    c.deref.ensures.value c.self.view_is (ap (λ cs. map (λ v. v.items) cs) c.deref-2.ensures.value)
+    c.self.invariant.0 c.in-Err.ensures.absent (i, k))
 
 pub returns-clause-ok : goal.returns-clause-ok
 returns-clause-ok g c =

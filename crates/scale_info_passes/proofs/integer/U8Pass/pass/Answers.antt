@@ -1,6 +1,6 @@
-use Rattle.std.proofs.Common.{refl}
-use Rattle.scale_info_passes.proofs.Passes.{visited_verbatim}
 use Rattle.scale_info_bytes.proofs.Options.{none_is}
+use Rattle.scale_info_bytes.specs.Integers.{EncodesU8}
+use Rattle.scale_info_passes.proofs.Passes.{visited_alone}
 use Rattle.scale_info_passes.proofs.integer.U8Pass.pass.Goals as goal
 
 pub returns-in_err-rest-clause-none : goal.returns-in_err-rest-clause-none
@@ -8,6 +8,4 @@ returns-in_err-rest-clause-none g c = none_is c.from_residual.result c.in_err-re
 
 pub returns-clause-some : goal.returns-clause-some
 returns-clause-some g c =
-    visited_verbatim (c.in_ok-rest.field-0-0)
-    (record { encoding = c.in_ok-rest.ensures.some.encoding; encodes = c.in_ok-rest.ensures.some.encodes; parts = c.in_ok-rest.ensures.some.parts }) c.visit_verbatim.ensures refl
-    (λ f. refl)
+    visited_alone EncodesU8 c.in_ok-rest.field-0-0 c.in_ok-rest.ensures.some c.visit_verbatim.ensures

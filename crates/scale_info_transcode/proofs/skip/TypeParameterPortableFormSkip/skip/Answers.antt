@@ -5,9 +5,7 @@ use Rattle.scale_info_transcode.proofs.Skips.{rest_through}
 use Rattle.scale_info_transcode.proofs.skip.TypeParameterPortableFormSkip.skip.Goals as goal
 
 pub returns-clause-some : goal.returns-clause-some
-returns-clause-some c =
-    some_on c.skip.result (λ rest p. rest_through parameter_parts p) c.skip.ensures.some
+returns-clause-some c = some_on c.skip.result (λ rest. rest_through parameter_parts) c.skip.ensures.some
 
 pub returns-clause-none : goal.returns-clause-none
-returns-clause-none c =
-    none_on c.skip.result (λ n. no_prefix_through parameter_parts n) c.skip.ensures.none
+returns-clause-none c = none_on c.skip.result (no_prefix_through parameter_parts) c.skip.ensures.none

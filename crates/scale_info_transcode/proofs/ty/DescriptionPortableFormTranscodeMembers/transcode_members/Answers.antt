@@ -3,7 +3,7 @@ use Rattle.scale_info_bytes.proofs.Errors.{passed_malformed}
 use Rattle.scale_info_bytes.proofs.Steps.{no_prefix_through}
 use Rattle.scale_info_bytes.specs.Parts.{EncodesList}
 use Rattle.scale_info_bytes.specs.Strings.{EncodesText}
-use Rattle.scale_info_grammar.specs.Ty.{EncodesDescription, EncodesParameter, EncodesPath}
+use Rattle.scale_info_grammar.specs.Ty.{EncodesParameter, EncodesPath}
 use Rattle.scale_info_grammar.specs.Ty.{EncodesTypeDef, description_parts}
 use Rattle.scale_info_grammar.specs.TyLaws.{type_def_law}
 use Rattle.scale_info_transcode.proofs.Objects.{four_rows}
@@ -25,66 +25,41 @@ path_rest p = rest_through (λ v. v.segments) p
 
 pub returns-in_err-params-clause-malformed : goal.returns-in_err-params-clause-malformed
 returns-in_err-params-clause-malformed c =
-    passed_malformed c.from_residual.result c.in_err-params.field-0.0 c.from_residual.ensures.1
-    (λ n.
-    no_prefix_through description_parts
-    (no_first EncodesPath (EncodesList EncodesParameter) EncodesTypeDef (EncodesList EncodesText) _
-    (no_prefix_through (λ v. v.segments) n)))
+    passed_malformed _ _ c.from_residual.ensures.1
+    (λ n. no_first description_parts (no_prefix_through (λ v. v.segments) n))
     c.in_err-params.ensures.malformed
 
 pub returns-in_err-def-clause-malformed : goal.returns-in_err-def-clause-malformed
 returns-in_err-def-clause-malformed c =
-    passed_malformed c.from_residual-in_err-def.result c.in_err-def.field-0.0
-    c.from_residual-in_err-def.ensures.1
-    (λ n.
-    no_prefix_through description_parts
-    (no_second EncodesPath (EncodesList EncodesParameter) EncodesTypeDef
-    (EncodesList EncodesText) _ _ (path_rest c.in_ok-params.ensures.ok) n))
+    passed_malformed _ _ c.from_residual-in_err-def.ensures.1
+    (no_second description_parts (path_rest c.in_ok-params.ensures.ok))
     c.in_err-def.ensures.malformed
 
 pub returns-in_err-docs-clause-malformed : goal.returns-in_err-docs-clause-malformed
 returns-in_err-docs-clause-malformed c =
-    passed_malformed c.from_residual-in_err-docs.result c.in_err-docs.field-0.0
-    c.from_residual-in_err-docs.ensures.1
-    (λ n.
-    no_prefix_through description_parts
-    (no_third EncodesPath (EncodesList EncodesParameter) EncodesTypeDef (EncodesList EncodesText)
-    _ _ _ (path_rest c.in_ok-params.ensures.ok) c.in_ok-def.ensures.ok n))
+    passed_malformed _ _ c.from_residual-in_err-docs.ensures.1
+    (no_third description_parts (path_rest c.in_ok-params.ensures.ok) c.in_ok-def.ensures.ok)
     c.in_err-docs.ensures.malformed
 
 pub returns-in_err-rest-clause-malformed : goal.returns-in_err-rest-clause-malformed
 returns-in_err-rest-clause-malformed c =
-    passed_malformed c.from_residual-in_err-rest.result c.in_err-rest.field-0.0
-    c.from_residual-in_err-rest.ensures.1
-    (λ n.
-    no_prefix_through description_parts
-    (no_fourth EncodesPath (EncodesList EncodesParameter) EncodesTypeDef
-    (EncodesList EncodesText) _ _ _ _ (path_rest c.in_ok-params.ensures.ok)
-    c.in_ok-def.ensures.ok (only_rest type_def_law c.in_ok-docs.ensures.ok.read) n))
+    passed_malformed _ _ c.from_residual-in_err-rest.ensures.1
+    (no_fourth description_parts (path_rest c.in_ok-params.ensures.ok) c.in_ok-def.ensures.ok
+    (only_rest type_def_law c.in_ok-docs.ensures.ok.read))
     c.in_err-rest.ensures.malformed
 
 pub returns-in_err-transcode_unless_empty-clause-malformed :
     goal.returns-in_err-transcode_unless_empty-clause-malformed
 returns-in_err-transcode_unless_empty-clause-malformed c =
-    passed_malformed c.from_residual-in_err-transcode_unless_empty.result
-    c.in_err-transcode_unless_empty.field-0.0
-    c.from_residual-in_err-transcode_unless_empty.ensures.1
-    (λ n.
-    no_prefix_through description_parts
-    (no_second EncodesPath (EncodesList EncodesParameter) EncodesTypeDef
-    (EncodesList EncodesText) _ _ (path_rest c.in_ok-params.ensures.ok) n))
+    passed_malformed _ _ c.from_residual-in_err-transcode_unless_empty.ensures.1
+    (no_second description_parts (path_rest c.in_ok-params.ensures.ok))
     c.in_err-transcode_unless_empty.ensures.malformed
 
 pub returns-in_err-transcode_unless_empty-2-clause-malformed :
     goal.returns-in_err-transcode_unless_empty-2-clause-malformed
 returns-in_err-transcode_unless_empty-2-clause-malformed c =
-    passed_malformed c.from_residual-in_err-transcode_unless_empty-2.result
-    c.in_err-transcode_unless_empty-2.field-0.0
-    c.from_residual-in_err-transcode_unless_empty-2.ensures.1
-    (λ n.
-    no_prefix_through description_parts
-    (no_first EncodesPath (EncodesList EncodesParameter) EncodesTypeDef (EncodesList EncodesText) _
-    (no_prefix_through (λ v. v.segments) n)))
+    passed_malformed _ _ c.from_residual-in_err-transcode_unless_empty-2.ensures.1
+    (λ n. no_first description_parts (no_prefix_through (λ v. v.segments) n))
     c.in_err-transcode_unless_empty-2.ensures.malformed
 
 pub returns : goal.returns

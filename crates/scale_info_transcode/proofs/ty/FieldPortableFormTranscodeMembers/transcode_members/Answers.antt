@@ -1,10 +1,9 @@
 use Rattle.scale_info_bytes.proofs.Errors.{passed_malformed}
-use Rattle.scale_info_bytes.proofs.Steps.{no_prefix_through}
 use Rattle.scale_info_bytes.specs.PartLaws.{option_law}
 use Rattle.scale_info_bytes.specs.Parts.{EncodesList, EncodesOption}
 use Rattle.scale_info_bytes.specs.StringLaws.{text_law}
 use Rattle.scale_info_bytes.specs.Strings.{EncodesText}
-use Rattle.scale_info_grammar.specs.Ty.{EncodesField, EncodesId, field_parts}
+use Rattle.scale_info_grammar.specs.Ty.{EncodesId, field_parts}
 use Rattle.scale_info_grammar.specs.TyLaws.{id_law}
 use Rattle.scale_info_transcode.proofs.Objects.{four_rows}
 use Rattle.scale_info_transcode.proofs.Parts.{four_parts, no_first, no_second, no_third, no_fourth}
@@ -16,44 +15,28 @@ use Rattle.scale_info_transcode.proofs.ty.FieldPortableFormTranscodeMembers.tran
 
 pub returns-in_err-name-clause-malformed : goal.returns-in_err-name-clause-malformed
 returns-in_err-name-clause-malformed c =
-    passed_malformed c.from_residual.result c.in_err-name.field-0.0 c.from_residual.ensures.1
-    (λ n.
-    no_prefix_through field_parts
-    (no_first (EncodesOption EncodesText) EncodesId (EncodesOption EncodesText)
-    (EncodesList EncodesText) _ n))
-    c.in_err-name.ensures.malformed
+    passed_malformed _ _ c.from_residual.ensures.1
+    (no_first field_parts) c.in_err-name.ensures.malformed
 
 pub returns-in_err-ty-clause-malformed : goal.returns-in_err-ty-clause-malformed
 returns-in_err-ty-clause-malformed c =
-    passed_malformed c.from_residual-in_err-ty.result c.in_err-ty.field-0.0
-    c.from_residual-in_err-ty.ensures.1
-    (λ n.
-    no_prefix_through field_parts
-    (no_second (EncodesOption EncodesText) EncodesId (EncodesOption EncodesText)
-    (EncodesList EncodesText) _ _ (only_rest (option_law text_law) c.in_ok-name.ensures.ok) n))
+    passed_malformed _ _ c.from_residual-in_err-ty.ensures.1
+    (no_second field_parts (only_rest (option_law text_law) c.in_ok-name.ensures.ok))
     c.in_err-ty.ensures.malformed
 
 pub returns-in_err-type_name-clause-malformed : goal.returns-in_err-type_name-clause-malformed
 returns-in_err-type_name-clause-malformed c =
-    passed_malformed c.from_residual-in_err-type_name.result c.in_err-type_name.field-0.0
-    c.from_residual-in_err-type_name.ensures.1
-    (λ n.
-    no_prefix_through field_parts
-    (no_third (EncodesOption EncodesText) EncodesId (EncodesOption EncodesText)
-    (EncodesList EncodesText) _ _ _ (only_rest (option_law text_law) c.in_ok-name.ensures.ok)
-    (only_rest id_law c.in_ok-ty.ensures.ok) n))
+    passed_malformed _ _ c.from_residual-in_err-type_name.ensures.1
+    (no_third field_parts (only_rest (option_law text_law) c.in_ok-name.ensures.ok)
+    (only_rest id_law c.in_ok-ty.ensures.ok))
     c.in_err-type_name.ensures.malformed
 
 pub returns-in_err-rest-clause-malformed : goal.returns-in_err-rest-clause-malformed
 returns-in_err-rest-clause-malformed c =
-    passed_malformed c.from_residual-in_err-rest.result c.in_err-rest.field-0.0
-    c.from_residual-in_err-rest.ensures.1
-    (λ n.
-    no_prefix_through field_parts
-    (no_fourth (EncodesOption EncodesText) EncodesId (EncodesOption EncodesText)
-    (EncodesList EncodesText) _ _ _ _ (only_rest (option_law text_law) c.in_ok-name.ensures.ok)
+    passed_malformed _ _ c.from_residual-in_err-rest.ensures.1
+    (no_fourth field_parts (only_rest (option_law text_law) c.in_ok-name.ensures.ok)
     (only_rest id_law c.in_ok-ty.ensures.ok)
-    (only_rest (option_law text_law) c.in_ok-type_name.ensures.ok) n))
+    (only_rest (option_law text_law) c.in_ok-type_name.ensures.ok))
     c.in_err-rest.ensures.malformed
 
 pub returns : goal.returns

@@ -1,7 +1,7 @@
 use Rattle.scale_info_bytes.proofs.Errors.{passed_malformed}
 use Rattle.scale_info_bytes.proofs.Steps.{no_prefix_first, no_prefix_second, no_prefix_through}
 use Rattle.scale_info_bytes.proofs.Steps.{prefix_pair}
-use Rattle.scale_info_grammar.specs.Ty.{EncodesBitSequence, EncodesId, bit_sequence_parts}
+use Rattle.scale_info_grammar.specs.Ty.{EncodesId, bit_sequence_parts}
 use Rattle.scale_info_grammar.specs.TyLaws.{id_law}
 use Rattle.scale_info_transcode.proofs.Objects.{two_rows}
 use Rattle.scale_info_types.specs.Portable as portable

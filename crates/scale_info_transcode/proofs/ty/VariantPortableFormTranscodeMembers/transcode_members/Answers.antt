@@ -1,11 +1,10 @@
 use Rattle.scale_info_bytes.proofs.Errors.{passed_malformed}
-use Rattle.scale_info_bytes.proofs.Steps.{no_prefix_through}
 use Rattle.scale_info_bytes.specs.IntegerLaws.{u8_law}
 use Rattle.scale_info_bytes.specs.Integers.{EncodesU8}
 use Rattle.scale_info_bytes.specs.Parts.{EncodesList}
 use Rattle.scale_info_bytes.specs.StringLaws.{text_law}
 use Rattle.scale_info_bytes.specs.Strings.{EncodesText}
-use Rattle.scale_info_grammar.specs.Ty.{EncodesField, EncodesVariant, variant_parts}
+use Rattle.scale_info_grammar.specs.Ty.{EncodesField, variant_parts}
 use Rattle.scale_info_transcode.proofs.Objects.{four_rows}
 use Rattle.scale_info_transcode.proofs.Parts.{four_parts, no_first, no_second}
 use Rattle.scale_info_transcode.proofs.Parts.{no_third, no_fourth}
@@ -15,53 +14,33 @@ use Rattle.scale_info_transcode.proofs.ty.VariantPortableFormTranscodeMembers.tr
 
 pub returns-in_err-name-clause-malformed : goal.returns-in_err-name-clause-malformed
 returns-in_err-name-clause-malformed c =
-    passed_malformed c.from_residual.result c.in_err-name.field-0.0 c.from_residual.ensures.1
-    (λ n.
-    no_prefix_through variant_parts
-    (no_first EncodesText (EncodesList EncodesField) EncodesU8 (EncodesList EncodesText) _ n))
-    c.in_err-name.ensures.malformed
+    passed_malformed _ _ c.from_residual.ensures.1
+    (no_first variant_parts) c.in_err-name.ensures.malformed
 
 pub returns-in_err-after_fields-clause-malformed : goal.returns-in_err-after_fields-clause-malformed
 returns-in_err-after_fields-clause-malformed c =
-    passed_malformed c.from_residual-in_err-after_fields.result c.in_err-after_fields.field-0.0
-    c.from_residual-in_err-after_fields.ensures.1
-    (λ n.
-    no_prefix_through variant_parts
-    (no_second EncodesText (EncodesList EncodesField) EncodesU8 (EncodesList EncodesText) _ _
-    (only_rest text_law c.in_ok-name.ensures.ok) n))
+    passed_malformed _ _ c.from_residual-in_err-after_fields.ensures.1
+    (no_second variant_parts (only_rest text_law c.in_ok-name.ensures.ok))
     c.in_err-after_fields.ensures.malformed
 
 pub returns-in_err-index-clause-malformed : goal.returns-in_err-index-clause-malformed
 returns-in_err-index-clause-malformed c =
-    passed_malformed c.from_residual-in_err-index.result c.in_err-index.field-0.0
-    c.from_residual-in_err-index.ensures.1
-    (λ n.
-    no_prefix_through variant_parts
-    (no_third EncodesText (EncodesList EncodesField) EncodesU8 (EncodesList EncodesText) _ _ _
-    (only_rest text_law c.in_ok-name.ensures.ok) c.in_ok-after_fields.ensures.ok n))
+    passed_malformed _ _ c.from_residual-in_err-index.ensures.1
+    (no_third variant_parts (only_rest text_law c.in_ok-name.ensures.ok) c.in_ok-after_fields.ensures.ok)
     c.in_err-index.ensures.malformed
 
 pub returns-in_err-rest-clause-malformed : goal.returns-in_err-rest-clause-malformed
 returns-in_err-rest-clause-malformed c =
-    passed_malformed c.from_residual-in_err-rest.result c.in_err-rest.field-0.0
-    c.from_residual-in_err-rest.ensures.1
-    (λ n.
-    no_prefix_through variant_parts
-    (no_fourth EncodesText (EncodesList EncodesField) EncodesU8 (EncodesList EncodesText) _ _ _ _
-    (only_rest text_law c.in_ok-name.ensures.ok) c.in_ok-after_fields.ensures.ok
-    (only_rest u8_law c.in_ok-index.ensures.ok) n))
+    passed_malformed _ _ c.from_residual-in_err-rest.ensures.1
+    (no_fourth variant_parts (only_rest text_law c.in_ok-name.ensures.ok) c.in_ok-after_fields.ensures.ok
+    (only_rest u8_law c.in_ok-index.ensures.ok))
     c.in_err-rest.ensures.malformed
 
 pub returns-in_err-transcode_unless_empty-clause-malformed :
     goal.returns-in_err-transcode_unless_empty-clause-malformed
 returns-in_err-transcode_unless_empty-clause-malformed c =
-    passed_malformed c.from_residual-in_err-transcode_unless_empty.result
-    c.in_err-transcode_unless_empty.field-0.0
-    c.from_residual-in_err-transcode_unless_empty.ensures.1
-    (λ n.
-    no_prefix_through variant_parts
-    (no_second EncodesText (EncodesList EncodesField) EncodesU8 (EncodesList EncodesText) _ _
-    (only_rest text_law c.in_ok-name.ensures.ok) n))
+    passed_malformed _ _ c.from_residual-in_err-transcode_unless_empty.ensures.1
+    (no_second variant_parts (only_rest text_law c.in_ok-name.ensures.ok))
     c.in_err-transcode_unless_empty.ensures.malformed
 
 pub returns : goal.returns

@@ -3,7 +3,7 @@ use Rattle.scale_info_types.specs.declared.ty.PortableType.{PortableType}
 use Rattle.scale_info_bytes.specs.Encodings.{IsPrefix}
 use Rattle.scale_info_passes.specs.Entries.{AreAtOffsets, AppendsKeptEntries}
 use Rattle.scale_info_passes.specs.Visits.{renumbered}
-use Rattle.scale_info_passes.proofs.entries.append_entries.Given as goal
+use Rattle.scale_info_passes.proofs.entries.renumber_entries.Given as goal
 
 abbrev pub invariant-loop-id : goal.invariant-loop-id
 invariant-loop-id l = record {

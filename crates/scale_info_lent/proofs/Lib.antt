@@ -1,0 +1,4 @@
+pub mod Copies
+pub mod InBytes
+pub mod InTurn
+pub mod Parts

@@ -1,0 +1,177 @@
+use Rattle.std.proofs.Common.{◌≡◌, ◌-◌, ◌+◌, List, Option, Some, None, find, ◌==◌, arith, ap, sym, ◌∙◌, subst, map, drop}
+use Rattle.std.proofs.lemmas.Grind.{common_steps}
+use Rattle.scale_info_types.specs.Portable.{Id, Field, Text}
+use Rattle.scale_info_types.specs.Shapes.{map_field}
+use Rattle.scale_info_value.specs.declared.value.Dyn.{Dyn}
+use Rattle.scale_info_value.specs.declared.value.Dyn.TheVariants as dyn
+use Rattle.scale_info_value.specs.Outcomes.{Decoder, decoded, outcome_map, in_turn}
+use Rattle.scale_info_value.specs.Readings.{type_at, value_within, definition_within, pair_within}
+use Rattle.scale_info_value.specs.Readings.{fields_within, part_within}
+use Rattle.scale_info_value.specs.ValueDefinitions.{field}
+use Rattle.scale_info_value.proofs.Errors.{passed}
+use Rattle.scale_info_value.proofs.InOrder.{preceded, done_fails, all_fail}
+use Rattle.scale_info_value.proofs.Steps.{value_too_deep, value_no_type, value_of_type}
+use Rattle.scale_info_value.proofs.Steps.{composite_is}
+use Rattle.scale_info_value.proofs.Steps.{variant_missing, variant_found, items_of_type}
+use Rattle.scale_info_value.proofs.Steps.{primitives_are}
+use Rattle.scale_info_lent.specs.LentValues.{dyn_of, field_of}
+use Rattle.scale_info_lent.proofs.Copies.{record_copied, variant_copied}
+use Rattle.scale_info_lent.proofs.InTurn.{one_more_done, one_more_read, first_of, named_value}
+use Rattle.scale_info_lent.proofs.decode.+value.Goals as goal
+
+pub value_within-returns-then-left-eq0-clause-err : goal.value_within-returns-then-left-eq0-clause-err
+value_within-returns-then-left-eq0-clause-err t c =
+    value_too_deep c.args.left c.args.table.now c.args.id c.args.input.now (omega arith)
+
+pub value_within-returns-in-None-clause-err : goal.value_within-returns-in-None-clause-err
+value_within-returns-in-None-clause-err t c =
+    let none : type_at c.args.table.now c.args.id ≡ None = grind (arith, common_steps) in
+    value_no_type c.args.left c.args.table.now c.args.id c.args.input.now (omega arith) none
+
+pub value_within-returns-in-Some-clause-ok : goal.value_within-returns-in-Some-clause-ok
+value_within-returns-in-Some-clause-ok t c =
+    let some : type_at c.args.table.now c.args.id ≡ Some c.in-Some.ty.now = grind (arith, common_steps) in
+    rw (value_of_type c.args.left c.args.table.now c.args.id c.args.input.now c.in-Some.ty.now (omega arith) some)
+    c.value_by.ensures.ok
+
+pub value_within-returns-in-Some-clause-err : goal.value_within-returns-in-Some-clause-err
+value_within-returns-in-Some-clause-err t c =
+    let some : type_at c.args.table.now c.args.id ≡ Some c.in-Some.ty.now = grind (arith, common_steps) in
+    rw (value_of_type c.args.left c.args.table.now c.args.id c.args.input.now c.in-Some.ty.now (omega arith) some)
+    c.value_by.ensures.err
+
+pub list-returns-then-left-eq1-clause-err : goal.list-returns-then-left-eq1-clause-err
+list-returns-then-left-eq1-clause-err t c =
+    let read = value_within (c.args.left - 1) c.args.table.now c.args.ty.now.id in
+    all_fail c.args.count read c.args.input.now _ (omega arith)
+    (value_too_deep (c.args.left - 1) c.args.table.now c.args.ty.now.id c.args.input.now (omega arith))
+
+pub list-returns-in-None-clause-err : goal.list-returns-in-None-clause-err
+list-returns-in-None-clause-err t c =
+    let read = value_within (c.args.left - 1) c.args.table.now c.args.ty.now.id in
+    let none : type_at c.args.table.now c.args.ty.now.id ≡ None = grind (arith, common_steps) in
+    all_fail c.args.count read c.args.input.now _ (omega arith)
+    (value_no_type (c.args.left - 1) c.args.table.now c.args.ty.now.id c.args.input.now (omega arith) none)
+
+pub list-returns-in-Some-clause-ok : goal.list-returns-in-Some-clause-ok
+list-returns-in-Some-clause-ok t c =
+    let some : type_at c.args.table.now c.args.ty.now.id ≡ Some c.in-Some.item.now = grind (arith, common_steps) in
+    rw (items_of_type c.args.left c.args.table.now c.args.ty.now c.args.count c.args.input.now c.in-Some.item.now
+    (omega arith) some)
+    c.list_by.ensures.ok
+
+pub list-returns-in-Some-clause-err : goal.list-returns-in-Some-clause-err
+list-returns-in-Some-clause-err t c =
+    let some : type_at c.args.table.now c.args.ty.now.id ≡ Some c.in-Some.item.now = grind (arith, common_steps) in
+    rw (items_of_type c.args.left c.args.table.now c.args.ty.now c.args.count c.args.input.now c.in-Some.item.now
+    (omega arith) some)
+    c.list_by.ensures.err
+
+pub list_by-returns-in-Primitive-clause-err : goal.list_by-returns-in-Primitive-clause-err
+list_by-returns-in-Primitive-clause-err t c =
+    rw (primitives_are c.args.left c.args.table.now c.args.definition.now c.in-Primitive.kind c.args.count
+    c.args.input.now c.in-Primitive.is)
+    c.primitives.ensures.err
+
+pub items-returns-in_err-value-clause-err : goal.items-returns-in_err-value-clause-err
+items-returns-in_err-value-clause-err t c =
+    let read = definition_within c.args.left c.args.table.now c.args.definition.now in
+    passed c.from_residual.result c.in_err-value.field-0.0 c.from_residual.ensures.1 (read c.loop.rest.now) _
+    (λ why e.
+    done_fails c.args.count read c.args.input.now c.loop.counter (map dyn_of c.loop.values) c.loop.rest.now why
+    (omega arith) c.loop.invariant e)
+    c.in_err-value.ensures.err
+
+pub items-loop-preserved : goal.items-loop-preserved
+items-loop-preserved t c =
+    let read = definition_within c.args.left c.args.table.now c.args.definition.now in
+    rw c.in_ok-push_towards.ensures.list
+    (one_more_done dyn_of c.args.count read c.args.input.now c.loop.counter c.loop.values c.loop.rest.now
+    c.in_ok-value.value c.in_ok-value.after.now (omega arith) c.loop.invariant c.in_ok-value.ensures.ok)
+
+pub pairs-returns-in_err-pair-clause-err : goal.pairs-returns-in_err-pair-clause-err
+pairs-returns-in_err-pair-clause-err t c =
+    let read = pair_within c.args.left c.args.table.now c.args.key.now c.args.value.now in
+    passed c.from_residual.result c.in_err-pair.field-0.0 c.from_residual.ensures.1 (read c.loop.rest.now) _
+    (λ why e.
+    done_fails c.args.count read c.args.input.now c.loop.counter (map dyn_of c.loop.values) c.loop.rest.now why
+    (omega arith) c.loop.invariant e)
+    c.in_err-pair.ensures.err
+
+pub pairs-loop-preserved : goal.pairs-loop-preserved
+pairs-loop-preserved t c =
+    let read = pair_within c.args.left c.args.table.now c.args.key.now c.args.value.now in
+    rw c.in_ok-push_towards.ensures.list
+    (one_more_done dyn_of c.args.count read c.args.input.now c.loop.counter c.loop.values c.loop.rest.now
+    c.in_ok-pair.pair c.in_ok-pair.after.now (omega arith) c.loop.invariant c.in_ok-pair.ensures.ok)
+
+pub members-loop-ty-preserved : goal.members-loop-ty-preserved
+members-loop-ty-preserved t c =
+    let part = part_within c.args.left c.args.table.now in
+    let readers : List Id → List (Decoder Dyn) = λ ids. map (λ p. p.value) (map part ids) in
+    let whole = in_turn (readers c.args.types.now) c.args.input.now in
+    rw c.in_ok-push_towards.ensures.list
+    (one_more_read dyn_of whole c.loop-ty.values (part c.ty-item.result).value
+    (readers (drop (c.loop-ty.ty-index + 1) c.args.types.now)) c.loop-ty.rest.now c.in_ok-value.value
+    c.in_ok-value.after.now
+    (subst (λ ids. whole ≡ preceded (map dyn_of c.loop-ty.values) (in_turn (readers ids) c.loop-ty.rest.now))
+    (first_of c.args.types.now c.loop-ty.ty-index c.ty-item.result c.loop-ty-test.true c.ty-item.is)
+    c.loop-ty.invariant)
+    c.in_ok-value.ensures.ok)
+
+pub fields-loop-field-preserved : goal.fields-loop-field-preserved
+fields-loop-field-preserved t c =
+    let part = part_within c.args.left c.args.table.now in
+    let reader : Field → Decoder (Option Text × Dyn) = λ f. field (map_field {G = Unit {0}} part (λ t. t) f) in
+    let readers : List Field → List (Decoder (Option Text × Dyn)) =
+    λ fs. map field (map (map_field {G = Unit {0}} part (λ t. t)) fs) in
+    let whole = in_turn (readers c.args.all.now) c.args.input.now in
+    rw c.in_ok-push_towards.ensures.list
+    (one_more_read field_of whole c.loop-field.values (reader c.field-item.result)
+    (readers (drop (c.loop-field.field-index + 1) c.args.all.now)) c.loop-field.rest.now
+    (c.name_of.result, c.in_ok-value.value) c.in_ok-value.after.now
+    (subst (λ fs. whole ≡ preceded (map field_of c.loop-field.values) (in_turn (readers fs) c.loop-field.rest.now))
+    (first_of c.args.all.now c.loop-field.field-index c.field-item.result c.loop-field-test.true c.field-item.is)
+    c.loop-field.invariant)
+    (named_value c.args.left c.args.table.now c.field-item.result c.loop-field.rest.now c.name_of.result
+    c.in_ok-value.value c.in_ok-value.after.now c.name_of.ensures c.in_ok-value.ensures.ok))
+
+pub composite_value-returns-clause-ok : goal.composite_value-returns-clause-ok
+composite_value-returns-clause-ok t c =
+    composite_is c.args.left c.args.table.now c.args.composite.now c.as_slice.result.now c.args.input.now
+    c.as_slice.ensures
+    ∙ ap (λ o. outcome_map dyn.Record o) c.in_ok-values.ensures.ok
+    ∙ ap (λ v. decoded v c.in_ok-values.rest.now) (sym (record_copied c.in_ok-values.values))
+
+pub variant_value-returns-in-None-clause-err : goal.variant_value-returns-in-None-clause-err
+variant_value-returns-in-None-clause-err t c =
+    let none : find (λ v. v.index == c.in_ok-index.index) c.args.choice.now.variants ≡ None = grind (arith, common_steps) in
+    variant_missing c.args.left c.args.table.now c.args.choice.now.variants c.args.input.now c.in_ok-index.rest.now
+    c.in_ok-index.index c.in_ok-index.ensures.ok none
+
+pub variant_value-returns-in_err-fields-in-Some-clause-err : goal.variant_value-returns-in_err-fields-in-Some-clause-err
+variant_value-returns-in_err-fields-in-Some-clause-err t c =
+    let some : find (λ v. v.index == c.in_ok-index.index) c.args.choice.now.variants ≡ Some c.in-Some.variant.now =
+    grind (arith, common_steps) in
+    passed c.from_residual-in_err-fields-in-Some.result c.in_err-fields-in-Some.field-0.0
+    c.from_residual-in_err-fields-in-Some.ensures.1
+    (fields_within c.args.left c.args.table.now c.as_slice-in-Some.result.now c.in_ok-index.rest.now) _
+    (λ why e.
+    variant_found c.args.left c.args.table.now c.args.choice.now.variants c.args.input.now c.in_ok-index.rest.now
+    c.in_ok-index.index c.in-Some.variant.now c.as_slice-in-Some.result.now c.in_ok-index.ensures.ok some c.as_slice-in-Some.ensures
+    ∙ ap (λ o. outcome_map (λ values. dyn.Variant c.in-Some.variant.now.name c.in_ok-index.index values) o) e)
+    c.in_err-fields-in-Some.ensures.err
+
+pub variant_value-returns-in_ok-fields-in-Some-clause-ok : goal.variant_value-returns-in_ok-fields-in-Some-clause-ok
+variant_value-returns-in_ok-fields-in-Some-clause-ok t c =
+    let some : find (λ v. v.index == c.in_ok-index.index) c.args.choice.now.variants ≡ Some c.in-Some.variant.now =
+    grind (arith, common_steps) in
+    let fields = c.in_ok-fields-in-Some.fields in
+    variant_found c.args.left c.args.table.now c.args.choice.now.variants c.args.input.now c.in_ok-index.rest.now
+    c.in_ok-index.index c.in-Some.variant.now c.as_slice-in-Some.result.now c.in_ok-index.ensures.ok some c.as_slice-in-Some.ensures
+    ∙ ap (λ o. outcome_map (λ values. dyn.Variant c.in-Some.variant.now.name c.in_ok-index.index values) o)
+    c.in_ok-fields-in-Some.ensures.ok
+    ∙ ap (λ name. decoded (dyn.Variant name c.in_ok-index.index (map field_of fields)) c.in_ok-fields-in-Some.rest.now)
+    (sym c.as_str.ensures)
+    ∙ ap (λ v. decoded v c.in_ok-fields-in-Some.rest.now)
+    (sym (variant_copied c.as_str.result c.in_ok-index.index fields))

@@ -1,0 +1,12 @@
+use Rattle.std.proofs.Common.{length, ◌/◌, sym, ap, ◌∙◌}
+use Rattle.std.specs.Int.{byte_len}
+use Rattle.std.proofs.lemmas.List.FromFn.{length-map-range_with_len}
+use Rattle.scale_info_lent.specs.IntegerLists.{width_of, item_at}
+use Rattle.scale_info_lent.proofs.integers.Integers.len.Goals as goal
+
+pub returns : goal.returns
+returns c =
+    let list = c.args.self.now in
+    ap (λ w. length list.bytes.now / w) c.bytes.ensures
+    ∙ sym (length-map-range_with_len (item_at list.width list.signed list.bytes.now) 0
+    (length list.bytes.now / byte_len (width_of list.width)))

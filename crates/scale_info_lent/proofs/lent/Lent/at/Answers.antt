@@ -1,0 +1,65 @@
+use Rattle.std.proofs.Common.{Some, ap, sym, ◌∙◌, map, option_map, option_and_then, slice_get}
+use Rattle.std.specs.Option.{option_copied}
+use Rattle.std.proofs.lemmas.Option.{slice_get-map}
+use Rattle.scale_info_value.specs.declared.value.Dyn.TheVariants as dyn
+use Rattle.scale_info_lent.specs.IntegerLists.{integers_of}
+use Rattle.scale_info_lent.specs.LentValues.{dyn_of, value_of}
+use Rattle.scale_info_lent.proofs.Copies.{bytes_copied, integers_copied, list_copied, unsigned_copied}
+use Rattle.scale_info_lent.proofs.Parts.{item_found, no_items, lent_item}
+use Rattle.scale_info_lent.proofs.lent.Lent.at.Goals as goal
+
+pub returns-in_err-byte-in-Bytes : goal.returns-in_err-byte-in-Bytes
+returns-in_err-byte-in-Bytes c =
+    let all = c.in-Bytes.bytes.now in
+    let past = lent_item all c.args.index c.get.result c.get.ensures.lookup ∙ ap option_copied c.in_err-byte-in-Bytes.was in
+    ap (λ o. option_map value_of o) c.from_residual.ensures
+    ∙ ap (λ o. option_map dyn.Unsigned o) (sym past) ∙ sym (slice_get-map dyn.Unsigned all c.args.index)
+    ∙ item_found c.args.self.now (map dyn.Unsigned all) c.args.index
+    (ap dyn_of c.in-Bytes.is ∙ bytes_copied c.in-Bytes.bytes)
+
+pub returns-in_ok-byte-in-Bytes : goal.returns-in_ok-byte-in-Bytes
+returns-in_ok-byte-in-Bytes c =
+    let all = c.in-Bytes.bytes.now in
+    let there = lent_item all c.args.index c.get.result c.get.ensures.lookup ∙ ap option_copied c.in_ok-byte-in-Bytes.was in
+    ap (λ v. Some v) (unsigned_copied c.in_ok-byte-in-Bytes.byte.now)
+    ∙ ap (λ o. option_map dyn.Unsigned o) (sym there) ∙ sym (slice_get-map dyn.Unsigned all c.args.index)
+    ∙ item_found c.args.self.now (map dyn.Unsigned all) c.args.index
+    (ap dyn_of c.in-Bytes.is ∙ bytes_copied c.in-Bytes.bytes)
+
+pub returns-in_err-at-in-Integers : goal.returns-in_err-at-in-Integers
+returns-in_err-at-in-Integers c =
+    let list = c.in-Integers.integers in
+    ap (λ o. option_map value_of o) c.from_residual-in_err-at-in-Integers.ensures ∙ c.in_err-at-in-Integers.ensures
+    ∙ item_found c.args.self.now (integers_of list) c.args.index (ap dyn_of c.in-Integers.is ∙ integers_copied list)
+
+pub returns-in_ok-at-in-Integers : goal.returns-in_ok-at-in-Integers
+returns-in_ok-at-in-Integers c =
+    let list = c.in-Integers.integers in
+    c.in_ok-at-in-Integers.ensures
+    ∙ item_found c.args.self.now (integers_of list) c.args.index (ap dyn_of c.in-Integers.is ∙ integers_copied list)
+
+pub returns-in_err-get-in-List : goal.returns-in_err-get-in-List
+returns-in_err-get-in-List c =
+    let all = c.in-List.items in
+    let past =
+    ap (λ l. slice_get l c.args.index) (sym c.as_slice.ensures)
+    ∙ lent_item c.as_slice.result.now c.args.index c.get-in-List.result c.get-in-List.ensures.lookup
+    ∙ ap option_copied c.in_err-get-in-List.was in
+    ap (λ o. option_map value_of o) c.from_residual-in_err-get-in-List.ensures
+    ∙ ap (λ o. option_map dyn_of o) (sym past) ∙ sym (slice_get-map dyn_of all c.args.index)
+    ∙ item_found c.args.self.now (map dyn_of all) c.args.index (ap dyn_of c.in-List.is ∙ list_copied all)
+
+pub returns-in_ok-get-in-List : goal.returns-in_ok-get-in-List
+returns-in_ok-get-in-List c =
+    let all = c.in-List.items in
+    let there =
+    ap (λ l. slice_get l c.args.index) (sym c.as_slice.ensures)
+    ∙ lent_item c.as_slice.result.now c.args.index c.get-in-List.result c.get-in-List.ensures.lookup
+    ∙ ap option_copied c.in_ok-get-in-List.was in
+    ap (λ o. option_map dyn_of o) (sym there) ∙ sym (slice_get-map dyn_of all c.args.index)
+    ∙ item_found c.args.self.now (map dyn_of all) c.args.index (ap dyn_of c.in-List.is ∙ list_copied all)
+
+pub returns-in_default : goal.returns-in_default
+returns-in_default c =
+    ap (λ o. option_and_then (λ vs. slice_get vs c.args.index) o)
+    (sym (no_items c.args.self.now c.in_default.not-Bytes c.in_default.not-Integers c.in_default.not-List))

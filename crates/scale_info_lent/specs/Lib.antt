@@ -1,0 +1,3 @@
+pub mod IntegerLists
+pub mod LentValues
+pub mod ValueParts

@@ -1,0 +1,112 @@
+//! The integers of a list, in the bytes that encode them.
+ghost use Rattle.std.specs.Prelude.{◌≡◌, ◌<◌, ◌^◌, length, option_map, slice_get, Some, FitsSigned};
+ghost use Rattle.std.specs.Int.{byte_len, cast_signed, w128};
+ghost use Rattle.scale_info_lent.specs.IntegerLists.{width_of, integers_of, dyn_of_integer};
+ghost use Rattle.scale_info_lent.specs.LentValues.{dyn_of};
+
+use crate::lent::Lent;
+use scale_info_value::integer::little_endian;
+
+/// How many bytes an integer takes.
+#[derive(Clone, Copy)]
+pub enum IntegerWidth {
+    /// One byte.
+    One,
+    /// Two bytes.
+    Two,
+    /// Four bytes.
+    Four,
+    /// Eight bytes.
+    Eight,
+    /// Sixteen bytes.
+    Sixteen,
+}
+
+impl IntegerWidth {
+    /// The number of bytes.
+    pub fn bytes(self) -> usize
+        ensures { result ≡ byte_len (width_of self) }
+    {
+        match self {
+            IntegerWidth::One => 1,
+            IntegerWidth::Two => 2,
+            IntegerWidth::Four => 4,
+            IntegerWidth::Eight => 8,
+            IntegerWidth::Sixteen => 16,
+        }
+    }
+}
+
+/// The integers of a list, which are read from the input when they are asked for.
+#[derive(Clone, Copy)]
+pub struct Integers<'i> {
+    /// The bytes of all items, one item after another, each with its lowest byte first.
+    pub bytes: &'i [u8],
+    /// How many bytes an item takes.
+    pub width: IntegerWidth,
+    /// Whether an item has a sign, and is in two's complement.
+    pub signed: bool,
+}
+
+/// An integer, as it is read.
+#[derive(Clone, Copy)]
+pub(crate) enum Integer {
+    /// An integer without a sign.
+    Unsigned(u128),
+    /// An integer with a sign.
+    Signed(i128),
+}
+
+impl Integers<'_> {
+    /// The number of items.
+    pub fn len(&self) -> usize
+        ensures { result ≡ length (integers_of self.now) }
+    {
+        self.bytes.len() / self.width.bytes()
+    }
+
+    /// The item at this index, counted from 0; None past the end.
+    pub fn at<'t, 'i>(&self, index: usize) -> Option<Lent<'t, 'i>>
+        ensures { option_map dyn_of result ≡ slice_get (integers_of self.now) index }
+    {
+        if index >= self.len() {
+            return None;
+        }
+        match self.item(index) {
+            Integer::Unsigned(integer) => Some(Lent::Unsigned(integer)),
+            Integer::Signed(integer) => Some(Lent::Signed(integer)),
+        }
+    }
+
+    /// The item at this index, where there is one.
+    pub(crate) fn item(&self, index: usize) -> Integer
+        requires { index < length (integers_of self.now) }
+        ensures { slice_get (integers_of self.now) index ≡ Some (dyn_of_integer result) }
+    {
+        let all = self.bytes;
+        let width = self.width.bytes();
+        let (_, rest) = all.split_at(index * width);
+        let (bytes, _) = rest.split_at(width);
+        let integer = little_endian(bytes);
+        if self.signed {
+            Integer::Signed(with_sign(self.width, integer))
+        } else {
+            Integer::Unsigned(integer)
+        }
+    }
+}
+
+/// The integer that this one encodes in two's complement.
+fn with_sign(width: IntegerWidth, n: u128) -> i128
+    requires { n < 256 ^ byte_len (width_of width) }
+    ensures integer { result ≡ cast_signed (width_of width) n }
+    ensures range { FitsSigned w128 result }
+{
+    match width {
+        IntegerWidth::One => (n as u8).cast_signed() as i128,
+        IntegerWidth::Two => (n as u16).cast_signed() as i128,
+        IntegerWidth::Four => (n as u32).cast_signed() as i128,
+        IntegerWidth::Eight => (n as u64).cast_signed() as i128,
+        IntegerWidth::Sixteen => n.cast_signed(),
+    }
+}

@@ -1,0 +1,214 @@
+-- Events with bytes one by one do not depend on types.
+use Rattle.std.proofs.Common.{◌≡◌, ℕ, Bool, true, false, List, [], ◌∷◌, ◌++◌, length, map, Option, Some, None, option_map, refl, ap, sym, subst, ◌∙◌}
+use Rattle.std.specs.List.{flat_map}
+use Rattle.std.proofs.lemmas.List.{length-map, append-nil}
+use Rattle.std.proofs.lemmas.List.Folds.{flat_map-map}
+use Rattle.std.proofs.lemmas.Grind.{flat_map-append}
+use Rattle.scale_info_types.specs.Portable.{Text, TypeDef}
+use Rattle.scale_info_tables.specs.declared.portable.PortableRegistry.{PortableRegistry}
+use Rattle.scale_info_value.specs.declared.value.Dyn.{Dyn}
+use Rattle.scale_info_value.specs.declared.value.Dyn.TheVariants as dyn
+use Rattle.scale_info_value.specs.declared.value.Dyn.TheVariants.{rolls-List, rolls-Record, rolls-Variant}
+use Rattle.scale_info_value.specs.declared.value.Dyn.TheOpen.{Dyn-F}
+use Rattle.scale_info_value.specs.declared.value.Dyn.TheOpen as layer
+use Rattle.scale_info_value.specs.declared.value.Dyn.TheViews.{roll-Dyn}
+use Rattle.scale_info_value.specs.declared.value.Dyn.TheFolds.{fold-roll-Dyn, ind-Dyn, map-Dyn}
+use Rattle.scale_info_visit.specs.Events as all_events
+use Rattle.scale_info_visit.specs.Events.{Event, truth, unsigned, signed, text, bytes, begin_list, end_list, begin_record, end_record}
+use Rattle.scale_info_visit.specs.Events.{begin_variant, end_variant, field, keys, all_named, items_events, integers_in, list_events}
+use Rattle.scale_info_visit.specs.Events.{integers_events, one_by_one, events_step, events_of, events_by, step_by, are_bytes, part_types, in_place}
+use Rattle.scale_info_visit.specs.Visits.{placed, bracketed, value_by, field_by}
+use Rattle.scale_info_visit.proofs.Places.{length_in_place}
+use Rattle.scale_info_visit.proofs.Events.{list_typed, record_typed, variant_typed}
+
+-- all events one by one
+abbrev apart : List Event → List Event
+apart es = flat_map one_by_one es
+
+-- an item is one event of an integer
+first_integer :
+    (part : List Event) (items : List (List Event)) (all : List ℕ) → integers_in (part ∷ items) ≡ Some all
+    → (n : ℕ) × (part ≡ unsigned n ∷ []) × (option_map (λ ns. n ∷ ns) (integers_in items) ≡ Some all)
+first_integer [] items all e = cc
+first_integer (unsigned n ∷ []) items all e = (n, refl, e)
+first_integer (unsigned n ∷ f ∷ more) items all e = cc
+first_integer (truth b ∷ more) items all e = cc
+first_integer (signed n ∷ more) items all e = cc
+first_integer (text t ∷ more) items all e = cc
+first_integer (bytes b ∷ more) items all e = cc
+first_integer (begin_list n ∷ more) items all e = cc
+first_integer (end_list ∷ more) items all e = cc
+first_integer (begin_record ns ∷ more) items all e = cc
+first_integer (end_record ns ∷ more) items all e = cc
+first_integer (begin_variant t n ns ∷ more) items all e = cc
+first_integer (end_variant t n ns ∷ more) items all e = cc
+first_integer (field t b ∷ more) items all e = cc
+
+-- the others are integers too
+other_integers : (n : ℕ) (o : Option (List ℕ)) (all : List ℕ) → option_map (λ ns. n ∷ ns) o ≡ Some all → (ns : List ℕ) × (o ≡ Some ns) × (all ≡ n ∷ ns)
+other_integers n None all e = cc
+other_integers n (Some ns) all e = let p : n ∷ ns ≡ all = cc in (ns, refl, sym p)
+
+-- items that are integers
+are_integers : (items : List (List Event)) (all : List ℕ) → integers_in items ≡ Some all → items ≡ map (λ n. unsigned n ∷ []) all
+are_integers [] [] e = refl
+are_integers [] (n ∷ all) e = cc
+are_integers (part ∷ items) all e =
+    let p = first_integer part items all e in
+    let q = other_integers p.0 (integers_in items) all p.2 in
+    (λ i. p.1 i ∷ are_integers items q.0 q.1 i) ∙ ap (map (λ n. unsigned n ∷ [])) (sym q.2)
+
+-- integers in a row
+integers_flat : (all : List ℕ) → flat_map (λ e. e) (map (λ n. unsigned n ∷ []) all) ≡ map unsigned all
+integers_flat [] = refl
+integers_flat (n ∷ all) = ap (λ es. unsigned n ∷ es) (integers_flat all)
+
+-- they stay as they are
+integers_stay : (all : List ℕ) (last : List Event) → apart (map unsigned all ++ last) ≡ map unsigned all ++ apart last
+integers_stay [] last = refl
+integers_stay (n ∷ all) last = ap (λ es. unsigned n ∷ es) (integers_stay all last)
+
+-- bytes one by one are a list of integers
+bytes_apart :
+    (items : List (List Event)) (all : List ℕ) → integers_in items ≡ Some all
+    → apart (bytes all ∷ []) ≡ apart (items_events items)
+bytes_apart items all e =
+    append-nil (integers_events all)
+    ∙ ap (λ es. begin_list (length all) ∷ es) (sym (integers_stay all (end_list ∷ [])))
+    ∙ (λ i. apart (begin_list (sym (length-map all (λ n. unsigned n ∷ [])) i) ∷ sym (integers_flat all) i ++ end_list ∷ []))
+    ∙ ap (λ parts. apart (items_events parts)) (sym (are_integers items all e))
+
+-- a list one by one does not depend on whether it is of bytes
+joined_apart : (o : Option (List ℕ)) (items : List (List Event)) → integers_in items ≡ o → apart (all_events.joined o items) ≡ apart (items_events items)
+joined_apart None items e = refl
+joined_apart (Some all) items e = bytes_apart items all e
+
+list_apart : (b : Bool) (items : List (List Event)) → apart (list_events b items) ≡ apart (items_events items)
+list_apart false items = refl
+list_apart true items = joined_apart (integers_in items) items refl
+
+-- parts one by one
+placed_apart :
+    {K P : Type 0} (shows : P → Option TypeDef → List Event) (alone : P → List Event) (part : K → P)
+    → ((k : K) (t : Option TypeDef) → apart (shows (part k) t) ≡ alone (part k))
+    → (ks : List K) (types : List (Option TypeDef)) (last : List Event)
+    → apart (placed shows types (map part ks) ++ last) ≡ flat_map alone (map part ks) ++ apart last
+placed_apart shows alone part law ks types last =
+    flat_map-append one_by_one (placed shows types (map part ks)) last ∙ ap (λ es. es ++ apart last) (all ks types)
+  where
+    all : (ks : List _) (types : List (Option TypeDef)) → apart (placed shows types (map part ks)) ≡ flat_map alone (map part ks)
+    all [] types = refl
+    all (k ∷ ks) [] =
+        flat_map-append one_by_one (shows (part k) None) (placed shows [] (map part ks)) ∙ (λ i. law k None i ++ all ks [] i)
+    all (k ∷ ks) (t ∷ types) =
+        flat_map-append one_by_one (shows (part k) t) (placed shows types (map part ks)) ∙ (λ i. law k t i ++ all ks types i)
+
+module _ (table : PortableRegistry) where
+  -- a value's events one by one do not depend on what is known of its type
+  abbrev Alike : Dyn → Type 0
+  Alike d = (type : Option TypeDef) → apart (events_by table type d) ≡ events_of d
+
+  -- a value of which that is known
+  abbrev Known : Type 0
+  Known = (d : Dyn) × Alike d
+
+  -- a layer of such values
+  abbrev lower : Dyn-F Known → Dyn-F Dyn
+  lower y = map-Dyn Known Dyn (λ e. e.0) y
+
+  -- a layer with no parts
+  by_layer :
+      (x : Dyn-F Dyn) (type : Option TypeDef)
+      → apart (step_by table (map-Dyn Dyn (Option TypeDef → List Event) (value_by table) x) type)
+      ≡ events_step false (map-Dyn Dyn (List Event) events_of x)
+      → apart (events_by table type (roll-Dyn x)) ≡ events_of (roll-Dyn x)
+  by_layer x type e =
+      ap (λ h. apart (h type)) (fold-roll-Dyn (Option TypeDef → List Event) (step_by table) x)
+      ∙ e ∙ sym (fold-roll-Dyn (List Event) (events_step false) x)
+
+  -- the events of a list, with no types
+  list_plain : (vs : List Dyn) → events_of (dyn.List vs) ≡ begin_list (length vs) ∷ flat_map events_of vs ++ end_list ∷ []
+  list_plain vs =
+      ap events_of (sym (rolls-List vs)) ∙ fold-roll-Dyn (List Event) (events_step false) (layer.List vs)
+      ∙ (λ i. begin_list (length-map vs events_of i) ∷ flat_map-map (λ e. e) events_of vs i ++ end_list ∷ [])
+
+  -- a list
+  lists_alike : (ks : List Known) → Alike (dyn.List (map (λ k. k.0) ks))
+  lists_alike ks type =
+      let vs : List Dyn = map (λ k. k.0) ks in
+      let types = part_types table type 0 (length vs) in
+      ap apart (list_typed table type vs) ∙ list_apart (are_bytes table type) (in_place (value_by table) vs types)
+      ∙ ap (λ es. begin_list (length (in_place (value_by table) vs types)) ∷ es)
+      (placed_apart (value_by table) events_of (λ k. k.0) (λ k t. k.1 t) ks types (end_list ∷ []))
+      ∙ ap (λ n. begin_list n ∷ flat_map events_of vs ++ end_list ∷ []) (length_in_place (value_by table) vs types)
+      ∙ sym (list_plain vs)
+
+  -- fields with no types
+  abbrev field_plain : Bool → Option Text × Dyn → List Event
+  field_plain named f = field f.0 named ∷ events_of f.1
+
+  -- fields with the events of their values
+  abbrev plain : List (Option Text × Dyn) → List (Option Text × List Event)
+  plain fs = map (λ f. (f.0, events_of f.1)) fs
+
+  keys_plain : (fs : List (Option Text × Dyn)) → keys (plain fs) ≡ keys fs
+  keys_plain [] = refl
+  keys_plain (f ∷ fs) = ap (λ ns. f.0 ∷ ns) (keys_plain fs)
+
+  fields_plain :
+      (named : Bool) (fs : List (Option Text × Dyn))
+      → flat_map (all_events.field_events named) (plain fs) ≡ flat_map (field_plain named) fs
+  fields_plain named [] = refl
+  fields_plain named (f ∷ fs) = ap (λ es. field_plain named f ++ es) (fields_plain named fs)
+
+  -- fields between two events that have their names
+  abbrev between_names :
+      (List (Option Text) → Event) → (List (Option Text) → Event) → List (Option TypeDef) → List (Option Text × Dyn) → List Event
+  between_names first last types fs =
+      bracketed (first (keys fs)) (placed (field_by table (all_named (keys fs))) types) (last (keys fs)) fs
+
+  -- the same with no types
+  abbrev plain_between :
+      (List (Option Text) → Event) → (List (Option Text) → Event) → List (Option Text × List Event) → List Event
+  plain_between first last fs = first (keys fs) ∷ flat_map (all_events.field_events (all_named (keys fs))) fs ++ last (keys fs) ∷ []
+
+  -- one by one they do not depend on types
+  fields_alike :
+      (first last : List (Option Text) → Event) → ((ns : List (Option Text)) → one_by_one (first ns) ≡ first ns ∷ [])
+      → ((ns : List (Option Text)) → one_by_one (last ns) ≡ last ns ∷ [])
+      → (ks : List (Option Text × Known)) (types : List (Option TypeDef))
+      → apart (between_names first last types (map (λ k. (k.0, k.1.0)) ks)) ≡ plain_between first last (plain (map (λ k. (k.0, k.1.0)) ks))
+  fields_alike first last one other ks types =
+      let fs : List (Option Text × Dyn) = map (λ k. (k.0, k.1.0)) ks in
+      let named = all_named (keys fs) in
+      ap (λ es. es ++ apart (placed (field_by table named) types fs ++ last (keys fs) ∷ [])) (one (keys fs))
+      ∙ ap (λ es. first (keys fs) ∷ es)
+      (placed_apart (field_by table named) (field_plain named) (λ k. (k.0, k.1.0))
+      (λ k t. ap (λ es. field k.0 named ∷ es) (k.1.1 t)) ks types (last (keys fs) ∷ []))
+      ∙ ap (λ es. first (keys fs) ∷ flat_map (field_plain named) fs ++ (es ++ [])) (other (keys fs))
+      ∙ ap (λ es. first (keys fs) ∷ es ++ last (keys fs) ∷ []) (sym (fields_plain named fs))
+      ∙ ap (λ ns. first ns ∷ flat_map (all_events.field_events (all_named ns)) (plain fs) ++ last ns ∷ []) (sym (keys_plain fs))
+
+  -- each layer of values, whose events do not depend on types
+  layers_alike : (y : Dyn-F Known) → Alike (roll-Dyn (lower y))
+  layers_alike (layer.Bool b) type = by_layer (layer.Bool b) type refl
+  layers_alike (layer.Unsigned n) type = by_layer (layer.Unsigned n) type refl
+  layers_alike (layer.Signed n) type = by_layer (layer.Signed n) type refl
+  layers_alike (layer.Text t) type = by_layer (layer.Text t) type refl
+  layers_alike (layer.List ks) type = subst (λ d. apart (events_by table type d) ≡ events_of d) (sym (rolls-List (map (λ k. k.0) ks))) (lists_alike ks type)
+  layers_alike (layer.Record ks) type =
+      let fs : List (Option Text × Dyn) = map (λ k. (k.0, k.1.0)) ks in
+      subst (λ d. apart (events_by table type d) ≡ events_of d) (sym (rolls-Record fs))
+      (ap apart (record_typed table type fs)
+      ∙ fields_alike begin_record end_record (λ ns. refl) (λ ns. refl) ks (part_types table type 0 (length fs))
+      ∙ sym (ap events_of (sym (rolls-Record fs)) ∙ fold-roll-Dyn (List Event) (events_step false) (layer.Record fs)))
+  layers_alike (layer.Variant name index ks) type =
+      let fs : List (Option Text × Dyn) = map (λ k. (k.0, k.1.0)) ks in
+      subst (λ d. apart (events_by table type d) ≡ events_of d) (sym (rolls-Variant name index fs))
+      (ap apart (variant_typed table type name index fs)
+      ∙ fields_alike (begin_variant name index) (end_variant name index) (λ ns. refl) (λ ns. refl) ks (part_types table type index (length fs))
+      ∙ sym (ap events_of (sym (rolls-Variant name index fs)) ∙ fold-roll-Dyn (List Event) (events_step false) (layer.Variant name index fs)))
+
+  -- every value's events one by one are those without types
+  pub all_alike : (d : Dyn) → Alike d
+  all_alike = ind-Dyn Alike (λ x y joined. subst (λ z. Alike (roll-Dyn z)) joined (layers_alike y))

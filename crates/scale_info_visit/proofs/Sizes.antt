@@ -1,0 +1,181 @@
+-- A value's events are of as many values as it is.
+use Rattle.std.proofs.Common.{◌≡◌, ◌+◌, ◌≤◌, ◌<◌, ℕ, Bool, false, List, [], ◌∷◌, ◌++◌, length, map, Option, refl, ap, sym, subst, ◌∙◌, append_assoc, arith}
+use Rattle.std.specs.List.{flat_map, sum, sum_by}
+use Rattle.std.proofs.lemmas.List.Sums.{sum_by-append}
+use Rattle.scale_info_types.specs.Portable.{Text}
+use Rattle.scale_info_tables.specs.declared.portable.PortableRegistry.{PortableRegistry}
+use Rattle.scale_info_value.specs.Outcomes.{Outcome, decoded}
+use Rattle.scale_info_value.specs.declared.value.Dyn.{Dyn}
+use Rattle.scale_info_value.specs.declared.value.Dyn.TheOpen.{Dyn-F}
+use Rattle.scale_info_value.specs.declared.value.Dyn.TheOpen as layer
+use Rattle.scale_info_value.specs.declared.value.Dyn.TheViews.{roll-Dyn}
+use Rattle.scale_info_value.specs.declared.value.Dyn.TheFolds.{fold-roll-Dyn, ind-Dyn, map-Dyn}
+use Rattle.scale_info_visit.specs.Events.{Event, truth, unsigned, signed, text, bytes, begin_list, end_list, begin_record, end_record}
+use Rattle.scale_info_visit.specs.Events.{begin_variant, end_variant, field, field_events, keys, all_named, one_by_one, events_step, events_of, events, definition_at}
+use Rattle.scale_info_visit.specs.Sizes.{size_step, size, values, values_in}
+use Rattle.scale_info_visit.specs.Visits.{BeginsWith, HasStopped, IsVisitErrorOf}
+use Rattle.scale_info_visit.specs.declared.visitor.VisitError.{VisitError}
+use Rattle.scale_info_visit.specs.declared.visitor.VisitError.TheVariants as error
+use Rattle.scale_info_visit.proofs.OneByOne.{all_alike}
+use Rattle.scale_info_visit.proofs.Visiting.{same_value}
+
+-- a sum by its first
+sum_more : {X : Type 0} (f : X → ℕ) (x : X) (xs : List X) → sum_by f (x ∷ xs) ≡ f x + sum_by f xs
+sum_more f x xs = let both = sum_by-append f (x ∷ []) xs in let one : sum_by f (x ∷ []) ≡ f x = omega arith in omega arith
+
+-- integers in a row are so many values
+integers_many : (all : List ℕ) → values_in (map unsigned all ++ end_list ∷ []) ≡ length all
+integers_many [] = refl
+integers_many (n ∷ all) =
+    let rest = integers_many all in
+    let more = sum_more values (unsigned n) (map unsigned all ++ end_list ∷ []) in
+    omega arith
+
+-- an event one by one is of as many values
+one_apart : (e : Event) → values e ≡ values_in (one_by_one e)
+one_apart (truth b) = refl
+one_apart (unsigned n) = refl
+one_apart (signed n) = refl
+one_apart (text t) = refl
+one_apart (bytes b) =
+    let many = integers_many b in
+    let more = sum_more values (begin_list (length b)) (map unsigned b ++ end_list ∷ []) in
+    omega arith
+one_apart (begin_list n) = refl
+one_apart end_list = refl
+one_apart (begin_record ns) = refl
+one_apart (end_record ns) = refl
+one_apart (begin_variant t n ns) = refl
+one_apart (end_variant t n ns) = refl
+one_apart (field t b) = refl
+
+-- so are all
+all_apart : (es : List Event) → values_in es ≡ values_in (flat_map one_by_one es)
+all_apart [] = refl
+all_apart (e ∷ es) =
+    let here = one_apart e in
+    let rest = all_apart es in
+    let more = sum_more values e es in
+    let both = sum_by-append values (one_by_one e) (flat_map one_by_one es) in
+    omega arith
+
+-- its events are of as many values as it is
+abbrev Counted : Dyn → Type 0
+Counted d = values_in (events_of d) ≡ size d
+
+-- a value of which that is known
+abbrev Known : Type 0
+Known = (d : Dyn) × Counted d
+
+-- a layer of such values
+abbrev lower : Dyn-F Known → Dyn-F Dyn
+lower y = map-Dyn Known Dyn (λ e. e.0) y
+
+-- parts in a row are of as many values as all of them
+items_many :
+    (ks : List Known) (last : Event) → values last ≡ 0
+    → values_in (flat_map (λ e. e) (map events_of (map (λ (h : Known). h.0) ks)) ++ last ∷ []) ≡ sum (map size (map (λ (h : Known). h.0) ks))
+items_many [] last none = omega arith
+items_many (k ∷ ks) last none =
+    let here = k.1 in
+    let rest = items_many ks last none in
+    let others : List Event = flat_map (λ e. e) (map events_of (map (λ (h : Known). h.0) ks)) in
+    let both =
+    ap values_in (append_assoc (events_of k.0) others (last ∷ [])) ∙ sum_by-append values (events_of k.0) (others ++ last ∷ []) in
+    let more = sum_more (λ n. n) (size k.0) (map size (map (λ (h : Known). h.0) ks)) in
+    omega arith
+
+-- fields of such values
+abbrev fields_of : List (Option Text × Known) → List (Option Text × Dyn)
+fields_of ks = map (λ (k : Option Text × Known). (k.0, k.1.0)) ks
+
+-- they with their events
+abbrev plain_fields : List (Option Text × Known) → List (Option Text × List Event)
+plain_fields ks = map (λ (f : Option Text × Dyn). (f.0, events_of f.1)) (fields_of ks)
+
+-- the events of fields
+abbrev shown_fields : Bool → List (Option Text × Known) → List Event
+shown_fields named ks = flat_map (field_events named) (plain_fields ks)
+
+-- so are fields
+fields_many :
+    (named : Bool) (ks : List (Option Text × Known)) (last : Event) → values last ≡ 0
+    → values_in (shown_fields named ks ++ last ∷ [])
+    ≡ sum_by (λ (f : Option Text × ℕ). f.1) (map (λ (f : Option Text × Dyn). (f.0, size f.1)) (fields_of ks))
+fields_many named [] last none = omega arith
+fields_many named (k ∷ ks) last none =
+    let here = k.1.1 in
+    let rest = fields_many named ks last none in
+    let name = sum_more values (field k.0 named) (events_of k.1.0 ++ (shown_fields named ks ++ last ∷ [])) in
+    let both =
+    ap (λ es. values_in (field k.0 named ∷ es)) (append_assoc (events_of k.1.0) (shown_fields named ks) (last ∷ [])) in
+    let parts = sum_by-append values (events_of k.1.0) (shown_fields named ks ++ last ∷ []) in
+    let more =
+    sum_more (λ (f : Option Text × ℕ). f.1) (k.0, size k.1.0) (map (λ (f : Option Text × Dyn). (f.0, size f.1)) (fields_of ks)) in
+    omega arith
+
+-- what begins with one value
+begins_with :
+    (first : Event) (es : List Event) (n : ℕ) → values first ≡ 1 → values_in es ≡ n → values_in (first ∷ es) ≡ 1 + n
+begins_with first es n one many = let more = sum_more values first es in omega arith
+
+-- one step of a layer
+step_counted :
+    (y : Dyn-F Known)
+    → values_in (events_step false (map-Dyn Dyn (List Event) events_of (lower y))) ≡ size_step (map-Dyn Dyn ℕ size (lower y))
+step_counted (layer.Bool b) = refl
+step_counted (layer.Unsigned n) = refl
+step_counted (layer.Signed n) = refl
+step_counted (layer.Text t) = refl
+step_counted (layer.List ks) =
+    let items : List (List Event) = map events_of (map (λ (h : Known). h.0) ks) in
+    begins_with (begin_list (length items)) (flat_map (λ e. e) items ++ end_list ∷ []) _ refl (items_many ks end_list refl)
+step_counted (layer.Record ks) =
+    let names = keys (plain_fields ks) in
+    begins_with (begin_record names) (shown_fields (all_named names) ks ++ end_record names ∷ []) _ refl
+    (fields_many (all_named names) ks (end_record names) refl)
+step_counted (layer.Variant name index ks) =
+    let names = keys (plain_fields ks) in
+    begins_with (begin_variant name index names) (shown_fields (all_named names) ks ++ end_variant name index names ∷ []) _ refl
+    (fields_many (all_named names) ks (end_variant name index names) refl)
+
+-- each layer
+layers_counted : (y : Dyn-F Known) → Counted (roll-Dyn (lower y))
+layers_counted y =
+    ap values_in (fold-roll-Dyn (List Event) (events_step false) (lower y)) ∙ step_counted y
+    ∙ sym (fold-roll-Dyn ℕ size_step (lower y))
+
+-- the events of a value are of as many values as it is
+pub events_many : (table : PortableRegistry) (id : ℕ) (value : Dyn) → values_in (events table id value) ≡ size value
+events_many table id value =
+    all_apart (events table id value) ∙ ap values_in (all_alike table value (definition_at table id))
+    ∙ ind-Dyn Counted (λ x y joined. subst (λ z. Counted (roll-Dyn z)) joined (layers_counted y)) value
+
+-- a value that was shown is of as many values as its events, which are so many
+pub fits :
+    (table : PortableRegistry) (id left limit : ℕ) (outcome : Outcome Dyn) (shown value : Dyn) (rest other : List ℕ)
+    → outcome ≡ decoded shown rest → left + values_in (events table id shown) ≡ limit
+    → outcome ≡ decoded value other → size value ≤ limit
+fits table id left limit outcome shown value rest other e h f =
+    let same = ap size (same_value outcome value shown other rest f e) in
+    let many = events_many table id shown in
+    omega arith
+
+-- a value whose first events are of more values than the limit is larger
+pub larger :
+    (table : PortableRegistry) (id limit : ℕ) (value : Dyn) (first : List Event)
+    → limit < values_in first → BeginsWith (events table id value) first → limit < size value
+larger table id limit value first h begins =
+    let many = events_many table id value in
+    let parts = ap values_in begins.parts ∙ sum_by-append values first begins.rest in
+    omega arith
+
+-- the visitor stopped with this error
+pub stopped_with :
+    {A V E : Type 0} (Visited : List Event → V → V → Type 0) (Stopped : List Event → V → E → V → Type 0)
+    (events : A → List Event) (outcome : Outcome A) (old new : V) (e : VisitError E) (why is : E)
+    → e ≡ error.Stopped why → why ≡ is → IsVisitErrorOf Visited Stopped events outcome old new e
+    → HasStopped Stopped events outcome old is new
+stopped_with Visited Stopped events outcome old new e why is f g h =
+    subst (λ w. HasStopped Stopped events outcome old w new) g
+    (subst (λ d. IsVisitErrorOf Visited Stopped events outcome old new d) f h)

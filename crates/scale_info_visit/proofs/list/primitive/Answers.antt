@@ -1,0 +1,18 @@
+use Rattle.std.proofs.Common.{refl}
+use Rattle.scale_info_value.specs.PrimitiveValues.{dyn_of}
+use Rattle.scale_info_visit.specs.Events.{events_of}
+use Rattle.scale_info_visit.proofs.Visiting.{whole_next, failure_passed, refusal_passed}
+use Rattle.scale_info_visit.proofs.list.primitive.Goals as goal
+
+pub returns-in_err-value-clause-err : goal.returns-in_err-value-clause-err
+returns-in_err-value-clause-err g c =
+    failure_passed _ _ _ c.from_residual.result c.in_err-value.field-0.0 (g.met.V.ValueVisitor.visited_none c.args.visitor.now)
+    c.from_residual.ensures.1 c.in_err-value.ensures.err
+
+pub returns-in_err-shown-clause-err : goal.returns-in_err-shown-clause-err
+returns-in_err-shown-clause-err g c =
+    refusal_passed _ c.from_residual-in_err-shown.result c.in_err-shown.field-0.0 c.show.result
+    g.met.V.ValueVisitor.visited_append g.met.V.ValueVisitor.stopped_later c.from_residual-in_err-shown.ensures.1
+    (whole_next (dyn_of c.in_ok-value.value) (events_of (dyn_of c.in_ok-value.value))
+    (g.met.V.ValueVisitor.visited_none c.args.visitor.now) c.in_ok-value.ensures.ok refl)
+    c.in_err-shown.ensures.err c.show.ensures.err
