@@ -1,14 +1,12 @@
-//! Values that are decoded by a table, lent, and written as text.
+//! Values that are decoded by a table, and written as text.
 use example_callers::print::print_decoded;
 use scale_info::PortableRegistry;
-use scale_info::lent::decode_lent;
 use scale_info::value::{Dyn, ValueError, decode_value};
 use scale_info::value_text::{ValueTextError, append_value_json, value_json};
 use std::alloc::Global;
 use std::test::Fail;
 use test_common::held::Held;
 use test_common::rows::{parted, row_bytes};
-use test_memory_common::answers;
 use test_memory_common::answers::{Answer, done, failed, shown};
 use test_memory_common::inputs::{output, table_of};
 use test_memory_common::marks::{begin, end};
@@ -87,46 +85,6 @@ pub fn decode(rt: &HostRuntime, row: &str) -> Result<Outcome, Fail> {
     Outcome::of(Ok(answer))
 }
 
-/// Decodes the value of a row as one that borrows, and says whether its copy is the value that is
-/// decoded.
-pub fn decode_and_lend(rt: &HostRuntime, row: &str) -> Result<Outcome, Fail> {
-    let (id, input, table) = parts(rt.alloc(), row)?;
-    let table = Held(table);
-    begin(rt);
-    let returned = decode_lent(rt.alloc(), &table.0, id, &input);
-    end(rt);
-    let answer = match returned {
-        Ok((lent, rest)) => {
-            let lent = Held(lent);
-            let copy = Held(lent.0.to_dyn(rt.alloc())?);
-            let same = is_decoded_again(rt.alloc(), &table.0, id, &input, &copy.0)?;
-            done(format!(in rt.alloc(); "{same} {rest:?}"))
-        }
-        Err(error) => failed(rt.alloc(), &error),
-    };
-    Outcome::of(answer)
-}
-
-/// Copies a value that borrows, and says whether the copy is the value that is decoded.
-pub fn copy_lent(rt: &HostRuntime, row: &str) -> Result<Outcome, Fail> {
-    let (id, input, table) = parts(rt.alloc(), row)?;
-    let table = Held(table);
-    let (lent, _) = decode_lent(rt.alloc(), &table.0, id, &input)?;
-    let lent = Held(lent);
-    begin(rt);
-    let returned = lent.0.to_dyn(rt.alloc());
-    end(rt);
-    let answer = match returned {
-        Ok(copy) => {
-            let copy = Held(copy);
-            let same = is_decoded_again(rt.alloc(), &table.0, id, &input, &copy.0)?;
-            done(format!(in rt.alloc(); "{same}"))
-        }
-        Err(error) => failed(rt.alloc(), &error),
-    };
-    Outcome::of(answer)
-}
-
 /// Appends the text of the value of a row to one byte.
 pub fn append_text(rt: &HostRuntime, row: &str) -> Result<Outcome, Fail> {
     let (id, input, table) = parts(rt.alloc(), row)?;
@@ -148,7 +106,8 @@ pub fn text(rt: &HostRuntime, row: &str) -> Result<Outcome, Fail> {
     let returned = value_json(rt.alloc(), &table.0, id, &input);
     end(rt);
     Outcome::of(match returned {
+        Ok(text) => done(Ok(text)),
         Err(ValueTextError::Value(error)) => failed(rt.alloc(), &error),
-        other => answers::printed(rt.alloc(), other),
+        Err(error) => failed(rt.alloc(), &error),
     })
 }
