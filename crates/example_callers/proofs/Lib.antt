@@ -1,2 +1,3 @@
 mod KeepAll
 mod Resolved
+mod Moved

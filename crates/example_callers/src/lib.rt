@@ -13,4 +13,5 @@ pub mod pruned;
 pub mod pruning;
 pub mod register;
 pub mod temperature;
+pub mod transfers;
 pub mod written;

@@ -76,7 +76,10 @@ pub use Rattle.scale_info_value.specs.Readings
 pub use Rattle.scale_info_value.specs.Outcomes
 pub use Rattle.scale_info_value.specs.ValueDefinitions
 pub use Rattle.scale_info_value.specs.IntegerDecoders
+pub use Rattle.scale_info_value.specs.IntegerWidths
 pub use Rattle.scale_info_value.specs.ValueExamples
+pub use Rattle.scale_info_visit.specs.declared.visitor.VisitError.TheVariants as VisitErrors
+pub use Rattle.scale_info_visit.specs.EachEvent
 pub use Rattle.scale_info_visit.specs.Events
 pub use Rattle.scale_info_visit.specs.Sizes
 pub use Rattle.scale_info_visit.specs.Visits

@@ -1,6 +1,7 @@
 //! Values shown to a visitor as they are decoded, and skipped.
 
 pub use scale_info_value::value::Failure;
+pub use scale_info_visit::event::{EventVisitor, ValueEvent, visit_events};
 pub use scale_info_visit::skip::skip_value;
 pub use scale_info_visit::visit::visit_value;
 pub use scale_info_visit::visitor::{ValueVisitor, VisitError};

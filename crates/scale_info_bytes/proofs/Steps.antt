@@ -21,6 +21,12 @@ appends_both {P} {Q} {a} p q = record {
 
 -- ---- reading
 
+-- a prefix that is a P is one that is a Q, where each P is a Q
+pub prefix_map :
+    {P Q : List ℕ → Type 0} {a c : List ℕ} → ((b : List ℕ) → P b → Q b) → HasPrefix P a c
+    → HasPrefix Q a c
+prefix_map f p = record { encoding = p.encoding; encodes = f p.encoding p.encodes; parts = p.parts }
+
 -- a prefix, and then a prefix of the rest, make a prefix that is their concatenation
 pub prefix_both :
     {P Q : List ℕ → Type 0} {a b c : List ℕ} → HasPrefix P a b → HasPrefix Q b c
@@ -71,9 +77,7 @@ module _ {A B : Type 0} {S : A → List ℕ → Type 0} {R : B → List ℕ → 
   pub prefix_pair :
       {a b c : List ℕ} → HasPrefix (S v.0) a b → HasPrefix (R v.1) b c
       → HasPrefix (EncodesPair S R v) a c
-  prefix_pair p q =
-      let h = prefix_both p q in
-      record { encoding = h.encoding; encodes = record { both = h.encodes }; parts = h.parts }
+  prefix_pair p q = prefix_map (λ b e. record { both = e }) (prefix_both p q)
 
   -- a pair whose first value has no encoding has none
   pub no_first_part : HasNoEncoding (S v.0) → HasNoEncoding (EncodesPair S R v)
@@ -87,7 +91,7 @@ module _ {A B : Type 0} {S : A → List ℕ → Type 0} {R : B → List ℕ → 
   open_prefix :
       {v : A × B} {a c : List ℕ} → HasPrefix (EncodesPair S R v) a c
       → HasPrefix (IsConcatenation (S v.0) (R v.1)) a c
-  open_prefix p = record { encoding = p.encoding; encodes = p.encodes.both; parts = p.parts }
+  open_prefix p = prefix_map (λ b e. e.both) p
 
   -- an input that begins with no first value begins with no pair
   pub no_prefix_first : {a : List ℕ} → HasNoPrefix S a → HasNoPrefix (EncodesPair S R) a

@@ -2,123 +2,100 @@
 use Rattle.std.proofs.Common.{◌≡◌, ℕ, ◌≤◌, ◌<◌, lit<, List, ◌∷◌, Result, Ok, Err, refl, sym, ap}
 use Rattle.std.proofs.Common.{subst, ◌∙◌, arith}
 use Rattle.std.specs.Prelude.{OnOk, IfErr}
+use Rattle.scale_info_types.specs.Orders.{definition_index}
 use Rattle.scale_info_types.specs.Portable as portable
 use Rattle.scale_info_types.specs.declared.ty.TypeDef.TheVariants as def
-use Rattle.scale_info_primitives.specs.declared.primitive.TypeDefPrimitive.{TypeDefPrimitive}
 use Rattle.scale_info_bytes.specs.declared.error.EncodeError.{EncodeError}
 use Rattle.scale_info_bytes.specs.Encodings.{AppendsEncoding, HasPrefix, HasNoPrefix, HasNoEncoding}
 use Rattle.scale_info_bytes.specs.Encodings.{IfTooLong}
-use Rattle.scale_info_bytes.specs.Integers.{EncodesU32}
-use Rattle.scale_info_bytes.specs.Parts.{HasIndex, EncodesPair, EncodesList}
-use Rattle.scale_info_grammar.specs.Ty.{EncodesId, EncodesField, EncodesVariant, EncodesPrimitive}
-use Rattle.scale_info_grammar.specs.Ty.{array_parts, bit_sequence_parts, map_parts}
+use Rattle.scale_info_bytes.specs.Parts.{HasIndex}
+use Rattle.scale_info_grammar.specs.Ty.{EncodesComposite, EncodesVariants, EncodesSequence}
+use Rattle.scale_info_grammar.specs.Ty.{EncodesArray, EncodesTuple, EncodesPrimitive}
+use Rattle.scale_info_grammar.specs.Ty.{EncodesCompactType, EncodesBitSequence, EncodesMap}
 use Rattle.scale_info_grammar.specs.Ty.{EncodesTypeDefWithIndex, composite, variant, sequence}
 use Rattle.scale_info_grammar.specs.Ty.{array}
 use Rattle.scale_info_grammar.specs.Ty.{tuple, primitive, compact, bit_sequence, map}
 use Rattle.scale_info_grammar.specs.Ty.{EncodesTypeDef}
 use Rattle.scale_info_bytes.proofs.Errors.{too_long_on}
 use Rattle.scale_info_bytes.proofs.Index.{BeginsWith, prefix_past_index, after}
+use Rattle.scale_info_bytes.proofs.Steps.{prefix_map}
 
--- after its index, a composite is encoded as the list of its fields
-pub inside_composite :
-    (d : portable.TypeDefComposite) (i : ℕ) (b : List ℕ)
-    → EncodesTypeDefWithIndex i (def.Composite d) b → EncodesList EncodesField d.fields b
-inside_composite d i b (composite p) = p
+-- after its index, the bytes encode what a definition holds
+abbrev pub EncodesParts : portable.TypeDef → List ℕ → Type 0
+EncodesParts (def.Composite d) b = EncodesComposite d b
+EncodesParts (def.Variant d) b = EncodesVariants d b
+EncodesParts (def.Sequence d) b = EncodesSequence d b
+EncodesParts (def.Array d) b = EncodesArray d b
+EncodesParts (def.Tuple d) b = EncodesTuple d b
+EncodesParts (def.Primitive d) b = EncodesPrimitive d b
+EncodesParts (def.Compact d) b = EncodesCompactType d b
+EncodesParts (def.BitSequence d) b = EncodesBitSequence d b
+EncodesParts (def.Map d) b = EncodesMap d b
 
--- after its index, a definition by variants is encoded as the list of its variants
-pub inside_variant :
-    (d : portable.TypeDefVariant) (i : ℕ) (b : List ℕ) → EncodesTypeDefWithIndex i (def.Variant d) b
-    → EncodesList EncodesVariant d.variants b
-inside_variant d i b (variant p) = p
+-- what a definition holds, encoded after its index, is the definition
+with_index :
+    (v : portable.TypeDef) (b : List ℕ) → EncodesParts v b
+    → EncodesTypeDefWithIndex (definition_index v) v b
+with_index (def.Composite d) b p = composite p
+with_index (def.Variant d) b p = variant p
+with_index (def.Sequence d) b p = sequence p
+with_index (def.Array d) b p = array p
+with_index (def.Tuple d) b p = tuple p
+with_index (def.Primitive d) b p = primitive p
+with_index (def.Compact d) b p = compact p
+with_index (def.BitSequence d) b p = bit_sequence p
+with_index (def.Map d) b p = map p
 
--- after its index, a sequence is encoded as the id of its element
-pub inside_sequence :
-    (d : portable.TypeDefSequence) (i : ℕ) (b : List ℕ)
-    → EncodesTypeDefWithIndex i (def.Sequence d) b → EncodesId d.type_param b
-inside_sequence d i b (sequence p) = p
-
--- after its index, an array is encoded as its length and the id of its element
-pub inside_array :
-    (d : portable.TypeDefArray) (i : ℕ) (b : List ℕ) → EncodesTypeDefWithIndex i (def.Array d) b
-    → EncodesPair EncodesU32 EncodesId (array_parts d) b
-inside_array d i b (array p) = p
-
--- after its index, a tuple is encoded as the list of its ids
-pub inside_tuple :
-    (d : portable.TypeDefTuple) (i : ℕ) (b : List ℕ) → EncodesTypeDefWithIndex i (def.Tuple d) b
-    → EncodesList EncodesId d.fields b
-inside_tuple d i b (tuple p) = p
-
--- after its index, a primitive is encoded as its byte
-pub inside_primitive :
-    (d : TypeDefPrimitive) (i : ℕ) (b : List ℕ) → EncodesTypeDefWithIndex i (def.Primitive d) b
-    → EncodesPrimitive d b
-inside_primitive d i b (primitive p) = p
-
--- after its index, a compact is encoded as the id of its inner type
-pub inside_compact :
-    (d : portable.TypeDefCompact) (i : ℕ) (b : List ℕ) → EncodesTypeDefWithIndex i (def.Compact d) b
-    → EncodesId d.type_param b
-inside_compact d i b (compact p) = p
-
--- after its index, a bit sequence is encoded as the ids of its store and its order
-pub inside_bit_sequence :
-    (d : portable.TypeDefBitSequence) (i : ℕ) (b : List ℕ)
-    → EncodesTypeDefWithIndex i (def.BitSequence d) b
-    → EncodesPair EncodesId EncodesId (bit_sequence_parts d) b
-inside_bit_sequence d i b (bit_sequence p) = p
-
--- after its index, a map is encoded as the ids of its key and its value
-pub inside_map :
-    (d : portable.TypeDefMap) (i : ℕ) (b : List ℕ) → EncodesTypeDefWithIndex i (def.Map d) b
-    → EncodesPair EncodesId EncodesId (map_parts d) b
-inside_map d i b (map p) = p
+-- a definition holds what is encoded after its index
+inside :
+    (i : ℕ) (v : portable.TypeDef) (b : List ℕ) → EncodesTypeDefWithIndex i v b → EncodesParts v b
+inside i v b (composite p) = p
+inside i v b (variant p) = p
+inside i v b (sequence p) = p
+inside i v b (array p) = p
+inside i v b (tuple p) = p
+inside i v b (primitive p) = p
+inside i v b (compact p) = p
+inside i v b (bit_sequence p) = p
+inside i v b (map p) = p
 
 -- the definition w, which is v, was written
 pub appends_definition :
-    {i : ℕ} {v w : portable.TypeDef} (P : List ℕ → Type 0) (old new : List ℕ)
-    (r : Result (Unit {0}) EncodeError)
-    → w ≡ v → ((b : List ℕ) → P b → EncodesTypeDefWithIndex i v b)
-    → OnOk r (AppendsEncoding (HasIndex i P) old new)
+    {v w : portable.TypeDef} (old new : List ℕ) (r : Result (Unit {0}) EncodeError) → w ≡ v
+    → OnOk r (AppendsEncoding (HasIndex (definition_index v) (EncodesParts v)) old new)
     → OnOk r (AppendsEncoding (EncodesTypeDef w) old new)
-appends_definition {i} P old new (Ok u) e f p =
+appends_definition {v} old new (Ok u) e p =
     subst (λ t. AppendsEncoding (EncodesTypeDef t) old new) (sym e) (record {
       encoding = p.encoding;
       encodes = record {
-        index = i;
+        index = definition_index v;
         indexed = record {
           rest = p.encodes.rest;
-          encodes_rest = f p.encodes.rest p.encodes.encodes_rest;
+          encodes_rest = with_index v p.encodes.rest p.encodes.encodes_rest;
           parts = p.encodes.parts;
         };
       };
       parts = p.parts;
     })
-appends_definition P old new (Err e) i f p = tt
+appends_definition old new (Err d) e p = tt
 
 -- a definition whose parts have no encoding has none
 pub too_long_definition :
-    {v w : portable.TypeDef} (P : List ℕ → Type 0) (r : Result (Unit {0}) EncodeError) → w ≡ v
-    → ((i : ℕ) (b : List ℕ) → EncodesTypeDefWithIndex i v b → P b)
-    → IfErr r (IfTooLong (HasNoEncoding P)) → IfErr r (IfTooLong (HasNoEncoding (EncodesTypeDef w)))
-too_long_definition P (Ok u) e f p = tt
-too_long_definition P (Err d) e f p =
+    {v w : portable.TypeDef} (r : Result (Unit {0}) EncodeError) → w ≡ v
+    → IfErr r (IfTooLong (HasNoEncoding (EncodesParts v)))
+    → IfErr r (IfTooLong (HasNoEncoding (EncodesTypeDef w)))
+too_long_definition (Ok u) e p = tt
+too_long_definition {v} (Err d) e p =
     subst (λ t. IfTooLong (HasNoEncoding (EncodesTypeDef t)) d) (sym e)
     (too_long_on d
     (λ n.
     record {
       none = λ text q.
-          n.none q.indexed.rest (f q.index q.indexed.rest q.indexed.encodes_rest);
+          n.none q.indexed.rest (inside q.index v q.indexed.rest q.indexed.encodes_rest);
     })
     p)
 
 -- ---- reading
-
--- a prefix that is a P is one that is a Q, where each P is a Q
-pub prefix_map :
-    {P Q : List ℕ → Type 0} {a c : List ℕ} → ((b : List ℕ) → P b → Q b) → HasPrefix P a c
-    → HasPrefix Q a c
-prefix_map f p = record { encoding = p.encoding; encodes = f p.encoding p.encodes; parts = p.parts }
 
 -- the bytes encode some value
 pub record EncodesSome {A : Type 0} (S : A → List ℕ → Type 0) (b : List ℕ) : Type 0 where
@@ -153,62 +130,60 @@ no_definition i a l = record {
   none = λ v rest p. let h = below_nine i v p.encoding p.encodes in omega arith;
 }
 
--- what is encoded after the index 0 is a composite
-pub at_composite :
-    (v : portable.TypeDef) (b : List ℕ) → EncodesTypeDefWithIndex 0 v b
-    → EncodesSome {A = portable.TypeDefComposite} (λ d c. EncodesList EncodesField d.fields c) b
+-- what is encoded after this index is a value that S encodes
+abbrev Holds : {A : Type 0} → ℕ → (A → List ℕ → Type 0) → Type 0
+Holds i S = (v : portable.TypeDef) (b : List ℕ) → EncodesTypeDefWithIndex i v b → EncodesSome S b
+
+-- what is encoded after each index
+
+-- the bytes of a composite
+pub at_composite : Holds 0 EncodesComposite
 at_composite v b (composite {d} p) = record { value = d; encodes = p }
 
--- what is encoded after the index 1 is a definition by variants
-pub at_variant :
-    (v : portable.TypeDef) (b : List ℕ) → EncodesTypeDefWithIndex 1 v b
-    → EncodesSome {A = portable.TypeDefVariant} (λ d c. EncodesList EncodesVariant d.variants c) b
+-- the bytes of an enum
+pub at_variant : Holds 1 EncodesVariants
 at_variant v b (variant {d} p) = record { value = d; encodes = p }
 
--- what is encoded after the index 2 is a sequence
-pub at_sequence :
-    (v : portable.TypeDef) (b : List ℕ) → EncodesTypeDefWithIndex 2 v b
-    → EncodesSome {A = portable.TypeDefSequence} (λ d c. EncodesId d.type_param c) b
+-- the bytes of a sequence
+pub at_sequence : Holds 2 EncodesSequence
 at_sequence v b (sequence {d} p) = record { value = d; encodes = p }
 
--- what is encoded after the index 3 is an array
-pub at_array :
-    (v : portable.TypeDef) (b : List ℕ) → EncodesTypeDefWithIndex 3 v b
-    → EncodesSome {A = portable.TypeDefArray}
-    (λ d c. EncodesPair EncodesU32 EncodesId (array_parts d) c) b
+-- the bytes of an array
+pub at_array : Holds 3 EncodesArray
 at_array v b (array {d} p) = record { value = d; encodes = p }
 
--- what is encoded after the index 4 is a tuple
-pub at_tuple :
-    (v : portable.TypeDef) (b : List ℕ) → EncodesTypeDefWithIndex 4 v b
-    → EncodesSome {A = portable.TypeDefTuple} (λ d c. EncodesList EncodesId d.fields c) b
+-- the bytes of a tuple
+pub at_tuple : Holds 4 EncodesTuple
 at_tuple v b (tuple {d} p) = record { value = d; encodes = p }
 
--- what is encoded after the index 5 is a primitive
-pub at_primitive :
-    (v : portable.TypeDef) (b : List ℕ) → EncodesTypeDefWithIndex 5 v b
-    → EncodesSome EncodesPrimitive b
+-- the bytes of a primitive
+pub at_primitive : Holds 5 EncodesPrimitive
 at_primitive v b (primitive {p = d} p) = record { value = d; encodes = p }
 
--- what is encoded after the index 6 is a compact
-pub at_compact :
-    (v : portable.TypeDef) (b : List ℕ) → EncodesTypeDefWithIndex 6 v b
-    → EncodesSome {A = portable.TypeDefCompact} (λ d c. EncodesId d.type_param c) b
+-- the bytes of a compact integer
+pub at_compact : Holds 6 EncodesCompactType
 at_compact v b (compact {d} p) = record { value = d; encodes = p }
 
--- what is encoded after the index 7 is a bit sequence
-pub at_bit_sequence :
-    (v : portable.TypeDef) (b : List ℕ) → EncodesTypeDefWithIndex 7 v b
-    → EncodesSome {A = portable.TypeDefBitSequence}
-    (λ d c. EncodesPair EncodesId EncodesId (bit_sequence_parts d) c) b
+-- the bytes of a bit sequence
+pub at_bit_sequence : Holds 7 EncodesBitSequence
 at_bit_sequence v b (bit_sequence {d} p) = record { value = d; encodes = p }
 
--- what is encoded after the index 8 is a map
-pub at_map :
-    (v : portable.TypeDef) (b : List ℕ) → EncodesTypeDefWithIndex 8 v b
-    → EncodesSome {A = portable.TypeDefMap} (λ d c. EncodesPair EncodesId EncodesId (map_parts d) c)
-    b
+-- the bytes of a map
+pub at_map : Holds 8 EncodesMap
 at_map v b (map {d} p) = record { value = d; encodes = p }
+
+-- what a definition holds, encoded after its index, is the definition
+pub encodes_at :
+    {v : portable.TypeDef} {b : List ℕ} (i : ℕ) → i ≡ definition_index v → EncodesParts v b
+    → EncodesTypeDefWithIndex i v b
+encodes_at {v} {b} i e p =
+    subst (λ n. EncodesTypeDefWithIndex n v b) (sym e) (with_index v b p)
+
+-- an input that begins with what a definition holds begins with the definition, after its index
+pub prefix_parts :
+    {v : portable.TypeDef} {a c : List ℕ} (i : ℕ) → i ≡ definition_index v
+    → HasPrefix (EncodesParts v) a c → HasPrefix (EncodesTypeDefWithIndex i v) a c
+prefix_parts i e p = prefix_map (λ b q. encodes_at i e q) p
 
 -- a prefix for a definition with one index is one for an equal index
 pub prefix_at :
@@ -216,11 +191,13 @@ pub prefix_at :
     → HasPrefix (EncodesTypeDefWithIndex k v) a c → HasPrefix (EncodesTypeDefWithIndex i v) a c
 prefix_at {v} {a} {c} i k e p = subst (λ n. HasPrefix (EncodesTypeDefWithIndex n v) a c) (sym e) p
 
--- no prefix for a definition with one index: none for an equal index
-pub no_prefix_at :
-    {a : List ℕ} (i k : ℕ) → i ≡ k → HasNoPrefix (EncodesTypeDefWithIndex k) a
-    → HasNoPrefix (EncodesTypeDefWithIndex i) a
-no_prefix_at {a} i k e p = subst (λ n. HasNoPrefix (EncodesTypeDefWithIndex n) a) (sym e) p
+-- an input that begins with nothing that S encodes begins with no definition, after the index at
+-- which S stands
+pub no_parts :
+    {A : Type 0} {S : A → List ℕ → Type 0} {a : List ℕ} {i k : ℕ} → Holds k S → i ≡ k
+    → HasNoPrefix S a → HasNoPrefix (EncodesTypeDefWithIndex i) a
+no_parts {a = a} held e n =
+    subst (λ m. HasNoPrefix (EncodesTypeDefWithIndex m) a) (sym e) (no_prefix_map held n)
 
 -- ---- the index and the parts
 

@@ -1,8 +1,11 @@
 -- The laws of encodings of descriptions.
-use Rattle.std.specs.Prelude.{◌≡◌, ℕ, ◌<◌, List, [], ◌∷◌, ◌++◌}
+use Rattle.std.specs.Prelude.{◌≡◌, ℕ, ◌<◌, List, [], ◌∷◌, ◌++◌, Option}
 use Rattle.std.proofs.Common.{ap, sym, ◌∙◌, refl, subst, lit<}
 use Rattle.std.specs.List.{AllByRecursion}
 use Rattle.scale_info_types.specs.Portable as portable
+use Rattle.scale_info_types.specs.Portable.{Id, Text}
+use Rattle.scale_info_type_ids.specs.declared.impls.Compact.{Compact}
+use Rattle.scale_info_types.specs.declared.ty.PortableType.{PortableType}
 use Rattle.scale_info_types.specs.declared.ty.TypeDef.TheVariants as def
 use Rattle.scale_info_primitives.specs.declared.primitive.TypeDefPrimitive.{TypeDefPrimitive}
 use Rattle.scale_info_bytes.specs.Encodings.{IsEncoding, IsByte}
@@ -28,16 +31,62 @@ use Rattle.scale_info_grammar.specs.Ty.{bit_sequence_parts, map_parts}
 pub id_law : IsEncoding EncodesId
 id_law = through_law (λ v. v.id) (λ v w e i. record { id = e i; marker = v.marker }) compact_law
 
+-- ---- values by their parts
+
+-- the path of these segments
+abbrev pub path_of : List Text → portable.Path
+path_of segments = record { segments = segments; form = tt }
+
+-- the composite of these fields
+abbrev pub composite_of : List portable.Field → portable.TypeDefComposite
+composite_of fields = record { fields = fields }
+
+-- the enum of these variants
+abbrev pub variants_of : List portable.Variant → portable.TypeDefVariant
+variants_of variants = record { variants = variants }
+
+-- the parameter with this name and type
+abbrev pub parameter_of : Text × Option Id → portable.TypeParameter
+parameter_of parts = record { name = parts.0; ty = parts.1 }
+
+-- the sequence of this type
+abbrev pub sequence_of : Id → portable.TypeDefSequence
+sequence_of id = record { type_param = id; form = tt }
+
+-- the array of this length and type
+abbrev pub array_of : ℕ × Id → portable.TypeDefArray
+array_of parts = record { len = parts.0; type_param = parts.1; form = tt }
+
+-- the tuple of these types
+abbrev pub tuple_of : List Id → portable.TypeDefTuple
+tuple_of ids = record { fields = ids; form = tt }
+
+-- the bit sequence of this store and order
+abbrev pub bit_sequence_of : Id × Id → portable.TypeDefBitSequence
+bit_sequence_of ids = record { bit_store_type = ids.0; bit_order_type = ids.1; form = tt }
+
+-- the compact integer of this type
+abbrev pub compact_of : Id → portable.TypeDefCompact
+compact_of id = record { type_param = id; form = tt }
+
+-- the map of this key and value
+abbrev pub map_of : Id × Id → portable.TypeDefMap
+map_of ids = record { key = ids.0; value = ids.1; form = tt }
+
+-- the entry with this id and description
+abbrev pub entry_of : Compact ℕ × portable.Description → PortableType
+entry_of parts = record { id = parts.0.0; ty = parts.1 }
+
+-- ---- encodings of the parts of descriptions
+
 -- EncodesPath is an encoding of paths
 pub path_law : IsEncoding EncodesPath
-path_law =
-    through_law (λ v. v.segments) (λ v w e i. record { segments = e i; form = tt })
-    (list_law text_law)
+path_law = through_law (λ v. v.segments) (λ v w e. ap path_of e) (list_law text_law)
 
 -- EncodesParameter is an encoding of parameters
 pub parameter_law : IsEncoding EncodesParameter
 parameter_law =
-    through_law parameter_parts (λ v w e i. record { name = (e i).0; ty = (e i).1 })
+    through_law parameter_parts (λ v w e. ap parameter_of e)
     (pair_law text_law (option_law id_law))
 
 -- EncodesField is an encoding of fields
@@ -57,48 +106,36 @@ variant_law = through_law variant_parts
 
 -- EncodesComposite is an encoding of composites
 pub composite_law : IsEncoding EncodesComposite
-composite_law =
-    through_law (λ v. v.fields) (λ v w e i. record { fields = e i }) (list_law field_law)
+composite_law = through_law (λ v. v.fields) (λ v w e. ap composite_of e) (list_law field_law)
 
 -- EncodesVariants is an encoding of enums
 pub variants_law : IsEncoding EncodesVariants
-variants_law =
-    through_law (λ v. v.variants) (λ v w e i. record { variants = e i }) (list_law variant_law)
+variants_law = through_law (λ v. v.variants) (λ v w e. ap variants_of e) (list_law variant_law)
 
 -- EncodesSequence is an encoding of sequences
 pub sequence_law : IsEncoding EncodesSequence
-sequence_law =
-    through_law (λ v. v.type_param) (λ v w e i. record { type_param = e i; form = tt }) id_law
+sequence_law = through_law (λ v. v.type_param) (λ v w e. ap sequence_of e) id_law
 
 -- EncodesArray is an encoding of arrays
 pub array_law : IsEncoding EncodesArray
-array_law =
-    through_law array_parts
-    (λ v w e i. record { len = (e i).0; type_param = (e i).1; form = tt })
-    (pair_law u32_law id_law)
+array_law = through_law array_parts (λ v w e. ap array_of e) (pair_law u32_law id_law)
 
 -- EncodesTuple is an encoding of tuples
 pub tuple_law : IsEncoding EncodesTuple
-tuple_law =
-    through_law (λ v. v.fields) (λ v w e i. record { fields = e i; form = tt }) (list_law id_law)
+tuple_law = through_law (λ v. v.fields) (λ v w e. ap tuple_of e) (list_law id_law)
 
 -- EncodesCompactType is an encoding of compact integers
 pub compact_type_law : IsEncoding EncodesCompactType
-compact_type_law =
-    through_law (λ v. v.type_param) (λ v w e i. record { type_param = e i; form = tt }) id_law
+compact_type_law = through_law (λ v. v.type_param) (λ v w e. ap compact_of e) id_law
 
 -- EncodesBitSequence is an encoding of bit sequences
 pub bit_sequence_law : IsEncoding EncodesBitSequence
 bit_sequence_law =
-    through_law bit_sequence_parts
-    (λ v w e i. record { bit_store_type = (e i).0; bit_order_type = (e i).1; form = tt })
-    (pair_law id_law id_law)
+    through_law bit_sequence_parts (λ v w e. ap bit_sequence_of e) (pair_law id_law id_law)
 
 -- EncodesMap is an encoding of maps
 pub map_law : IsEncoding EncodesMap
-map_law =
-    through_law map_parts (λ v w e i. record { key = (e i).0; value = (e i).1; form = tt })
-    (pair_law id_law id_law)
+map_law = through_law map_parts (λ v w e. ap map_of e) (pair_law id_law id_law)
 
 -- ---- primitives
 
@@ -189,43 +226,28 @@ index_one i j v b c (bit_sequence p) (bit_sequence q) =
     (refl, (pair_law id_law id_law).one _ b c p q)
 index_one i j v b c (map p) (map q) = (refl, (pair_law id_law id_law).one _ b c p q)
 
--- after one index byte
-index_prefix_free :
-    (i : ℕ) (v w : portable.TypeDef) (b c x y : List ℕ) → EncodesTypeDefWithIndex i v b
-    → EncodesTypeDefWithIndex i w c → b ++ x ≡ c ++ y → (b ≡ c) × (v ≡ w)
-index_prefix_free i v w b c x y (composite p) (composite q) e =
-    let h = (list_law field_law).prefix_free _ _ b c x y p q e in
-    (h.0, λ k. def.Composite (record { fields = h.1 k }))
-index_prefix_free i v w b c x y (variant p) (variant q) e =
-    let h = (list_law variant_law).prefix_free _ _ b c x y p q e in
-    (h.0, λ k. def.Variant (record { variants = h.1 k }))
-index_prefix_free i v w b c x y (sequence p) (sequence q) e =
-    let h = id_law.prefix_free _ _ b c x y p q e in
-    (h.0, λ k. def.Sequence (record { type_param = h.1 k; form = tt }))
-index_prefix_free i v w b c x y (array p) (array q) e =
-    let h = (pair_law u32_law id_law).prefix_free _ _ b c x y p q e in
-    (h.0, λ k. def.Array (record { len = (h.1 k).0; type_param = (h.1 k).1; form = tt }))
-index_prefix_free i v w b c x y (tuple p) (tuple q) e =
-    let h = (list_law id_law).prefix_free _ _ b c x y p q e in
-    (h.0, λ k. def.Tuple (record { fields = h.1 k; form = tt }))
-index_prefix_free i v w b c x y (primitive p) (primitive q) e =
-    let h = primitive_law.prefix_free _ _ b c x y p q e in (h.0, ap def.Primitive h.1)
-index_prefix_free i v w b c x y (compact p) (compact q) e =
-    let h = id_law.prefix_free _ _ b c x y p q e in
-    (h.0, λ k. def.Compact (record { type_param = h.1 k; form = tt }))
-index_prefix_free i v w b c x y (bit_sequence p) (bit_sequence q) e =
-    let h = (pair_law id_law id_law).prefix_free _ _ b c x y p q e in (
-      h.0,
-      λ k.
-          def.BitSequence (record {
-            bit_store_type = (h.1 k).0;
-            bit_order_type = (h.1 k).1;
-            form = tt;
-          }),
-    )
-index_prefix_free i v w b c x y (map p) (map q) e =
-    let h = (pair_law id_law id_law).prefix_free _ _ b c x y p q e in
-    (h.0, λ k. def.Map (record { key = (h.1 k).0; value = (h.1 k).1; form = tt }))
+module _ (x y : List ℕ) where
+  under_index :
+      {A : Type 0} {S : A → List ℕ → Type 0} {b c : List ℕ} (make : A → portable.TypeDef)
+      → IsEncoding S → (v w : A) → S v b → S w c → b ++ x ≡ c ++ y → (b ≡ c) × (make v ≡ make w)
+  under_index make law v w p q e = let h = law.prefix_free v w _ _ x y p q e in (h.0, ap make h.1)
+
+  -- after one index byte
+  index_free :
+      {i : ℕ} {v w : portable.TypeDef} {b c : List ℕ} → EncodesTypeDefWithIndex i v b
+      → EncodesTypeDefWithIndex i w c → b ++ x ≡ c ++ y → (b ≡ c) × (v ≡ w)
+  index_free (composite {d} p) (composite {d = f} q) =
+      under_index def.Composite composite_law d f p q
+  index_free (variant {d} p) (variant {d = f} q) = under_index def.Variant variants_law d f p q
+  index_free (sequence {d} p) (sequence {d = f} q) = under_index def.Sequence sequence_law d f p q
+  index_free (array {d} p) (array {d = f} q) = under_index def.Array array_law d f p q
+  index_free (tuple {d} p) (tuple {d = f} q) = under_index def.Tuple tuple_law d f p q
+  index_free (primitive {p = d} p) (primitive {p = f} q) =
+      under_index def.Primitive primitive_law d f p q
+  index_free (compact {d} p) (compact {d = f} q) = under_index def.Compact compact_type_law d f p q
+  index_free (bit_sequence {d} p) (bit_sequence {d = f} q) =
+      under_index def.BitSequence bit_sequence_law d f p q
+  index_free (map {d} p) (map {d = f} q) = under_index def.Map map_law d f p q
 
 index_bytes :
     (i : ℕ) (v : portable.TypeDef) (b : List ℕ) → EncodesTypeDefWithIndex i v b
@@ -256,7 +278,7 @@ type_def_prefix_free v w b c x y p q e =
     let k : p.index ≡ q.index = cc in
     let t : p.indexed.rest ++ x ≡ q.indexed.rest ++ y = cc in
     let f =
-    index_prefix_free q.index v w _ _ x y
+    index_free x y
     (subst (λ n. EncodesTypeDefWithIndex n v p.indexed.rest) k p.indexed.encodes_rest)
     q.indexed.encodes_rest t in (
       p.indexed.parts ∙ ap (λ n. n ∷ p.indexed.rest) k ∙ ap (λ t. q.index ∷ t) f.0
@@ -292,5 +314,5 @@ description_law = through_law description_parts
 -- EncodesPortableType is an encoding of entries of tables
 pub portable_type_law : IsEncoding EncodesPortableType
 portable_type_law =
-    through_law portable_type_parts (λ v w e i. record { id = (e i).0.0; ty = (e i).1 })
+    through_law portable_type_parts (λ v w e. ap entry_of e)
     (pair_law (through_law (λ n. n.0) (λ v w e i. record { 0 = e i }) compact_law) description_law)

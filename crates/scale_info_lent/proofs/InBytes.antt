@@ -13,17 +13,14 @@ use Rattle.std.specs.List.{range_with_len}
 use Rattle.scale_info_value.specs.declared.value.Dyn.{Dyn}
 use Rattle.scale_info_value.specs.declared.value.Dyn.TheVariants as dyn
 use Rattle.scale_info_value.specs.declared.value.Failure.{Failure}
-use Rattle.scale_info_value.specs.Outcomes.{Outcome, Decoder, decoded, failed, malformed, and_then, outcome_map, in_turn}
+use Rattle.scale_info_value.specs.Outcomes.{decoded, failed, malformed, and_then, outcome_map, in_turn}
 use Rattle.scale_info_value.specs.IntegerDecoders.{bytes, little_endian}
-use Rattle.scale_info_value.proofs.Integers.{read_integer, integers_missing}
+use Rattle.scale_info_value.proofs.Integers.{read_bytes, value_there, values_missing}
 use Rattle.scale_info_value.proofs.Texts.{bytes_whole, bytes_long}
-use Rattle.scale_info_lent.specs.declared.integers.IntegerWidth.{IntegerWidth}
-use Rattle.scale_info_lent.specs.declared.integers.IntegerWidth.TheVariants as width
-use Rattle.scale_info_lent.specs.IntegerLists.{width_of, integer_of, integer_within, item_at}
-
--- so many bytes, seen as a value
-abbrev pub read_bytes : {A : Type 0} → (List ℕ → A) → ℕ → Decoder A
-read_bytes f width input = outcome_map f (bytes width input)
+use Rattle.scale_info_value.specs.declared.integer.IntegerWidth.{IntegerWidth}
+use Rattle.scale_info_value.specs.declared.integer.IntegerWidth.TheVariants as width
+use Rattle.scale_info_value.specs.IntegerWidths.{width_of, integer_of, integer_within}
+use Rattle.scale_info_lent.specs.IntegerLists.{item_at}
 
 -- the bytes from the k-th value on
 abbrev from_value : ℕ → ℕ → List ℕ → List ℕ
@@ -40,7 +37,7 @@ one_there f width n k all rest h =
     let long : width ≤ length here = omega (arith, length-drop (k * width) all) in
     let longer : width ≤ length (here ++ rest) = omega (arith, length-append here rest) in
     let next : k * width + width ≡ (k + 1) * width = grind arith in
-    ap (λ o. outcome_map f o) (bytes_whole width (here ++ rest) longer)
+    value_there f width (here ++ rest) longer
     ∙ (λ i. decoded (f (take-append-le width here rest long i)) (drop-append-le width here rest long i))
     ∙ ap (λ d. decoded (f (take width here)) (d ++ rest)) (drop-drop width (k * width) all ∙ ap (λ m. drop m all) next)
 
@@ -60,57 +57,6 @@ each_there f width (suc n) k all rest h =
     ap (λ o. and_then o (λ v r. outcome_map (λ vs. v ∷ vs) (in_turn (replicate n (read_bytes f width)) r)))
     (one_there f width n k all rest h)
     ∙ ap (λ o. outcome_map (λ vs. value ∷ vs) o) (each_there f width n (k + 1) all rest same)
-
--- the first and the others, seen as other values
-rest_map :
-    {A B : Type 0} (f : A → B) (v : A) (o : Outcome (List A))
-    → outcome_map (λ vs. f v ∷ vs) (outcome_map (λ vs. map f vs) o)
-    ≡ outcome_map (λ vs. map f vs) (outcome_map (λ vs. v ∷ vs) o)
-rest_map f v (decoded vs r) = refl
-rest_map f v (failed why) = refl
-
--- what the first decoder gives and then the others, seen as other values
-first_map :
-    {A B : Type 0} (f : A → B) (other : Decoder (List B)) (more : Decoder (List A)) (o : Outcome A)
-    → ((r : List ℕ) → other r ≡ outcome_map (λ vs. map f vs) (more r))
-    → and_then (outcome_map f o) (λ v r. outcome_map (λ vs. v ∷ vs) (other r))
-    ≡ outcome_map (λ vs. map f vs) (and_then o (λ v r. outcome_map (λ vs. v ∷ vs) (more r)))
-first_map f other more (decoded v r) h = ap (λ o. outcome_map (λ vs. f v ∷ vs) o) (h r) ∙ rest_map f v (more r)
-first_map f other more (failed why) h = refl
-
--- what is decoded in turn, seen as other values
-in_turn_map :
-    {A B : Type 0} (f : A → B) (n : ℕ) (read : Decoder A) (input : List ℕ)
-    → in_turn (replicate n (λ b. outcome_map f (read b))) input ≡ outcome_map (λ vs. map f vs) (in_turn (replicate n read) input)
-in_turn_map f zero read input = refl
-in_turn_map f (suc n) read input =
-    first_map f (in_turn (replicate n (λ b. outcome_map f (read b)))) (in_turn (replicate n read)) (read input)
-    (λ r. in_turn_map f n read r)
-
--- a failure does not depend on how values are seen
-fails_alike :
-    {A B C : Type 0} (f : A → B) (g : A → C) (o : Outcome A) (why : Failure)
-    → outcome_map f o ≡ failed why → outcome_map g o ≡ failed why
-fails_alike f g (decoded v r) why e = cc
-fails_alike f g (failed other) why e = let p : other ≡ why = cc in ap (λ w. failed w) p
-
--- where there are not the bytes of so many, there are not so many integers
-short :
-    {A : Type 0} (f : List ℕ → A) (n width : ℕ) (input : List ℕ) → length input < n * width
-    → in_turn (replicate n (read_bytes f width)) input ≡ failed malformed
-short f n width input h =
-    let read = bytes width in
-    let seen : List ℕ → Dyn = λ b. dyn.Unsigned (little_endian b) in
-    let same : (b : List ℕ) → read_integer width b ≡ outcome_map seen (read b) = λ b. twice (read b) in
-    in_turn_map f n read input
-    ∙ fails_alike (λ vs. map seen vs) (λ vs. map f vs) (in_turn (replicate n read) input) malformed
-    (sym (in_turn_map seen n read input)
-    ∙ ap (λ d. in_turn (replicate n d) input) (λ i b. sym (same b) i)
-    ∙ integers_missing n width input h)
-  where
-    twice : (o : Outcome (List ℕ)) → outcome_map dyn.Unsigned (outcome_map little_endian o) ≡ outcome_map (λ b. dyn.Unsigned (little_endian b)) o
-    twice (decoded v r) = refl
-    twice (failed why) = refl
 
 -- where bytes are missing, there are fewer
 bytes_short : (n : ℕ) (input : List ℕ) (why : Failure) → bytes n input ≡ failed why → (length input < n) × (why ≡ malformed)
@@ -155,7 +101,7 @@ pub integers_short :
     → in_turn (replicate count (integer_within w signed)) input ≡ failed why
 integers_short w signed count input why e =
     let h = bytes_short (count * byte_len (width_of w)) input why e in
-    short (integer_of w signed) count (byte_len (width_of w)) input h.0 ∙ ap (λ o. failed o) (sym h.1)
+    values_missing (integer_of w signed) count (byte_len (width_of w)) input h.0 ∙ ap (λ o. failed o) (sym h.1)
 
 -- a byte is the integer in one byte
 one_byte : (all : List ℕ) (k : ℕ) → k < length all → get_or all k 0 ≡ little_endian (take 1 (drop (k * 1) all))

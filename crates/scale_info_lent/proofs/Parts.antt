@@ -1,7 +1,7 @@
 -- The parts of values.
-use Rattle.std.proofs.Common.{◌≡◌, ℕ, ◌<◌, arith, List, [], map, length, Option, Some, None, option_map, option_and_then, refl, ap, sym, ◌∙◌, slice_get}
+use Rattle.std.proofs.Common.{◌≡◌, ℕ, ℤ, Bool, ◌<◌, arith, List, [], map, length, Option, Some, None, option_map, option_and_then, refl, ap, sym, ◌∙◌, slice_get}
 use Rattle.std.proofs.lemmas.Grind.{common_steps}
-use Rattle.std.proofs.lemmas.Option.{slice_get_past, slice_get-get_or}
+use Rattle.std.proofs.lemmas.Option.{slice_get_past, slice_get-get_or, slice_get-map}
 use Rattle.std.specs.Borrow.{Bor}
 use Rattle.std.specs.Option.{option_copied}
 use Rattle.std.specs.Slice.{IsItemAt}
@@ -20,58 +20,56 @@ use Rattle.scale_info_lent.specs.declared.lent.Lent.TheVariants.{rolls-Variant}
 use Rattle.scale_info_lent.specs.declared.lent.Lent.TheOpen.{Lent-F}
 use Rattle.scale_info_lent.specs.declared.lent.Lent.TheOpen as layer
 use Rattle.scale_info_lent.specs.declared.lent.Lent.TheViews.{out-Lent, roll-Lent, roll-out-Lent}
-use Rattle.scale_info_lent.specs.declared.lent.Lent.TheFolds.{fold-roll-Lent}
+use Rattle.scale_info_lent.specs.declared.lent.Lent.TheFolds.{fold-roll-Lent, map-Lent}
 use Rattle.scale_info_lent.specs.IntegerLists.{integers_of}
 use Rattle.scale_info_lent.specs.LentValues.{dyn_of, dyn_step, field_of}
 use Rattle.scale_info_lent.specs.ValueParts.{items_in, items_at, item_in, fields_in, fields_at, variant_in, variant_at}
-use Rattle.scale_info_lent.proofs.Copies.{named_all, record_copied}
+use Rattle.scale_info_lent.proofs.Copies.{named_all, list_copied, record_copied}
 use Rattle.scale_info_lent.proofs.Copies.{variant_copied}
 
 -- a value by its outermost part
 rolled : (v : Lent) (o : Lent-F Lent) → out-Lent v ≡ o → v ≡ roll-Lent o
 rolled v o e = sym (roll-out-Lent v) ∙ ap roll-Lent e
 
--- the outermost part, with what is borrowed copied
-abbrev opened : Lent-F Lent → Dyn-F Dyn
-opened (layer.Bool b) = whole.Bool b
-opened (layer.Unsigned n) = whole.Unsigned n
-opened (layer.Signed n) = whole.Signed n
-opened (layer.Text t) = whole.Text t.now
-opened (layer.Bytes b) = whole.List (map dyn.Unsigned b.now)
-opened (layer.Integers list) = whole.List (integers_of list)
-opened (layer.List vs) = whole.List (map dyn_of vs)
-opened (layer.Record fs) = whole.Record (map field_of fs)
-opened (layer.Variant name index fs) = whole.Variant name.now index (map field_of fs)
+-- what is seen of a copy, where it is the same at each kind of value
+seen :
+    {A : Type 0} (see : Dyn-F Dyn → A) (none : A) (v : Lent)
+    → ((b : Bool) → see (whole.Bool b) ≡ none) → ((n : ℕ) → see (whole.Unsigned n) ≡ none)
+    → ((n : ℤ) → see (whole.Signed n) ≡ none) → ((t : Text) → see (whole.Text t) ≡ none)
+    → ((b : Bor (List ℕ)) → v ≡ lent.Bytes b → see (whole.List (map dyn.Unsigned b.now)) ≡ none)
+    → ((list : Integers) → v ≡ lent.Integers list → see (whole.List (integers_of list)) ≡ none)
+    → ((vs : List Lent) → v ≡ lent.List vs → see (whole.List (map dyn_of vs)) ≡ none)
+    → ((fs : List (Option (Bor Text) × Lent)) → v ≡ lent.Record fs → see (whole.Record (map field_of fs)) ≡ none)
+    → ((name : Bor Text) (index : ℕ) (fs : List (Option (Bor Text) × Lent)) → v ≡ lent.Variant name index fs
+    → see (whole.Variant name.now index (map field_of fs)) ≡ none)
+    → see (out-Dyn (dyn_of v)) ≡ none
+seen see none v truth unsigned signed text bytes integers list fields variant = by_kind (out-Lent v) refl
+  where
+    -- the value of an outermost part, copied
+    copied : (o : Lent-F Lent) → out-Lent v ≡ o → out-Dyn (dyn_of v) ≡ out-Dyn (dyn_step (map-Lent Lent Dyn dyn_of o))
+    copied o e = ap out-Dyn (ap dyn_of (rolled v o e) ∙ fold-roll-Lent Dyn dyn_step o)
 
--- that is the outermost part of the copy
-copied :
-    (v : Lent) (o : Lent-F Lent) → out-Lent v ≡ o → out-Dyn (dyn_of v) ≡ opened o
-copied v (layer.Bool b) e =
-    ap out-Dyn (ap dyn_of (rolled v (layer.Bool b) e) ∙ fold-roll-Lent Dyn dyn_step (layer.Bool b)) ∙ outs-Bool b
-copied v (layer.Unsigned n) e =
-    ap out-Dyn (ap dyn_of (rolled v (layer.Unsigned n) e) ∙ fold-roll-Lent Dyn dyn_step (layer.Unsigned n)) ∙ outs-Unsigned n
-copied v (layer.Signed n) e =
-    ap out-Dyn (ap dyn_of (rolled v (layer.Signed n) e) ∙ fold-roll-Lent Dyn dyn_step (layer.Signed n)) ∙ outs-Signed n
-copied v (layer.Text t) e =
-    ap out-Dyn (ap dyn_of (rolled v (layer.Text t) e) ∙ fold-roll-Lent Dyn dyn_step (layer.Text t)) ∙ outs-Text t.now
-copied v (layer.Bytes b) e =
-    ap out-Dyn (ap dyn_of (rolled v (layer.Bytes b) e) ∙ fold-roll-Lent Dyn dyn_step (layer.Bytes b))
-    ∙ outs-List (map dyn.Unsigned b.now)
-copied v (layer.Integers list) e =
-    ap out-Dyn (ap dyn_of (rolled v (layer.Integers list) e) ∙ fold-roll-Lent Dyn dyn_step (layer.Integers list))
-    ∙ outs-List (integers_of list)
-copied v (layer.List vs) e =
-    ap out-Dyn (ap dyn_of (rolled v (layer.List vs) e) ∙ fold-roll-Lent Dyn dyn_step (layer.List vs))
-    ∙ outs-List (map dyn_of vs)
-copied v (layer.Record fs) e =
-    ap out-Dyn (ap dyn_of (rolled v (layer.Record fs) e) ∙ fold-roll-Lent Dyn dyn_step (layer.Record fs)
-    ∙ ap (λ gs. dyn.Record gs) (named_all fs))
-    ∙ outs-Record (map field_of fs)
-copied v (layer.Variant name index fs) e =
-    ap out-Dyn (ap dyn_of (rolled v (layer.Variant name index fs) e)
-    ∙ fold-roll-Lent Dyn dyn_step (layer.Variant name index fs)
-    ∙ ap (λ gs. dyn.Variant name.now index gs) (named_all fs))
-    ∙ outs-Variant name.now index (map field_of fs)
+    by_kind : (o : Lent-F Lent) → out-Lent v ≡ o → see (out-Dyn (dyn_of v)) ≡ none
+    by_kind (layer.Bool b) e = ap see (copied (layer.Bool b) e ∙ outs-Bool b) ∙ truth b
+    by_kind (layer.Unsigned n) e = ap see (copied (layer.Unsigned n) e ∙ outs-Unsigned n) ∙ unsigned n
+    by_kind (layer.Signed n) e = ap see (copied (layer.Signed n) e ∙ outs-Signed n) ∙ signed n
+    by_kind (layer.Text t) e = ap see (copied (layer.Text t) e ∙ outs-Text t.now) ∙ text t.now
+    by_kind (layer.Bytes b) e =
+        ap see (copied (layer.Bytes b) e ∙ outs-List (map dyn.Unsigned b.now))
+        ∙ bytes b (rolled v (layer.Bytes b) e ∙ rolls-Bytes b)
+    by_kind (layer.Integers l) e =
+        ap see (copied (layer.Integers l) e ∙ outs-List (integers_of l))
+        ∙ integers l (rolled v (layer.Integers l) e ∙ rolls-Integers l)
+    by_kind (layer.List vs) e =
+        ap see (copied (layer.List vs) e ∙ outs-List (map dyn_of vs))
+        ∙ list vs (rolled v (layer.List vs) e ∙ rolls-List vs)
+    by_kind (layer.Record fs) e =
+        ap see (copied (layer.Record fs) e ∙ ap (λ gs. out-Dyn (dyn.Record gs)) (named_all fs) ∙ outs-Record (map field_of fs))
+        ∙ fields fs (rolled v (layer.Record fs) e ∙ rolls-Record fs)
+    by_kind (layer.Variant name index fs) e =
+        ap see (copied (layer.Variant name index fs) e ∙ ap (λ gs. out-Dyn (dyn.Variant name.now index gs)) (named_all fs)
+        ∙ outs-Variant name.now index (map field_of fs))
+        ∙ variant name index fs (rolled v (layer.Variant name index fs) e ∙ rolls-Variant name index fs)
 
 -- the items of a list
 pub list_found : (v : Lent) (vs : List Dyn) → dyn_of v ≡ dyn.List vs → items_in (dyn_of v) ≡ Some vs
@@ -92,18 +90,9 @@ item_found v vs index e = ap (λ o. option_and_then (λ l. slice_get l index) o)
 pub no_items :
     (v : Lent) → ((b : Bor (List ℕ)) → v ≡ lent.Bytes b → ⊥) → ((list : Integers) → v ≡ lent.Integers list → ⊥)
     → ((vs : List Lent) → v ≡ lent.List vs → ⊥) → items_in (dyn_of v) ≡ None
-no_items v bytes integers list = ap items_at (copied v (out-Lent v) refl) ∙ none (out-Lent v) refl
-  where
-    none : (o : Lent-F Lent) → out-Lent v ≡ o → items_at (opened o) ≡ None
-    none (layer.Bool b) e = refl
-    none (layer.Unsigned n) e = refl
-    none (layer.Signed n) e = refl
-    none (layer.Text t) e = refl
-    none (layer.Bytes b) e = absurd (bytes b (rolled v (layer.Bytes b) e ∙ rolls-Bytes b))
-    none (layer.Integers l) e = absurd (integers l (rolled v (layer.Integers l) e ∙ rolls-Integers l))
-    none (layer.List vs) e = absurd (list vs (rolled v (layer.List vs) e ∙ rolls-List vs))
-    none (layer.Record fs) e = refl
-    none (layer.Variant name index fs) e = refl
+no_items v bytes integers list =
+    seen items_at None v (λ b. refl) (λ n. refl) (λ n. refl) (λ t. refl) (λ b e. absurd (bytes b e))
+    (λ l e. absurd (integers l e)) (λ vs e. absurd (list vs e)) (λ fs e. refl) (λ name index fs e. refl)
 
 -- the fields of a record
 pub record_found :
@@ -122,19 +111,9 @@ pub no_fields :
     (v : Lent) → ((fs : List (Option (Bor Text) × Lent)) → v ≡ lent.Record fs → ⊥)
     → ((name : Bor Text) (index : ℕ) (fs : List (Option (Bor Text) × Lent)) → v ≡ lent.Variant name index fs → ⊥)
     → fields_in (dyn_of v) ≡ []
-no_fields v record_of variant_of = ap fields_at (copied v (out-Lent v) refl) ∙ none (out-Lent v) refl
-  where
-    none : (o : Lent-F Lent) → out-Lent v ≡ o → fields_at (opened o) ≡ []
-    none (layer.Bool b) e = refl
-    none (layer.Unsigned n) e = refl
-    none (layer.Signed n) e = refl
-    none (layer.Text t) e = refl
-    none (layer.Bytes b) e = refl
-    none (layer.Integers l) e = refl
-    none (layer.List vs) e = refl
-    none (layer.Record fs) e = absurd (record_of fs (rolled v (layer.Record fs) e ∙ rolls-Record fs))
-    none (layer.Variant name index fs) e =
-        absurd (variant_of name index fs (rolled v (layer.Variant name index fs) e ∙ rolls-Variant name index fs))
+no_fields v record_of variant_of =
+    seen fields_at [] v (λ b. refl) (λ n. refl) (λ n. refl) (λ t. refl) (λ b e. refl) (λ l e. refl) (λ vs e. refl)
+    (λ fs e. absurd (record_of fs e)) (λ name index fs e. absurd (variant_of name index fs e))
 
 -- the name of a variant
 pub variant_found :
@@ -148,19 +127,9 @@ pub no_variant :
     (v : Lent)
     → ((name : Bor Text) (index : ℕ) (fs : List (Option (Bor Text) × Lent)) → v ≡ lent.Variant name index fs → ⊥)
     → variant_in (dyn_of v) ≡ None
-no_variant v variant_of = ap variant_at (copied v (out-Lent v) refl) ∙ none (out-Lent v) refl
-  where
-    none : (o : Lent-F Lent) → out-Lent v ≡ o → variant_at (opened o) ≡ None
-    none (layer.Bool b) e = refl
-    none (layer.Unsigned n) e = refl
-    none (layer.Signed n) e = refl
-    none (layer.Text t) e = refl
-    none (layer.Bytes b) e = refl
-    none (layer.Integers l) e = refl
-    none (layer.List vs) e = refl
-    none (layer.Record fs) e = refl
-    none (layer.Variant name index fs) e =
-        absurd (variant_of name index fs (rolled v (layer.Variant name index fs) e ∙ rolls-Variant name index fs))
+no_variant v variant_of =
+    seen variant_at None v (λ b. refl) (λ n. refl) (λ n. refl) (λ t. refl) (λ b e. refl) (λ l e. refl) (λ vs e. refl)
+    (λ fs e. refl) (λ name index fs e. absurd (variant_of name index fs e))
 
 -- what a slice lends at an index is the item there
 pub lent_item :
@@ -169,3 +138,14 @@ lent_item xs i None h = slice_get_past xs i h.3
 lent_item xs i (Some x) h =
     let inside : i < length xs = grind (arith, common_steps, h.0) in
     slice_get-get_or xs i x.now inside ∙ ap (λ y. Some y) (sym h.1)
+
+-- what a list of values lends at an index is its item there
+pub listed_at :
+    (v : Lent) (all items : List Lent) (index : ℕ) (r s : Option (Bor Lent))
+    → v ≡ lent.List all → items ≡ all → IsItemAt items index r → r ≡ s
+    → option_map dyn_of (option_copied s) ≡ item_in index (dyn_of v)
+listed_at v all items index r s is whole item was =
+    ap (λ o. option_map dyn_of o)
+    (sym (ap (λ l. slice_get l index) (sym whole) ∙ lent_item items index r item ∙ ap option_copied was))
+    ∙ sym (slice_get-map dyn_of all index)
+    ∙ item_found v (map dyn_of all) index (ap dyn_of is ∙ list_copied all)

@@ -22,6 +22,7 @@ use scale_info_types::ty::{
     TypeDefTuple, TypeDefVariant,
 };
 use scale_info_value::compact::compact_within;
+use scale_info_value::definition::definition_of;
 use scale_info_value::integer::{byte, count};
 use scale_info_value::value::ValueError;
 use scale_info_value::variants::variant_with_index;
@@ -74,13 +75,8 @@ fn value_within<'t, 'i>(
         (λ found. value_within left table.now id input.now ≡ decoded (dyn_of found.0) found.1.now) }
     ensures err { IfErr result (IsErrorOf (value_within left table.now id input.now)) }
 {
-    if left == 0 {
-        return Err(ValueError::TooDeep);
-    }
-    match table.resolve(id) {
-        None => Err(ValueError::NoSuchType),
-        Some(ty) => value_by(alloc, table, &ty.type_def, left, input),
-    }
+    let definition = definition_of(table, id, left)?;
+    value_by(alloc, table, definition, left, input)
 }
 
 /// A value by the definition of its type, and the rest.
@@ -246,18 +242,12 @@ fn list<'t, 'i>(
         ≡ decoded (dyn_of found.0) found.1.now) }
     ensures err { IfErr result (IsErrorOf (items_within left table.now ty.now count input.now)) }
 {
-    let item = table.resolve(ty.id);
     if count == 0 {
-        let none = no_items(alloc, item);
+        let none = no_items(alloc, table.resolve(ty.id));
         return Ok((none, input));
     }
-    if left == 1 {
-        return Err(ValueError::TooDeep);
-    }
-    match item {
-        None => Err(ValueError::NoSuchType),
-        Some(item) => list_by(alloc, table, &item.type_def, count, left - 1, input),
-    }
+    let definition = definition_of(table, ty.id, left - 1)?;
+    list_by(alloc, table, definition, count, left - 1, input)
 }
 
 /// The list of so many values by the definition of their type, and the rest.

@@ -1,41 +1,11 @@
 //! The integers of a list, in the bytes that encode them.
-ghost use Rattle.std.specs.Prelude.{◌≡◌, ◌<◌, ◌^◌, length, option_map, slice_get, Some, FitsSigned};
-ghost use Rattle.std.specs.Int.{byte_len, cast_signed, w128};
-ghost use Rattle.scale_info_lent.specs.IntegerLists.{width_of, integers_of, dyn_of_integer};
+ghost use Rattle.std.specs.Prelude.{◌≡◌, ◌<◌, length, option_map, slice_get, Some};
+ghost use Rattle.scale_info_lent.specs.IntegerLists.{integers_of, dyn_of_integer};
 ghost use Rattle.scale_info_lent.specs.LentValues.{dyn_of};
 
 use crate::lent::Lent;
-use scale_info_value::integer::little_endian;
-
-/// How many bytes an integer takes.
-#[derive(Clone, Copy)]
-pub enum IntegerWidth {
-    /// One byte.
-    One,
-    /// Two bytes.
-    Two,
-    /// Four bytes.
-    Four,
-    /// Eight bytes.
-    Eight,
-    /// Sixteen bytes.
-    Sixteen,
-}
-
-impl IntegerWidth {
-    /// The number of bytes.
-    pub fn bytes(self) -> usize
-        ensures { result ≡ byte_len (width_of self) }
-    {
-        match self {
-            IntegerWidth::One => 1,
-            IntegerWidth::Two => 2,
-            IntegerWidth::Four => 4,
-            IntegerWidth::Eight => 8,
-            IntegerWidth::Sixteen => 16,
-        }
-    }
-}
+pub use scale_info_value::integer::IntegerWidth;
+use scale_info_value::integer::{little_endian, with_sign};
 
 /// The integers of a list, which are read from the input when they are asked for.
 #[derive(Clone, Copy)]
@@ -93,20 +63,5 @@ impl Integers<'_> {
         } else {
             Integer::Unsigned(integer)
         }
-    }
-}
-
-/// The integer that this one encodes in two's complement.
-fn with_sign(width: IntegerWidth, n: u128) -> i128
-    requires { n < 256 ^ byte_len (width_of width) }
-    ensures integer { result ≡ cast_signed (width_of width) n }
-    ensures range { FitsSigned w128 result }
-{
-    match width {
-        IntegerWidth::One => (n as u8).cast_signed() as i128,
-        IntegerWidth::Two => (n as u16).cast_signed() as i128,
-        IntegerWidth::Four => (n as u32).cast_signed() as i128,
-        IntegerWidth::Eight => (n as u64).cast_signed() as i128,
-        IntegerWidth::Sixteen => n.cast_signed(),
     }
 }

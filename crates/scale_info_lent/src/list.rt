@@ -4,8 +4,9 @@ ghost use Rattle.scale_info_value.specs.declared.value.Dyn.TheVariants as dyn;
 ghost use Rattle.scale_info_value.specs.Outcomes.{decoded, failed, in_turn, outcome_map};
 ghost use Rattle.scale_info_value.specs.Outcomes.{IsErrorOf};
 ghost use Rattle.scale_info_value.specs.PrimitiveValues.{dyn_of as dyn_of_primitive, IsInRange};
+ghost use Rattle.scale_info_value.specs.IntegerWidths.{integer_within};
 ghost use Rattle.scale_info_value.specs.ValueDefinitions.{primitive};
-ghost use Rattle.scale_info_lent.specs.IntegerLists.{integer_within, integers_of};
+ghost use Rattle.scale_info_lent.specs.IntegerLists.{integers_of};
 ghost use Rattle.scale_info_lent.specs.LentValues.{dyn_of};
 
 use crate::integers::{IntegerWidth, Integers};

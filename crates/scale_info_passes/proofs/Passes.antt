@@ -288,12 +288,6 @@ own_references (x ∷ xs) = ap (λ t. x ∷ t) (own_references xs)
 
 -- ---- definitions
 
--- an encoding by an equal index
-pub at_index :
-    {v : portable.TypeDef} {b : List ℕ} (i k : ℕ)
-    → i ≡ k → EncodesTypeDefWithIndex k v b → EncodesTypeDefWithIndex i v b
-at_index {v} {b} i k e p = subst (λ n. EncodesTypeDefWithIndex n v b) (sym e) p
-
 -- the index byte was visited, then the parts
 pub visited_definition :
     {V : Type 0} {Visited : List Piece → V → V → Type 0}

@@ -18,7 +18,7 @@ use Rattle.scale_info_prune.proofs.ByteIndexes.{same_reached}
 use Rattle.scale_info_prune.proofs.TableIndexes.{kept_entries, written_agrees, written_number}
 use Rattle.scale_info_prune.specs.ByteIndexes.{index_system}
 use Rattle.scale_info_prune.specs.Prunes.{HasNewIds, IsIndexError, IsIndexNumbering, IsPruneError}
-use Rattle.scale_info_prune.specs.Prunes.{IsPrunedEncoding, IsTableError}
+use Rattle.scale_info_prune.specs.Prunes.{IsNumberedTable, IsPrunedEncoding, IsTableError}
 use Rattle.scale_info_prune.specs.Roots.{AreRoots, IsNoSuchType}
 use Rattle.scale_info_prune.specs.TableIndexes.{AppendsKeptTable, IsTableIndex}
 use Rattle.scale_info_prune.specs.declared.prune.PruneError.{PruneError}
@@ -141,3 +141,14 @@ module _ (count : ℕ) (input body offsets starts references : List ℕ)
           let few = order_few in
           (m old new).1 (y.dense.placed new old e, λ same. omega arith)),
     )
+
+    -- the table was numbered, as pruning needs it
+    pub numbered_table : IsNumberedTable input given body offsets order numbers
+    numbered_table = record {
+      entries = has_entries;
+      within = order_within;
+      few = order_few;
+      long = let a = y.long in let b = y.few in omega arith;
+      new_ids = new_ids_of;
+      pruned = is_pruned;
+    }

@@ -1,5 +1,5 @@
 -- Tables that are pruned as bytes.
-use Rattle.std.specs.Prelude.{◌≡◌, ◌↔◌, ◌≤◌, ℕ, List, Some, length, map, slice_get}
+use Rattle.std.specs.Prelude.{◌≡◌, ◌≢◌, ◌↔◌, ◌<◌, ◌≤◌, ℕ, List, All, Some, length, map, slice_get}
 use Rattle.std.specs.BTreeMap.{BTreeMap, get}
 use Rattle.std.specs.Ordering.{nat_cmp}
 use Rattle.scale_info_bytes.specs.Encodings.{AppendsEncoding, HasNoPrefix}
@@ -14,7 +14,9 @@ use Rattle.scale_info_walk.specs.Walks.{AreNumbers}
 use Rattle.scale_info_prune.specs.ByteIndexes.{index_system}
 use Rattle.scale_info_prune.specs.Roots.{AreRoots, IsNoSuchType}
 use Rattle.scale_info_grammar.specs.Ty.{EncodesTypes}
-use Rattle.scale_info_prune.specs.TableIndexes.{HasTrailing}
+use Rattle.scale_info_passes.specs.Entries.{AreAtOffsets, HasEntriesAt}
+use Rattle.scale_info_passes.specs.Visits.{renumbered}
+use Rattle.scale_info_prune.specs.TableIndexes.{AppendsKeptTable, HasTrailing}
 use Rattle.scale_info_prune.specs.declared.prune.PruneError.{PruneError}
 use Rattle.scale_info_prune.specs.declared.prune.PruneError.TheVariants.{Decode, Trailing}
 use Rattle.scale_info_prune.specs.declared.prune.PruneError.TheVariants.{NoSuchType, Retain}
@@ -84,6 +86,25 @@ pub record IsIndexNumbering (count : ℕ)
   pub dense : AreNumbers order numbers
   pub long : length numbers ≡ length starts
   pub few : length starts ≤ 4294967295
+
+-- a table that was numbered from the given ids, as pruning needs it: the entries are at the offsets
+-- in its body; the order has indices of entries alone, and no more than an encoding counts; the
+-- numbers give the new ids; and what is kept of the order is the input pruned
+pub record IsNumberedTable (input given body offsets order numbers : List ℕ) : Type 0 where
+  pub entries : HasEntriesAt body offsets
+  pub within : All (λ index. index < length offsets) order
+  pub few : length order ≤ 4294967295
+  pub long : length numbers ≤ 4294967295
+  pub new_ids :
+      (new_ids : BTreeMap ℕ ℕ)
+      → ((old new : ℕ) → (get nat_cmp new_ids old ≡ Some new)
+      ↔ ((slice_get numbers old ≡ Some new) × (new ≢ 4294967295)))
+      → HasNewIds order new_ids
+  pub pruned :
+      (old new : List ℕ)
+      → ((entries : List PortableType) → AreAtOffsets body entries offsets
+      → AppendsKeptTable entries (renumbered numbers) order old new)
+      → IsPrunedEncoding input given order old new
 
 -- why an index is not numbered from the given ids
 abbrev pub IsIndexError : ℕ → List ℕ → List ℕ → List ℕ → PruneError → Type 0

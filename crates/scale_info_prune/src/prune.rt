@@ -1,7 +1,8 @@
 //! Pruning of a table from bytes to bytes.
 ghost use Rattle.std.specs.Prelude.{◌≡◌, List, ℕ, length, IfOk, IfErr, OnOk, OnErr};
 ghost use Rattle.scale_info_prune.specs.Prunes.{IsIndexError, IsIndexNumbering};
-ghost use Rattle.scale_info_prune.specs.Prunes.{HasNewIds, IsPruneError, IsPrunedEncoding};
+ghost use Rattle.scale_info_prune.specs.Prunes.{HasNewIds, IsNumberedTable, IsPruneError};
+ghost use Rattle.scale_info_prune.specs.Prunes.{IsPrunedEncoding};
 ghost use Rattle.scale_info_prune.specs.declared.prune.PruneError.TheVariants as prune_error;
 
 use crate::byte_references::ByteReferences;
@@ -72,10 +73,9 @@ pub fn prune(
     ensures err { OnErr result (out.new.items ≡ out.old.items) }
     ensures cause { IfErr result (IsPruneError input.now ids.now) }
 {
-    let (count, body, index) = index_table(alloc, input)?;
-    let found = number_index(alloc, count, &index, ids)?;
+    let (body, index, found) = number_table(alloc, input, ids)?;
     let new_ids = map_of_numbers(alloc, &found.numbers)?;
-    append_kept(alloc, body, &index.offsets, &found, out)?;
+    append_kept(alloc, body, &index, &found, out)?;
     Ok(new_ids)
 }
 
@@ -93,10 +93,27 @@ pub fn append_pruned(
     ensures err { OnErr result (out.new.items ≡ out.old.items) }
     ensures cause { IfErr result (IsPruneError input.now ids.now) }
 {
+    let (body, index, found) = number_table(alloc, input, ids)?;
+    append_kept(alloc, body, &index, &found, out)?;
+    Ok(())
+}
+
+/// The bytes of a table after its count, where its entries are, and the numbering of what the given
+/// ids reach.
+///
+/// Errors: as those of [`prune`].
+fn number_table<'a>(
+    alloc: Global,
+    input: &'a [u8],
+    ids: &[u32],
+) -> Result<(&'a [u8], EntryIndex, Renumbering), PruneError>
+    ensures ok { IfOk result (λ found. IsNumberedTable input.now ids.now found.0.now
+        found.1.offsets.items found.2.order.items found.2.numbers.items) }
+    ensures cause { IfErr result (IsPruneError input.now ids.now) }
+{
     let (count, body, index) = index_table(alloc, input)?;
     let found = number_index(alloc, count, &index, ids)?;
-    append_kept(alloc, body, &index.offsets, &found, out)?;
-    Ok(())
+    Ok((body, index, found))
 }
 
 /// Numbers what the given ids reach, over the index of a table.

@@ -44,22 +44,29 @@ pub(crate) fn index_table(
 pub(crate) fn append_kept(
     alloc: Global,
     body: &[u8],
-    offsets: &[usize],
+    index: &EntryIndex,
     found: &Renumbering,
     out: &mut Vec<u8>,
 ) -> Result<(), AllocError>
-    requires offsets { HasEntriesAt body.now offsets.now }
-    requires within { All (λ index. index < length offsets.now) found.now.order.items }
+    requires offsets { HasEntriesAt body.now index.now.offsets.items }
+    requires within { All (λ entry. entry < length index.now.offsets.items) found.now.order.items }
     requires few { length found.now.order.items ≤ 4294967295 }
     ensures ok { OnOk result ((entries : List PortableType) →
-        AreAtOffsets body.now entries offsets.now →
+        AreAtOffsets body.now entries index.now.offsets.items →
         AppendsKeptTable entries (renumbered found.now.numbers.items) found.now.order.items
         out.old.items out.new.items) }
     ensures err { OnErr result (out.new.items ≡ out.old.items) }
 {
     let start = out.len();
     encode_compact(out, found.order.len() as u32)?;
-    let appended = renumber_entries(alloc, body, offsets, &found.numbers, &found.order, out);
+    let appended = renumber_entries(
+        alloc,
+        body,
+        &index.offsets,
+        &found.numbers,
+        &found.order,
+        out,
+    );
     if appended.is_err() {
         out.truncate(start);
     }

@@ -1,5 +1,5 @@
 -- The entries that the table of a closed list of descriptions has.
-use Rattle.std.proofs.Common.{◌≡◌, ◌<◌, ℕ, zero, suc, ◌+◌, List, [], ◌∷◌, length, map, Some}
+use Rattle.std.proofs.Common.{◌≡◌, ◌<◌, ◌≤◌, ℕ, zero, suc, ◌+◌, List, [], ◌∷◌, length, map, Some}
 use Rattle.std.proofs.Common.{slice_get, refl}
 use Rattle.std.proofs.Common.{ap, sym, ◌∙◌, subst, All, Contains}
 use Rattle.std.proofs.lemmas.List.Elements.{All-nil, All-cons}
@@ -7,6 +7,7 @@ use Rattle.std.specs.List.{enumerate_from}
 use Rattle.scale_info_numberings.proofs.Places.{contains_head, contains_tail}
 use Rattle.scale_info_references.specs.Closed.{AreClosed}
 use Rattle.scale_info_types.specs.Portable.{Description, Id}
+use Rattle.scale_info_types.specs.declared.ty.PortableType.{PortableType}
 use Rattle.scale_info_types.specs.References.{references}
 use Rattle.scale_info_tables.specs.BuiltTables.{numbered_from}
 use Rattle.scale_info_tables.specs.ClosedTables.{AreBelow, HasIndicesAsIds, HasReferencesBelow}
@@ -50,4 +51,18 @@ closed_table count types table is closed =
           (numbered_below (length table.types) 0 types
           (λ i ty at. below_by_ids (length table.types) (references ty)
           (λ p k. subst (λ n. p < n) (sym long) (closed.1 i ty at p k)))),
+    )
+
+-- what is said of the table of a closed list of descriptions: how long it is, that it is closed,
+-- and that it has at most 4294967295 entries
+pub closed_numbered :
+    (count : ℕ) (types : List Description) (entries : List PortableType)
+    → entries ≡ numbered_from 0 types → AreClosed count types → length types ≤ 4294967295
+    → (length entries ≡ count) × IsClosed (record { types = entries })
+    × (length entries ≤ 4294967295)
+closed_numbered count types entries is closed few =
+    let long = ap length is ∙ length_numbered 0 types in (
+      long ∙ closed.0,
+      closed_table count types (record { types = entries }) is closed,
+      subst (λ n. n ≤ 4294967295) (sym long) few,
     )

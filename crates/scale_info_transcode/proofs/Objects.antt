@@ -5,13 +5,12 @@ use Rattle.std.specs.Prelude.{OnOk}
 use Rattle.json.specs.Token.{Token, begin_object, end_object, key}
 use Rattle.json.specs.Written.{Written, Writes}
 use Rattle.serde_json.specs.Data.{Data}
-use Rattle.scale_info_bytes.proofs.Steps.{same_prefix, split_prefix}
+use Rattle.scale_info_bytes.proofs.Steps.{prefix_map, same_prefix, split_prefix}
 use Rattle.scale_info_bytes.specs.CompactLaws.{compact_law}
 use Rattle.scale_info_bytes.specs.Encodings.{HasPrefix}
 use Rattle.scale_info_bytes.specs.Integers.{EncodesCompact}
 use Rattle.scale_info_bytes.specs.Parts.{EncodesList}
 use Rattle.scale_info_bytes.proofs.Lists.{prefix_list}
-use Rattle.scale_info_grammar.proofs.Definitions.{prefix_map}
 use Rattle.scale_info_json_trees.proofs.Objects.{object_text, text_before}
 use Rattle.scale_info_json_trees.specs.Steps.{after_rows, append_row, tokens_of}
 use Rattle.scale_info_json_trees.specs.Written.{Row, list_tree, object_tree, unless_empty}

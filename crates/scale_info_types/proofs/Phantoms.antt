@@ -1,24 +1,12 @@
 -- Which terms are left out of descriptions, decided.
-use Rattle.std.proofs.Common.{◌≡◌, ◌↔◌, ◌&&◌, ℕ, Bool, IsTrue, List, [], ◌∷◌, map, rules, arith}
+use Rattle.std.proofs.Common.{◌≡◌, ◌↔◌, ◌&&◌, ℕ, Bool, IsTrue, List, [], ◌∷◌, map, rules}
 use Rattle.std.proofs.Common.{refl}
 use Rattle.std.proofs.lemmas.Grind.{common_steps}
 use Rattle.std.specs.List.{filter}
-use lib.Dec.{eqb}
-use lib.Pointwise.{pointwise}
+use Rattle.std.proofs.lemmas.Slice.Eq.{bytes_eq-Decides}
 use Rattle.scale_info_identities.specs.TypeIds.{Term, Terms, term, no_terms, more_terms, terms_of}
 use Rattle.scale_info_identities.specs.declared.type_id.TypeId.{TypeId}
 use Rattle.scale_info_types.specs.Phantoms.{term_eq, terms_eq}
-
--- lists of numbers are compared number by number
-numbers_eq_is : (xs ys : List ℕ) → IsTrue (pointwise eqb xs ys) ↔ (xs ≡ ys)
-numbers_eq_is [] [] = ((λ _. refl), (λ _. refl))
-numbers_eq_is [] (y ∷ ys) = ((λ h. cc), (λ h. cc))
-numbers_eq_is (x ∷ xs) [] = ((λ h. cc), (λ h. cc))
-numbers_eq_is (x ∷ xs) (y ∷ ys) =
-    let rest = numbers_eq_is xs ys in (
-      (λ h. grind (arith, common_steps, rules, rest)),
-      (λ h. grind (arith, common_steps, rules, rest)),
-    )
 
 -- a term is compared part by part
 pub parts_eq_is :
@@ -32,7 +20,7 @@ parts_eq_is p q r h h' n n' a a' f g k =
 mutual
   pub term_eq_is : (s t : Term) → IsTrue (term_eq s t) ↔ (s ≡ t)
   term_eq_is (term h n a) (term h' n' a') =
-      parts_eq_is _ _ _ h h' n n' a a' (numbers_eq_is h h') (numbers_eq_is n n') (terms_eq_is a a')
+      parts_eq_is _ _ _ h h' n n' a a' (bytes_eq-Decides h h') (bytes_eq-Decides n n') (terms_eq_is a a')
 
   pub terms_eq_is : (a b : Terms) → IsTrue (terms_eq a b) ↔ (a ≡ b)
   terms_eq_is no_terms no_terms = ((λ _. refl), (λ _. refl))

@@ -10,9 +10,7 @@ use Rattle.scale_info_types.specs.References.{field_references, definition_refer
 use Rattle.scale_info_types.specs.References.{parameter_references, references}
 use Rattle.scale_info_types.specs.Shapes.{map_parameter, map_field, map_variant, map_definition}
 use Rattle.scale_info_types.specs.Shapes.{shape, content}
-use Rattle.scale_info_types.proofs.Injective.{composite_parts, variant_parts, sequence_parts}
-use Rattle.scale_info_types.proofs.Injective.{array_parts, tuple_parts, primitive_parts}
-use Rattle.scale_info_types.proofs.Injective.{compact_parts, bit_sequence_parts, map_parts}
+use Rattle.scale_info_types.proofs.Injective.{part_in}
 
 -- two values of one shape agree: the references of the one, read by f, and those of the other, read
 -- by g, with anything after them, are equal exactly where the values so read and what comes after are
@@ -77,6 +75,20 @@ module _ {T R : Type 0} (f g : T → R) where
   agree_type : Agree {B = Unit {0}} f g (λ t. tt) (λ r. r) (λ r t. r t ∷ [])
   agree_type a b x y =
       ((λ h. let e : f a ≡ g b = cc in let es : x ≡ y = cc in (e, es)), (λ h. (refl, λ i. h.0 i ∷ h.1 i)))
+
+  -- two types, one after the other
+  agree_two :
+      {B C : Type 0} {s : B} (make : R → R → C) (p q p' q' : T) (x y : List R)
+      → (make (f p) (f q) ≡ make (g p') (g q') → (f p ≡ g p') × (f q ≡ g q'))
+      → ((s ≡ s) × (f p ∷ f q ∷ x ≡ g p' ∷ g q' ∷ y)) ↔ ((make (f p) (f q) ≡ make (g p') (g q')) × (x ≡ y))
+  agree_two make p q p' q' x y parts = (
+    (λ h.
+        let first : f p ≡ g p' = cc in
+        let second : f q ≡ g q' = cc in
+        let rest : x ≡ y = cc in
+        (λ i. make (first i) (second i), rest)),
+    (λ h. let e = parts h.0 in (refl, λ i. e.0 i ∷ e.1 i ∷ h.1 i)),
+  )
 
   agree_option :
       Agree {B = Option (Unit {0})} f g (option_map (λ t. tt)) (λ r. option_map r) (λ r t. map r (option_to_list t))
@@ -156,101 +168,46 @@ module _ {F T S R : Type 0} (f g : T → R) (text : S → List ℕ) where
   agree_definition :
       Agree f g (map_definition {F = F} {G = Unit {0}} {U = Unit {0}} (λ t. tt) text)
       (λ r. map_definition {G = Unit {0}} r text) (λ r d. map r (definition_references d))
-  agree_definition =
-      elim [
-        | def.Composite a ↦ elim [
-          | def.Composite b ↦ λ x y.
-              agree_inside (λ p. def.Composite (record { fields = p }))
-              (λ p. def.Composite (record { fields = p }))
-              (λ e. ap (λ d. d.fields) (composite_parts _ _ e)) (λ e. ap (λ d. d.fields) (composite_parts _ _ e))
-              (agree_fields a.fields b.fields x y)
-          | _ ↦ λ x y. ((λ h. cc), (λ h. cc))
-        ]
-        | def.Variant a ↦ elim [
-          | def.Variant b ↦ λ x y.
-              agree_inside (λ p. def.Variant (record { variants = p }))
-              (λ p. def.Variant (record { variants = p }))
-              (λ e. ap (λ d. d.variants) (variant_parts _ _ e)) (λ e. ap (λ d. d.variants) (variant_parts _ _ e))
-              (agree_variants a.variants b.variants x y)
-          | _ ↦ λ x y. ((λ h. cc), (λ h. cc))
-        ]
-        | def.Sequence a ↦ elim [
-          | def.Sequence b ↦ λ x y.
-              agree_inside (λ p. def.Sequence (record { type_param = p; form = tt }))
-              (λ p. def.Sequence (record { type_param = p; form = tt }))
-              (λ e. ap (λ d. d.type_param) (sequence_parts _ _ e)) (λ e. ap (λ d. d.type_param) (sequence_parts _ _ e))
-              (agree_type f g a.type_param b.type_param x y)
-          | _ ↦ λ x y. ((λ h. cc), (λ h. cc))
-        ]
-        | def.Array a ↦ elim [
-          | def.Array b ↦ λ x y.
-              let law = agree_type f g a.type_param b.type_param x y in (
-                (λ h.
-                    let same = array_parts _ _ h.0 in
-                    let e = law.0 (refl, h.1) in
-                    (λ i. def.Array (record { len = (same i).len; type_param = e.0 i; form = tt }), e.1)),
-                (λ h.
-                    let same = array_parts _ _ h.0 in
-                    (λ i. def.Array (record { len = (same i).len; type_param = tt; form = tt }), (law.1 (ap (λ d. d.type_param) same, h.1)).1)),
-              )
-          | _ ↦ λ x y. ((λ h. cc), (λ h. cc))
-        ]
-        | def.Tuple a ↦ elim [
-          | def.Tuple b ↦ λ x y.
-              agree_inside (λ p. def.Tuple (record { fields = p; form = tt }))
-              (λ p. def.Tuple (record { fields = p; form = tt }))
-              (λ e. ap (λ d. d.fields) (tuple_parts _ _ e)) (λ e. ap (λ d. d.fields) (tuple_parts _ _ e))
-              (agree_types f g a.fields b.fields x y)
-          | _ ↦ λ x y. ((λ h. cc), (λ h. cc))
-        ]
-        | def.Primitive a ↦ elim [
-          | def.Primitive b ↦ λ x y.
-              ((λ h. (ap def.Primitive (primitive_parts _ _ h.0), h.1)), (λ h. (ap def.Primitive (primitive_parts _ _ h.0), h.1)))
-          | _ ↦ λ x y. ((λ h. cc), (λ h. cc))
-        ]
-        | def.Compact a ↦ elim [
-          | def.Compact b ↦ λ x y.
-              agree_inside (λ p. def.Compact (record { type_param = p; form = tt }))
-              (λ p. def.Compact (record { type_param = p; form = tt }))
-              (λ e. ap (λ d. d.type_param) (compact_parts _ _ e)) (λ e. ap (λ d. d.type_param) (compact_parts _ _ e))
-              (agree_type f g a.type_param b.type_param x y)
-          | _ ↦ λ x y. ((λ h. cc), (λ h. cc))
-        ]
-        | def.BitSequence a ↦ elim [
-          | def.BitSequence b ↦ λ x y.
-              let order = agree_type f g a.bit_order_type b.bit_order_type x y in
-              let store =
-              agree_type f g a.bit_store_type b.bit_store_type
-              (f a.bit_order_type ∷ x) (g b.bit_order_type ∷ y)
-              in (
-                (λ h.
-                    let e = store.0 (refl, h.1) in
-                    let o = order.0 (refl, e.1) in
-                    (λ i. def.BitSequence (record { bit_store_type = e.0 i; bit_order_type = o.0 i; form = tt }), o.1)),
-                (λ h.
-                    let same = bit_sequence_parts _ _ h.0 in
-                    (refl, (store.1 (ap (λ d. d.bit_store_type) same, (order.1 (ap (λ d. d.bit_order_type) same, h.1)).1)).1)),
-              )
-          | _ ↦ λ x y. ((λ h. cc), (λ h. cc))
-        ]
-        | def.Map a ↦ elim [
-          | def.Map b ↦ λ x y.
-              let values = agree_type f g a.value b.value x y in
-              let keys =
-              agree_type f g a.key b.key (f a.value ∷ x) (g b.value ∷ y)
-              in (
-                (λ h.
-                    let e = keys.0 (refl, h.1) in
-                    let v = values.0 (refl, e.1) in
-                    (λ i. def.Map (record { key = e.0 i; value = v.0 i; form = tt }), v.1)),
-                (λ h.
-                    let same = map_parts _ _ h.0 in
-                    let rest = (values.1 (ap (λ d. d.value) same, h.1)).1 in
-                    (refl, (keys.1 (ap (λ d. d.key) same, rest)).1)),
-              )
-          | _ ↦ λ x y. ((λ h. cc), (λ h. cc))
-        ]
-      ]
+  agree_definition (def.Composite a) (def.Composite b) x y =
+      agree_inside (λ p. def.Composite (record { fields = p })) (λ p. def.Composite (record { fields = p }))
+      (part_in def.Composite (λ d. d.fields) (λ a b e. cc)) (part_in def.Composite (λ d. d.fields) (λ a b e. cc))
+      (agree_fields a.fields b.fields x y)
+  agree_definition (def.Variant a) (def.Variant b) x y =
+      agree_inside (λ p. def.Variant (record { variants = p })) (λ p. def.Variant (record { variants = p }))
+      (part_in def.Variant (λ d. d.variants) (λ a b e. cc)) (part_in def.Variant (λ d. d.variants) (λ a b e. cc))
+      (agree_variants a.variants b.variants x y)
+  agree_definition (def.Sequence a) (def.Sequence b) x y =
+      agree_inside (λ p. def.Sequence (record { type_param = p; form = tt })) (λ p. def.Sequence (record { type_param = p; form = tt }))
+      (part_in def.Sequence (λ d. d.type_param) (λ a b e. cc)) (part_in def.Sequence (λ d. d.type_param) (λ a b e. cc))
+      (agree_type f g a.type_param b.type_param x y)
+  agree_definition (def.Array a) (def.Array b) x y =
+      let law = agree_type f g a.type_param b.type_param x y in (
+        (λ h.
+            let len = part_in def.Array (λ d. d.len) (λ a b e. cc) h.0 in
+            let e = law.0 (refl, h.1) in
+            (λ i. def.Array (record { len = len i; type_param = e.0 i; form = tt }), e.1)),
+        (λ h.
+            let len = part_in def.Array (λ d. d.len) (λ a b e. cc) h.0 in
+            let ty = part_in def.Array (λ d. d.type_param) (λ a b e. cc) h.0 in
+            (λ i. def.Array (record { len = len i; type_param = tt; form = tt }), (law.1 (ty, h.1)).1)),
+      )
+  agree_definition (def.Tuple a) (def.Tuple b) x y =
+      agree_inside (λ p. def.Tuple (record { fields = p; form = tt })) (λ p. def.Tuple (record { fields = p; form = tt }))
+      (part_in def.Tuple (λ d. d.fields) (λ a b e. cc)) (part_in def.Tuple (λ d. d.fields) (λ a b e. cc))
+      (agree_types f g a.fields b.fields x y)
+  agree_definition (def.Primitive a) (def.Primitive b) x y =
+      ((λ h. let e : a ≡ b = cc in (ap def.Primitive e, h.1)), (λ h. let e : a ≡ b = cc in (ap def.Primitive e, h.1)))
+  agree_definition (def.Compact a) (def.Compact b) x y =
+      agree_inside (λ p. def.Compact (record { type_param = p; form = tt })) (λ p. def.Compact (record { type_param = p; form = tt }))
+      (part_in def.Compact (λ d. d.type_param) (λ a b e. cc)) (part_in def.Compact (λ d. d.type_param) (λ a b e. cc))
+      (agree_type f g a.type_param b.type_param x y)
+  agree_definition (def.BitSequence a) (def.BitSequence b) x y =
+      agree_two f g (λ p q. def.BitSequence (record { bit_store_type = p; bit_order_type = q; form = tt })) a.bit_store_type a.bit_order_type b.bit_store_type b.bit_order_type x y
+      (λ e. (part_in def.BitSequence (λ d. d.bit_store_type) (λ a b e. cc) e, part_in def.BitSequence (λ d. d.bit_order_type) (λ a b e. cc) e))
+  agree_definition (def.Map a) (def.Map b) x y =
+      agree_two f g (λ p q. def.Map (record { key = p; value = q; form = tt })) a.key a.value b.key b.value x y
+      (λ e. (part_in def.Map (λ d. d.key) (λ a b e. cc) e, part_in def.Map (λ d. d.value) (λ a b e. cc) e))
+  agree_definition a b x y = ((λ h. cc), (λ h. cc))
 
   -- the shape of a description and the readings of its references give its content, and come from
   -- it; the references of the two descriptions may be read in two ways

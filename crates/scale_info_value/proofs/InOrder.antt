@@ -68,6 +68,12 @@ all_fail zero read input why h e = absurd (omega arith)
 all_fail (suc n) read input why h e =
     nothing_before (in_turn (replicate (suc n) read) input) ∙ first_fails [] read (replicate n read) input why e
 
+-- so many decoders of one kind, where each gives what another gives
+pub alike :
+    {A : Type 0} {read other : Decoder A} (n : ℕ) (input : List ℕ) → ((bytes : List ℕ) → read bytes ≡ other bytes)
+    → in_turn (replicate n read) input ≡ in_turn (replicate n other) input
+alike n input same = ap (λ d. in_turn (replicate n d) input) (λ i bytes. same bytes i)
+
 -- of so many decoders of one kind, so many were done
 abbrev pub Done : {A : Type 0} → ℕ → Decoder A → List ℕ → ℕ → List A → List ℕ → Type 0
 Done count read input k done rest =

@@ -2,38 +2,30 @@
 use Rattle.std.proofs.Common.{◌≡◌, ℕ, zero, suc, ◌-◌, ◌≤◌, ◌==◌, List, [], ◌∷◌, Option, Some, None}
 use Rattle.std.proofs.Common.{map, find, replicate}
 use Rattle.std.proofs.Common.{cond, Bool, true, false, option_map, refl, ap, sym, ◌∙◌, arith}
-use Rattle.scale_info_types.specs.Portable.{Id, Field, Variant, TypeDef, TypeDefComposite}
+use Rattle.scale_info_types.specs.Portable.{Id, Text, Field, Variant, TypeDef, TypeDefComposite}
 use Rattle.scale_info_types.specs.Portable.{Description}
-use Rattle.scale_info_types.specs.Shapes.{map_variant}
+use Rattle.scale_info_types.specs.declared.ty.TypeDef.{TypeDef as AnyTypeDef}
+use Rattle.scale_info_types.specs.Shapes.{map_variant, map_definition}
 use Rattle.scale_info_types.specs.declared.ty.TypeDef.TheVariants as def
 use Rattle.scale_info_tables.specs.declared.portable.PortableRegistry.{PortableRegistry}
 use Rattle.scale_info_value.specs.declared.value.Dyn.TheVariants as dyn
-use Rattle.scale_info_value.specs.Outcomes.{decoded, failed, too_deep, no_such_type, malformed}
+use Rattle.scale_info_value.specs.Outcomes.{Decoder, decoded, failed, too_deep, no_such_type, malformed}
 use Rattle.scale_info_value.specs.Outcomes.{and_then, outcome_map, in_turn}
 use Rattle.scale_info_value.specs.IntegerDecoders.{byte}
-use Rattle.scale_info_value.specs.ValueDefinitions.{Part, fields_of, primitive}
+use Rattle.scale_info_value.specs.ValueDefinitions.{Part, fields_of, primitive, value_by, compact_by}
 use Rattle.scale_info_primitives.specs.declared.primitive.TypeDefPrimitive.{TypeDefPrimitive}
 use Rattle.scale_info_value.specs.Readings.{type_at, value_within, compact_within}
 use Rattle.scale_info_value.specs.Readings.{definition_within, fields_within}
-use Rattle.scale_info_value.specs.Readings.{compact_definition_within, compact_by_type}
-use Rattle.scale_info_value.specs.Readings.{value_by_type, part_within}
-use Rattle.scale_info_value.specs.Readings.{variant_within, items_within}
+use Rattle.scale_info_value.specs.Readings.{compact_definition_within, by_type, compact_by_type}
+use Rattle.scale_info_value.specs.Readings.{value_by_type, part_within, variant_within}
 
--- where no level is left, a compact integer is too deep
-pub compact_too_deep :
+-- where no level is left, a value is too deep, and so is a compact integer
+pub nothing_left :
     (left : ℕ) (table : PortableRegistry) (id : ℕ) (input : List ℕ) → left ≡ 0
-    → compact_within left table id input ≡ failed too_deep
-unfolding compact_within
-compact_too_deep zero table id input e = refl
-compact_too_deep (suc left) table id input e = absurd (omega arith)
-
--- where no level is left, a value is too deep
-pub value_too_deep :
-    (left : ℕ) (table : PortableRegistry) (id : ℕ) (input : List ℕ) → left ≡ 0
-    → value_within left table id input ≡ failed too_deep
-unfolding value_within
-value_too_deep zero table id input e = refl
-value_too_deep (suc left) table id input e = absurd (omega arith)
+    → (value_within left table id input ≡ failed too_deep) × (compact_within left table id input ≡ failed too_deep)
+unfolding value_within compact_within
+nothing_left zero table id input e = (refl, refl)
+nothing_left (suc left) table id input e = absurd (omega arith)
 
 -- else a compact integer goes by the description of its type
 compact_level :
@@ -86,35 +78,38 @@ first_variant f i (v ∷ vs) = first_or (v.index == i) v (find (λ w. w.index ==
     first_or true v rest other e = refl
     first_or false v rest other e = e
 
--- an id that is no index has no compact integer
-pub compact_no_type :
+-- an id that is no index has no value, and no compact integer
+pub no_type :
     (left : ℕ) (table : PortableRegistry) (id : ℕ) (input : List ℕ) → 1 ≤ left → type_at table id ≡ None
-    → compact_within left table id input ≡ failed no_such_type
-compact_no_type left table id input h e =
-    compact_level left table id input h ∙ ap (λ o. compact_by_type (compact_within (left - 1) table) o input) e
+    → (value_within left table id input ≡ failed no_such_type)
+    × (compact_within left table id input ≡ failed no_such_type)
+no_type left table id input h e = (
+  value_level left table id input h ∙ ap (λ o. value_by_type (part_of left table) o input) e,
+  compact_level left table id input h ∙ ap (λ o. compact_by_type (compact_within (left - 1) table) o input) e,
+)
 
--- a compact integer of a type goes by the type's definition
-pub compact_of_type :
-    (left : ℕ) (table : PortableRegistry) (id : ℕ) (input : List ℕ) (d : Description)
-    → 1 ≤ left → type_at table id ≡ Some d
-    → compact_within left table id input ≡ compact_definition_within left table d.type_def input
-compact_of_type left table id input d h e =
-    compact_level left table id input h ∙ ap (λ o. compact_by_type (compact_within (left - 1) table) o input) e
+-- what comes of a description, by its definition
+by_definition :
+    {A X : Type 0} (decode : AnyTypeDef (Unit {0}) X Text → Decoder A) (part : ℕ → X) (o : Option Description) (d : TypeDef)
+    (input : List ℕ)
+    → option_map (λ t. t.type_def) o ≡ Some d
+    → by_type decode part o input ≡ decode (map_definition {G = Unit {0}} (λ r. part r.id) (λ t. t) d) input
+by_definition decode part None d input e = cc
+by_definition decode part (Some t) d input e =
+    let p : t.type_def ≡ d = cc in
+    ap (λ d. decode (map_definition {G = Unit {0}} (λ r. part r.id) (λ t. t) d) input) p
 
--- an id that is no index has no value
-pub value_no_type :
-    (left : ℕ) (table : PortableRegistry) (id : ℕ) (input : List ℕ) → 1 ≤ left → type_at table id ≡ None
-    → value_within left table id input ≡ failed no_such_type
-value_no_type left table id input h e =
-    value_level left table id input h ∙ ap (λ o. value_by_type (part_of left table) o input) e
-
--- a value of a type goes by the type's definition
-pub value_of_type :
-    (left : ℕ) (table : PortableRegistry) (id : ℕ) (input : List ℕ) (d : Description)
-    → 1 ≤ left → type_at table id ≡ Some d
-    → value_within left table id input ≡ definition_within left table d.type_def input
-value_of_type left table id input d h e =
-    value_level left table id input h ∙ ap (λ o. value_by_type (part_of left table) o input) e
+-- a value of a type goes by the type's definition, and so does a compact integer
+pub type_known :
+    (left : ℕ) (table : PortableRegistry) (id : ℕ) (input : List ℕ) (d : TypeDef)
+    → 1 ≤ left → option_map (λ t. t.type_def) (type_at table id) ≡ Some d
+    → (value_within left table id input ≡ definition_within left table d input)
+    × (compact_within left table id input ≡ compact_definition_within left table d input)
+type_known left table id input d h e = (
+  value_level left table id input h ∙ by_definition value_by (part_of left table) (type_at table id) d input e,
+  compact_level left table id input h
+      ∙ by_definition compact_by (compact_within (left - 1) table) (type_at table id) d input e,
+)
 
 -- a composite is the record of its fields
 pub composite_is :
@@ -157,16 +152,6 @@ variant_found left table vs input rest index v fs f g h =
     variant_by left table vs input rest index f
     ∙ ap (λ o. fields_of index (option_map (map_variant {G = Unit {0}} (part_within left table) (λ t. t)) o) rest) g
     ∙ ap (λ l. outcome_map (λ values. dyn.Variant v.name index values) (fields_within left table l rest)) (sym h)
-
--- so many values of a type go by the type's definition, one level deeper
-pub items_of_type :
-    (left : ℕ) (table : PortableRegistry) (ty : Id) (count : ℕ) (input : List ℕ) (d : Description)
-    → 2 ≤ left → type_at table ty.id ≡ Some d
-    → items_within left table ty count input
-    ≡ in_turn (replicate count (definition_within (left - 1) table d.type_def)) input
-items_of_type left table ty count input d h e =
-    ap (λ read. in_turn (replicate count read) input)
-    (λ i bytes. value_of_type (left - 1) table ty.id bytes d (omega arith) e i)
 
 -- so many values of a primitive
 pub primitives_are :

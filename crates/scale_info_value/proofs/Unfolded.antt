@@ -4,7 +4,8 @@ use Rattle.std.proofs.Common.{option_map, slice_get, refl, ap, sym, subst, ◌�
 use Rattle.scale_info_numberings.specs.Tables.{IsTable, table_system}
 use Rattle.scale_info_numberings.proofs.Tables.{unfolds_alike}
 use Rattle.std.proofs.lemmas.Option.{slice_get-map}
-use Rattle.scale_info_types.specs.Portable.{Id}
+use Rattle.scale_info_types.specs.Portable.{Id, Text}
+use Rattle.scale_info_types.specs.declared.ty.TypeDef.{TypeDef as AnyTypeDef}
 use Rattle.scale_info_types.specs.Shapes.{Shape, shape, map_definition}
 use Rattle.scale_info_types.specs.References.{references}
 use Rattle.scale_info_types.specs.declared.ty.PortableType.{PortableType}
@@ -14,9 +15,8 @@ use Rattle.scale_info_tables.specs.TableSystems.{system_of}
 use Rattle.scale_info_walk.specs.TypeSystems.{entry_of}
 use Rattle.scale_info_tables.specs.declared.portable.PortableRegistry.{PortableRegistry}
 use Rattle.scale_info_value.specs.Outcomes.{Decoder, failed, too_deep}
-use Rattle.scale_info_value.specs.ValueDefinitions.{Part, value_by, compact_by}
-use Rattle.scale_info_value.specs.Readings.{compact_by_type, value_by_type, compact_within}
-use Rattle.scale_info_value.specs.Readings.{value_within, reading}
+use Rattle.scale_info_value.specs.ValueDefinitions.{value_by, compact_by}
+use Rattle.scale_info_value.specs.Readings.{by_type, compact_within, value_within, reading}
 use Rattle.scale_info_types.proofs.ShapeAndReferences.{shape_and_references}
 
 -- references that unfold alike are decoded alike, one by one
@@ -46,29 +46,19 @@ same_entries f g read other law d e h =
     ap (λ t. t.type_def)
     ((shape_and_references (λ r. read r.id) (λ r. other r.id) (λ t. t) d.ty e.ty).1 (shapes, same))
 
-compact_step :
-    (f g : ℕ → Tree Shape) (read other : ℕ → Decoder ℕ) → ((m n : ℕ) → f m ≡ g n → read m ≡ other n)
+-- descriptions that unfold alike are decoded alike
+same_step :
+    {A X : Type 0} (decode : AnyTypeDef (Unit {0}) X Text → Decoder A) (f g : ℕ → Tree Shape) (read other : ℕ → X)
+    → ((m n : ℕ) → f m ≡ g n → read m ≡ other n)
     → (o p : Option PortableType) → tree_of f (option_map entry_of o) ≡ tree_of g (option_map entry_of p)
     → (input : List ℕ)
-    → compact_by_type read (option_map (λ entry. entry.ty) o) input
-    ≡ compact_by_type other (option_map (λ entry. entry.ty) p) input
-compact_step f g read other law None None h input = refl
-compact_step f g read other law None (Some e) h input = cc
-compact_step f g read other law (Some d) None h input = cc
-compact_step f g read other law (Some d) (Some e) h input = ap (λ t. compact_by t input)
-    (same_entries f g read other law d e h)
-
-value_step :
-    (f g : ℕ → Tree Shape) (read other : ℕ → Part) → ((m n : ℕ) → f m ≡ g n → read m ≡ other n)
-    → (o p : Option PortableType) → tree_of f (option_map entry_of o) ≡ tree_of g (option_map entry_of p)
-    → (input : List ℕ)
-    → value_by_type read (option_map (λ entry. entry.ty) o) input
-    ≡ value_by_type other (option_map (λ entry. entry.ty) p) input
-value_step f g read other law None None h input = refl
-value_step f g read other law None (Some e) h input = cc
-value_step f g read other law (Some d) None h input = cc
-value_step f g read other law (Some d) (Some e) h input = ap (λ t. value_by t input)
-    (same_entries f g read other law d e h)
+    → by_type decode read (option_map (λ entry. entry.ty) o) input
+    ≡ by_type decode other (option_map (λ entry. entry.ty) p) input
+same_step decode f g read other law None None h input = refl
+same_step decode f g read other law None (Some e) h input = cc
+same_step decode f g read other law (Some d) None h input = cc
+same_step decode f g read other law (Some d) (Some e) h input =
+    ap (λ t. decode t input) (same_entries f g read other law d e h)
 
 -- where two ids unfold alike, compact integers are decoded alike
 pub compact_unfolded :
@@ -78,7 +68,7 @@ pub compact_unfolded :
 unfolding compact_within
 compact_unfolded zero table other m n h = refl
 compact_unfolded (suc left) table other m n h =
-    let e = compact_step (unfold_to left (system_of table)) (unfold_to left (system_of other))
+    let e = same_step compact_by (unfold_to left (system_of table)) (unfold_to left (system_of other))
     (compact_within left table) (compact_within left other)
     (compact_unfolded left table other) (slice_get table.types m) (slice_get other.types n) h in
     λ i input. e input i
@@ -124,7 +114,7 @@ pub value_unfolded :
 unfolding value_within
 value_unfolded zero table other m n h = refl
 value_unfolded (suc zero) table other m n h =
-    let e = value_step (unfold_to 1 (system_of table)) (unfold_to 1 (system_of other))
+    let e = same_step value_by (unfold_to 1 (system_of table)) (unfold_to 1 (system_of other))
     (λ r. record {
       value = λ bytes. failed too_deep;
       inner = λ bytes. failed too_deep;
@@ -143,7 +133,7 @@ value_unfolded (suc zero) table other m n h =
     (slice_get table.types m) (slice_get other.types n) h in
     λ i input. e input i
 value_unfolded (suc (suc left)) table other m n h =
-    let e = value_step (unfold_to (suc (suc left)) (system_of table)) (unfold_to (suc (suc left)) (system_of other))
+    let e = same_step value_by (unfold_to (suc (suc left)) (system_of table)) (unfold_to (suc (suc left)) (system_of other))
     (λ r. record {
       value = value_within (suc left) table r;
       inner = value_within left table r;

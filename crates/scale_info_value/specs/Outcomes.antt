@@ -1,5 +1,6 @@
 -- What comes of decoding bytes.
 use Rattle.std.specs.Prelude.{◌≡◌, ℕ, List, [], ◌∷◌}
+use Rattle.std.specs.Borrow.{Bor}
 use Rattle.scale_info_value.specs.declared.value.Failure.{Failure}
 use Rattle.scale_info_value.specs.declared.value.Failure.TheVariants as failure
 use Rattle.scale_info_value.specs.declared.value.ValueError.{ValueError}
@@ -46,6 +47,10 @@ in_turn [] input = decoded [] input
 in_turn (first ∷ more) input =
     and_then (first input)
     (λ value rest. outcome_map (λ values. value ∷ values) (in_turn more rest))
+
+-- what was returned is the value of the outcome, and the rest
+abbrev pub IsValueOf : {A : Type 0} → Outcome A → A × Bor (List ℕ) → Type 0
+IsValueOf outcome found = outcome ≡ decoded found.0 found.1.now
 
 -- the error is the failure of the outcome; a failed allocation says nothing of the bytes
 abbrev pub IsErrorOf : {A : Type 0} → Outcome A → ValueError → Type 0

@@ -4,6 +4,7 @@ ghost use Rattle.scale_info_value.specs.Outcomes.{decoded, failed};
 ghost use Rattle.scale_info_value.specs.ValueDefinitions.{compact_primitive};
 ghost use Rattle.scale_info_value.specs.Readings.{compact_within, compact_definition_within};
 
+use crate::definition::definition_of;
 use crate::integer::compact_up_to;
 use crate::value::Failure;
 use scale_info_tables::portable::PortableRegistry;
@@ -41,13 +42,8 @@ pub fn compact_within<'a>(
         (λ found. compact_within left table.now id input.now ≡ decoded found.0 found.1.now) }
     ensures err { IfErr result (λ why. compact_within left table.now id input.now ≡ failed why) }
 {
-    if left == 0 {
-        return Err(Failure::TooDeep);
-    }
-    match table.resolve(id) {
-        None => Err(Failure::NoSuchType),
-        Some(ty) => compact_by(table, &ty.type_def, left, input),
-    }
+    let definition = definition_of(table, id, left)?;
+    compact_by(table, definition, left, input)
 }
 
 /// A compact integer by the definition of its type, and the rest.

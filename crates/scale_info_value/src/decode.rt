@@ -9,6 +9,7 @@ ghost use Rattle.scale_info_value.specs.Readings.{variant_within, items_within, 
 ghost use Rattle.scale_info_value.specs.Readings.{pair_within, pairs_within, reading};
 
 use crate::compact::compact_within;
+use crate::definition::definition_of;
 use crate::integer::{byte, count};
 use crate::list::primitives;
 use crate::primitive::primitive;
@@ -76,13 +77,8 @@ fn value_within<'a>(
         (λ found. value_within left table.now id input.now ≡ decoded found.0 found.1.now) }
     ensures err { IfErr result (IsErrorOf (value_within left table.now id input.now)) }
 {
-    if left == 0 {
-        return Err(ValueError::TooDeep);
-    }
-    match table.resolve(id) {
-        None => Err(ValueError::NoSuchType),
-        Some(ty) => value_by(alloc, table, &ty.type_def, left, input),
-    }
+    let definition = definition_of(table, id, left)?;
+    value_by(alloc, table, definition, left, input)
 }
 
 /// A value by the definition of its type, and the rest.
@@ -253,13 +249,8 @@ fn items<'a>(
     if count == 0 {
         return Ok((Items::new(alloc), input));
     }
-    if left == 1 {
-        return Err(ValueError::TooDeep);
-    }
-    match table.resolve(ty.id) {
-        None => Err(ValueError::NoSuchType),
-        Some(item) => items_by(alloc, table, &item.type_def, count, left - 1, input),
-    }
+    let definition = definition_of(table, ty.id, left - 1)?;
+    items_by(alloc, table, definition, count, left - 1, input)
 }
 
 /// So many values by the definition of their type, and the rest.

@@ -1,12 +1,45 @@
 //! Integers at the start of bytes.
-ghost use Rattle.std.specs.Prelude.{◌≡◌, ◌<◌, ◌≤◌, ◌^◌, ◌+◌, length, IfOk, IfErr};
+ghost use Rattle.std.specs.Prelude.{◌≡◌, ◌<◌, ◌≤◌, ◌^◌, ◌+◌, length, IfOk, IfErr, FitsSigned};
+ghost use Rattle.std.specs.Int.{byte_len, cast_signed, w128};
 ghost use Rattle.scale_info_value.specs.Outcomes.{decoded, failed};
 ghost use Rattle.scale_info_value.specs.IntegerDecoders.{byte, bytes, little_endian, integer};
 ghost use Rattle.scale_info_value.specs.IntegerDecoders.{at_least};
 ghost use Rattle.scale_info_value.specs.IntegerDecoders.{compact_after, compact, compact_below};
 ghost use Rattle.scale_info_value.specs.IntegerDecoders.{count};
+ghost use Rattle.scale_info_value.specs.IntegerWidths.{width_of};
 
 use crate::value::Failure;
+
+/// How many bytes an integer takes.
+#[derive(Clone, Copy)]
+pub enum IntegerWidth {
+    /// One byte.
+    One,
+    /// Two bytes.
+    Two,
+    /// Four bytes.
+    Four,
+    /// Eight bytes.
+    Eight,
+    /// Sixteen bytes.
+    Sixteen,
+}
+
+impl IntegerWidth {
+    /// The number of bytes.
+    #[inline(always)]
+    pub fn bytes(self) -> usize
+        ensures { result ≡ byte_len (width_of self) }
+    {
+        match self {
+            IntegerWidth::One => 1,
+            IntegerWidth::Two => 2,
+            IntegerWidth::Four => 4,
+            IntegerWidth::Eight => 8,
+            IntegerWidth::Sixteen => 16,
+        }
+    }
+}
 
 /// The first byte, and the rest. Error: `Malformed`, where there is none.
 pub fn byte(input: &[u8]) -> Result<(u8, &[u8]), Failure>
@@ -49,6 +82,22 @@ pub fn little_endian(bytes: &[u8]) -> u128
             little_endian(low) + 18446744073709551616 * little_endian(high)
         }
         [low, high @ ..] => *low as u128 + 256 * little_endian(high),
+    }
+}
+
+/// The integer that this one encodes in two's complement.
+#[inline(always)]
+pub fn with_sign(width: IntegerWidth, n: u128) -> i128
+    requires { n < 256 ^ byte_len (width_of width) }
+    ensures integer { result ≡ cast_signed (width_of width) n }
+    ensures range { FitsSigned w128 result }
+{
+    match width {
+        IntegerWidth::One => (n as u8).cast_signed() as i128,
+        IntegerWidth::Two => (n as u16).cast_signed() as i128,
+        IntegerWidth::Four => (n as u32).cast_signed() as i128,
+        IntegerWidth::Eight => (n as u64).cast_signed() as i128,
+        IntegerWidth::Sixteen => n.cast_signed(),
     }
 }
 

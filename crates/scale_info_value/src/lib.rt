@@ -6,6 +6,7 @@
 
 pub mod compact;
 mod decode;
+pub mod definition;
 pub mod integer;
 pub mod laws;
 mod list;

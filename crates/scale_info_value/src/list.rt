@@ -1,35 +1,49 @@
 //! Lists of values of one primitive type.
-ghost use Rattle.std.specs.Prelude.{◌≡◌, ◌≤◌, replicate, IfOk, IfErr};
-ghost use Rattle.scale_info_value.specs.declared.value.Dyn.TheVariants as dyn;
-ghost use Rattle.scale_info_value.specs.Outcomes.{decoded, in_turn, outcome_map, IsErrorOf};
-ghost use Rattle.scale_info_value.specs.IntegerDecoders.{integer};
-ghost use Rattle.scale_info_value.specs.ValueDefinitions.{primitive};
+ghost use Rattle.std.specs.Prelude.{◌≡◌, List, ℕ, length, replicate, IfOk, IfErr};
+ghost use Rattle.std.specs.Int.{byte_len};
+ghost use Rattle.scale_info_value.specs.Outcomes.{decoded, in_turn, IsValueOf, IsErrorOf};
+ghost use Rattle.scale_info_value.specs.IntegerWidths.{width_of, integer_of, integer_within};
+ghost use Rattle.scale_info_value.specs.ValueDefinitions.{truth, primitive};
 
-use crate::integer::little_endian;
-use crate::primitive::primitive;
+use crate::integer::{IntegerWidth, little_endian, with_sign};
+use crate::primitive::{primitive, truth};
 use crate::value::{Dyn, ValueError};
 use scale_info_collections::items::Items;
 use scale_info_types::ty::TypeDefPrimitive;
 use std::alloc::Global;
 
-/// So many integers of an unsigned type with so many bytes, and the rest. All bytes are there
-/// before room is made, so the room is bounded by the input.
+/// The integer in these bytes, the lowest first; in two's complement where it has a sign.
 #[inline(always)]
-fn integers(
-    alloc: Global,
-    width: usize,
-    count: u32,
-    input: &[u8],
-) -> Result<(Items<Dyn>, &[u8]), ValueError>
-    requires some { 1 ≤ width }
-    requires fits { width ≤ 16 }
-    ensures ok { IfOk result (λ found.
-        in_turn (replicate count (λ bytes. outcome_map dyn.Unsigned (integer width bytes)))
-        input.now ≡ decoded found.0 found.1.now) }
-    ensures err { IfErr result (IsErrorOf
-        (in_turn (replicate count (λ bytes. outcome_map dyn.Unsigned (integer width bytes)))
-        input.now)) }
+fn number(width: IntegerWidth, signed: bool, bytes: &[u8]) -> Dyn
+    requires { length bytes.now ≡ byte_len (width_of width) }
+    ensures { result ≡ integer_of width signed bytes.now }
 {
+    let integer = little_endian(bytes);
+    if signed {
+        Dyn::Signed(with_sign(width, integer))
+    } else {
+        Dyn::Unsigned(integer)
+    }
+}
+
+/// So many values of a primitive type that are integers of so many bytes, and the rest. All bytes
+/// are there before room is made, so the room is bounded by the input.
+#[inline(always)]
+fn integers<'a>(
+    alloc: Global,
+    kind: &TypeDefPrimitive,
+    form: IntegerWidth,
+    signed: bool,
+    count: u32,
+    input: &'a [u8],
+) -> Result<(Items<Dyn>, &'a [u8]), ValueError>
+    requires { (bytes : List ℕ) → primitive kind.now bytes ≡ integer_within form signed bytes }
+    ensures ok { IfOk result (IsValueOf
+        (in_turn (replicate count (primitive kind.now)) input.now)) }
+    ensures err { IfErr result
+        (IsErrorOf (in_turn (replicate count (primitive kind.now)) input.now)) }
+{
+    let width = form.bytes();
     if input.len() < count as usize * width {
         return Err(ValueError::Malformed);
     }
@@ -37,7 +51,26 @@ fn integers(
     let mut rest = input;
     for _ in 0..count {
         let (bytes, after) = rest.split_at(width);
-        values.push_reserved(Dyn::Unsigned(little_endian(bytes)));
+        values.push_reserved(number(form, signed, bytes));
+        rest = after;
+    }
+    Ok((Items::from(values), rest))
+}
+
+/// So many truth values, and the rest. The room is bounded by the input, as that of integers is.
+#[inline(always)]
+fn truths(alloc: Global, count: u32, input: &[u8]) -> Result<(Items<Dyn>, &[u8]), ValueError>
+    ensures ok { IfOk result (IsValueOf (in_turn (replicate count truth) input.now)) }
+    ensures err { IfErr result (IsErrorOf (in_turn (replicate count truth) input.now)) }
+{
+    if input.len() < count as usize {
+        return Err(ValueError::Malformed);
+    }
+    let mut values = Vec::with_capacity(alloc, count as usize)?;
+    let mut rest = input;
+    for _ in 0..count {
+        let (value, after) = truth(rest)?;
+        values.push_reserved(Dyn::Bool(value));
         rest = after;
     }
     Ok((Items::from(values), rest))
@@ -50,8 +83,8 @@ fn each<'a>(
     count: u32,
     input: &'a [u8],
 ) -> Result<(Items<Dyn>, &'a [u8]), ValueError>
-    ensures ok { IfOk result (λ found.
-        in_turn (replicate count (primitive kind.now)) input.now ≡ decoded found.0 found.1.now) }
+    ensures ok { IfOk result (IsValueOf
+        (in_turn (replicate count (primitive kind.now)) input.now)) }
     ensures err { IfErr result
         (IsErrorOf (in_turn (replicate count (primitive kind.now)) input.now)) }
 {
@@ -80,11 +113,17 @@ pub(crate) fn primitives<'a>(
         (IsErrorOf (in_turn (replicate count (primitive kind.now)) input.now)) }
 {
     match kind {
-        TypeDefPrimitive::U8 => integers(alloc, 1, count, input),
-        TypeDefPrimitive::U16 => integers(alloc, 2, count, input),
-        TypeDefPrimitive::U32 => integers(alloc, 4, count, input),
-        TypeDefPrimitive::U64 => integers(alloc, 8, count, input),
-        TypeDefPrimitive::U128 => integers(alloc, 16, count, input),
+        TypeDefPrimitive::Bool => truths(alloc, count, input),
+        TypeDefPrimitive::U8 => integers(alloc, kind, IntegerWidth::One, false, count, input),
+        TypeDefPrimitive::U16 => integers(alloc, kind, IntegerWidth::Two, false, count, input),
+        TypeDefPrimitive::U32 => integers(alloc, kind, IntegerWidth::Four, false, count, input),
+        TypeDefPrimitive::U64 => integers(alloc, kind, IntegerWidth::Eight, false, count, input),
+        TypeDefPrimitive::U128 => integers(alloc, kind, IntegerWidth::Sixteen, false, count, input),
+        TypeDefPrimitive::I8 => integers(alloc, kind, IntegerWidth::One, true, count, input),
+        TypeDefPrimitive::I16 => integers(alloc, kind, IntegerWidth::Two, true, count, input),
+        TypeDefPrimitive::I32 => integers(alloc, kind, IntegerWidth::Four, true, count, input),
+        TypeDefPrimitive::I64 => integers(alloc, kind, IntegerWidth::Eight, true, count, input),
+        TypeDefPrimitive::I128 => integers(alloc, kind, IntegerWidth::Sixteen, true, count, input),
         _ => each(alloc, kind, count, input),
     }
 }

@@ -1,13 +1,13 @@
 //! Values of primitive types, which have no parts.
-ghost use Rattle.std.specs.Prelude.{◌≡◌, ◌≤◌, IfOk, IfErr};
-ghost use Rattle.std.specs.Int.{w8, w16, w32, w64, w128};
+ghost use Rattle.std.specs.Prelude.{◌≡◌, ◌≤◌, ◌+◌, length, IfOk, IfErr};
+ghost use Rattle.std.specs.Int.{byte_len};
 ghost use Rattle.scale_info_value.specs.declared.value.Dyn.TheVariants as dyn;
-ghost use Rattle.scale_info_value.specs.Outcomes.{decoded, failed, outcome_map, IsErrorOf};
-ghost use Rattle.scale_info_value.specs.IntegerDecoders.{integer};
-ghost use Rattle.scale_info_value.specs.ValueDefinitions.{truth, text, signed, primitive};
+ghost use Rattle.scale_info_value.specs.Outcomes.{decoded, failed, IsErrorOf};
+ghost use Rattle.scale_info_value.specs.IntegerWidths.{width_of, integer_of, integer_within};
+ghost use Rattle.scale_info_value.specs.ValueDefinitions.{truth, text, primitive};
 ghost use Rattle.scale_info_value.specs.PrimitiveValues.{dyn_of, IsInRange};
 
-use crate::integer::{byte, bytes, count, integer};
+use crate::integer::{IntegerWidth, byte, bytes, count, little_endian, with_sign};
 use crate::value::{Dyn, Failure, ValueError};
 use scale_info_bytes::utf8::from_utf8;
 use scale_info_collections::text::Text;
@@ -42,100 +42,66 @@ fn text(input: &[u8]) -> Result<(PrimitiveValue<'_>, &[u8]), Failure>
     }
 }
 
-/// A truth value, and the rest.
-fn truth(input: &[u8]) -> Result<(PrimitiveValue<'_>, &[u8]), Failure>
+/// A truth value, and the rest. Error: `Malformed`, where the first byte is neither 0 nor 1, or
+/// missing.
+#[inline(always)]
+pub fn truth(input: &[u8]) -> Result<(bool, &[u8]), Failure>
     ensures ok { IfOk result
-        (λ found. truth input.now ≡ decoded (dyn_of found.0) found.1.now) }
-    ensures range { IfOk result (λ found. IsInRange found.0) }
+        (λ found. truth input.now ≡ decoded (dyn.Bool found.0) found.1.now) }
     ensures err { IfErr result (λ why. truth input.now ≡ failed why) }
 {
     let (byte, rest) = byte(input)?;
     match byte {
-        0 => Ok((PrimitiveValue::Bool(false), rest)),
-        1 => Ok((PrimitiveValue::Bool(true), rest)),
+        0 => Ok((false, rest)),
+        1 => Ok((true, rest)),
         _ => Err(Failure::Malformed),
     }
 }
 
-/// An integer of an unsigned type with so many bytes, and the rest.
-fn unsigned(width: usize, input: &[u8]) -> Result<(PrimitiveValue<'_>, &[u8]), Failure>
-    requires { width ≤ 16 }
+/// The integer in these bytes, the lowest first; in two's complement where it has a sign.
+#[inline(always)]
+fn integer_of<'a>(width: IntegerWidth, signed: bool, bytes: &[u8]) -> PrimitiveValue<'a>
+    requires { length bytes.now ≡ byte_len (width_of width) }
+    ensures value { dyn_of result ≡ integer_of width signed bytes.now }
+    ensures range { IsInRange result }
+{
+    let integer = little_endian(bytes);
+    if signed {
+        PrimitiveValue::Signed(with_sign(width, integer))
+    } else {
+        PrimitiveValue::Unsigned(integer)
+    }
+}
+
+/// The integer of so many bytes at the start of the input, which has them, and the rest.
+#[inline(always)]
+pub fn split_integer(width: IntegerWidth, signed: bool, input: &[u8]) -> (PrimitiveValue<'_>, &[u8])
+    requires { byte_len (width_of width) ≤ length input.now }
+    ensures value { integer_within width signed input.now
+        ≡ decoded (dyn_of result.0) result.1.now }
+    ensures range { IsInRange result.0 }
+    ensures rest { length result.1.now + byte_len (width_of width) ≡ length input.now }
+{
+    let (bytes, rest) = input.split_at(width.bytes());
+    (integer_of(width, signed, bytes), rest)
+}
+
+/// An integer of so many bytes, and the rest.
+#[inline(always)]
+fn integer(
+    width: IntegerWidth,
+    signed: bool,
+    input: &[u8],
+) -> Result<(PrimitiveValue<'_>, &[u8]), Failure>
     ensures ok { IfOk result (λ found.
-        outcome_map dyn.Unsigned (integer width input.now)
-        ≡ decoded (dyn_of found.0) found.1.now) }
+        integer_within width signed input.now ≡ decoded (dyn_of found.0) found.1.now) }
     ensures range { IfOk result (λ found. IsInRange found.0) }
-    ensures err { IfErr result
-        (λ why. outcome_map dyn.Unsigned (integer width input.now) ≡ failed why) }
+    ensures err { IfErr result (λ why. integer_within width signed input.now ≡ failed why) }
 {
-    let (n, rest) = integer(width, input)?;
-    Ok((PrimitiveValue::Unsigned(n), rest))
-}
-
-/// An integer of 8 bits with a sign, and the rest.
-fn signed_8(input: &[u8]) -> Result<(PrimitiveValue<'_>, &[u8]), Failure>
-    ensures ok { IfOk result
-        (λ found. signed w8 input.now ≡ decoded (dyn_of found.0) found.1.now) }
-    ensures range { IfOk result (λ found. IsInRange found.0) }
-    ensures err { IfErr result (λ why. signed w8 input.now ≡ failed why) }
-{
-    let (n, rest) = integer(1, input)?;
-    Ok((
-        PrimitiveValue::Signed((n as u8).cast_signed() as i128),
-        rest,
-    ))
-}
-
-/// An integer of 16 bits with a sign, and the rest.
-fn signed_16(input: &[u8]) -> Result<(PrimitiveValue<'_>, &[u8]), Failure>
-    ensures ok { IfOk result
-        (λ found. signed w16 input.now ≡ decoded (dyn_of found.0) found.1.now) }
-    ensures range { IfOk result (λ found. IsInRange found.0) }
-    ensures err { IfErr result (λ why. signed w16 input.now ≡ failed why) }
-{
-    let (n, rest) = integer(2, input)?;
-    Ok((
-        PrimitiveValue::Signed((n as u16).cast_signed() as i128),
-        rest,
-    ))
-}
-
-/// An integer of 32 bits with a sign, and the rest.
-fn signed_32(input: &[u8]) -> Result<(PrimitiveValue<'_>, &[u8]), Failure>
-    ensures ok { IfOk result
-        (λ found. signed w32 input.now ≡ decoded (dyn_of found.0) found.1.now) }
-    ensures range { IfOk result (λ found. IsInRange found.0) }
-    ensures err { IfErr result (λ why. signed w32 input.now ≡ failed why) }
-{
-    let (n, rest) = integer(4, input)?;
-    Ok((
-        PrimitiveValue::Signed((n as u32).cast_signed() as i128),
-        rest,
-    ))
-}
-
-/// An integer of 64 bits with a sign, and the rest.
-fn signed_64(input: &[u8]) -> Result<(PrimitiveValue<'_>, &[u8]), Failure>
-    ensures ok { IfOk result
-        (λ found. signed w64 input.now ≡ decoded (dyn_of found.0) found.1.now) }
-    ensures range { IfOk result (λ found. IsInRange found.0) }
-    ensures err { IfErr result (λ why. signed w64 input.now ≡ failed why) }
-{
-    let (n, rest) = integer(8, input)?;
-    Ok((
-        PrimitiveValue::Signed((n as u64).cast_signed() as i128),
-        rest,
-    ))
-}
-
-/// An integer of 128 bits with a sign, and the rest.
-fn signed_128(input: &[u8]) -> Result<(PrimitiveValue<'_>, &[u8]), Failure>
-    ensures ok { IfOk result
-        (λ found. signed w128 input.now ≡ decoded (dyn_of found.0) found.1.now) }
-    ensures range { IfOk result (λ found. IsInRange found.0) }
-    ensures err { IfErr result (λ why. signed w128 input.now ≡ failed why) }
-{
-    let (n, rest) = integer(16, input)?;
-    Ok((PrimitiveValue::Signed(n.cast_signed()), rest))
+    if input.len() < width.bytes() {
+        return Err(Failure::Malformed);
+    }
+    Ok(split_integer(width, signed, input))
 }
 
 /// The value of a primitive type at the start of the input, and the rest. It does not allocate.
@@ -153,18 +119,21 @@ pub fn read_primitive<'a>(
     ensures err { IfErr result (λ why. primitive kind.now input.now ≡ failed why) }
 {
     match kind {
-        TypeDefPrimitive::Bool => truth(input),
+        TypeDefPrimitive::Bool => {
+            let (value, rest) = truth(input)?;
+            Ok((PrimitiveValue::Bool(value), rest))
+        }
         TypeDefPrimitive::Str => text(input),
-        TypeDefPrimitive::U8 => unsigned(1, input),
-        TypeDefPrimitive::U16 => unsigned(2, input),
-        TypeDefPrimitive::U32 => unsigned(4, input),
-        TypeDefPrimitive::U64 => unsigned(8, input),
-        TypeDefPrimitive::U128 => unsigned(16, input),
-        TypeDefPrimitive::I8 => signed_8(input),
-        TypeDefPrimitive::I16 => signed_16(input),
-        TypeDefPrimitive::I32 => signed_32(input),
-        TypeDefPrimitive::I64 => signed_64(input),
-        TypeDefPrimitive::I128 => signed_128(input),
+        TypeDefPrimitive::U8 => integer(IntegerWidth::One, false, input),
+        TypeDefPrimitive::U16 => integer(IntegerWidth::Two, false, input),
+        TypeDefPrimitive::U32 => integer(IntegerWidth::Four, false, input),
+        TypeDefPrimitive::U64 => integer(IntegerWidth::Eight, false, input),
+        TypeDefPrimitive::U128 => integer(IntegerWidth::Sixteen, false, input),
+        TypeDefPrimitive::I8 => integer(IntegerWidth::One, true, input),
+        TypeDefPrimitive::I16 => integer(IntegerWidth::Two, true, input),
+        TypeDefPrimitive::I32 => integer(IntegerWidth::Four, true, input),
+        TypeDefPrimitive::I64 => integer(IntegerWidth::Eight, true, input),
+        TypeDefPrimitive::I128 => integer(IntegerWidth::Sixteen, true, input),
         TypeDefPrimitive::Char | TypeDefPrimitive::U256 | TypeDefPrimitive::I256 => {
             Err(Failure::Unsupported)
         }

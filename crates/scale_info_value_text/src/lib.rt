@@ -4,5 +4,6 @@
 //! only from a table, and makes no value on the way.
 #![tactic(auto)]
 
+mod hexadecimal;
 pub mod value_text;
 mod writer;

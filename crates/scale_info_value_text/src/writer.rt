@@ -1,16 +1,16 @@
 //! A visitor that writes what it is shown as JSON.
-ghost use Rattle.std.specs.Prelude.{◌≡◌, ◌++◌, IfOk, codes, string_bytes};
+ghost use Rattle.std.specs.Prelude.{◌≡◌, ◌++◌};
 ghost use Rattle.std.specs.List.{flat_map};
 ghost use Rattle.std.specs.Str.{IsUtf8};
 ghost use Rattle.std.proofs.Common.{refl, sym, ap, ◌∙◌, append_assoc};
 ghost use Rattle.std.proofs.lemmas.List.{append-nil};
 ghost use Rattle.std.proofs.lemmas.Grind.{flat_map-append};
-ghost use Rattle.hex.specs.Hex.{encode_lower};
 ghost use Rattle.json.specs.Print.{print};
 ghost use Rattle.json.specs.Written.{Writes};
 ghost use Rattle.scale_info_visit.specs.Events.{names};
 ghost use Rattle.scale_info_value_text.specs.ValueTexts.{event_tokens, opening, closing};
 
+use crate::hexadecimal::hexadecimal;
 use itoa::Buffer;
 use json::Writer;
 use scale_info_types::form::PortableForm;
@@ -39,16 +39,6 @@ impl TextWriter {
         let TextWriter { out, .. } = self;
         out.into_inner()
     }
-}
-
-/// `0x` and the bytes in lower-case hexadecimal digits.
-fn hexadecimal(alloc: Global, bytes: &[u8]) -> Result<String, AllocError>
-    ensures { IfOk result (λ text. string_bytes text ≡ codes "0x" ++ encode_lower bytes.now) }
-{
-    let digits = hex::encode(alloc, bytes)?;
-    let mut text = String::from_str(alloc, "0x")?;
-    text.push_str(digits.as_str())?;
-    Ok(text)
 }
 
 /// Begins fields.

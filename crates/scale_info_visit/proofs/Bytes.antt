@@ -1,17 +1,26 @@
 -- Bytes shown one by one.
 use Rattle.std.proofs.Common.{◌≡◌, ℕ, zero, suc, ◌+◌, ◌*◌, ◌<◌, ◌≤◌, List, [], ◌∷◌, ◌++◌, length, map, take, drop, replicate}
-use Rattle.std.proofs.Common.{refl, ap, sym, ◌∙◌, slice_index_or, append_assoc, arith, inl, inr}
+use Rattle.std.proofs.Common.{refl, ap, sym, ◌∙◌, slice_index_or, append_assoc, arith, inl, inr, true, false, Some}
 use Rattle.std.proofs.lemmas.Grind.{common_steps}
 use Rattle.std.proofs.lemmas.Bool.{cases_lt}
+use Rattle.scale_info_types.specs.Portable.{TypeDef}
+use Rattle.scale_info_tables.specs.declared.portable.PortableRegistry.{PortableRegistry}
 use Rattle.scale_info_primitives.specs.declared.primitive.TypeDefPrimitive.TheVariants as kind
+use Rattle.scale_info_value.specs.declared.integer.IntegerWidth.TheVariants as width
+use Rattle.scale_info_value.specs.declared.value.Dyn.{Dyn}
 use Rattle.scale_info_value.specs.declared.value.Dyn.TheVariants as dyn
-use Rattle.scale_info_value.specs.Outcomes.{decoded, failed, malformed, and_then, outcome_map, in_turn}
+use Rattle.scale_info_value.specs.Outcomes.{Outcome, Decoder, decoded, failed, malformed, and_then, outcome_map, in_turn}
 use Rattle.scale_info_value.specs.IntegerDecoders.{bytes}
+use Rattle.scale_info_value.specs.IntegerWidths.{integer_of, integer_within}
 use Rattle.scale_info_value.specs.ValueDefinitions.{primitive}
+use Rattle.scale_info_value.specs.Readings.{definition_within}
+use Rattle.scale_info_value.proofs.Steps.{primitives_are}
 use Rattle.scale_info_value.proofs.Texts.{bytes_whole}
-use Rattle.scale_info_value.proofs.Integers.{read_integer, number_there, integers_missing}
+use Rattle.scale_info_value.proofs.Integers.{value_there, values_missing, unsigned_within}
+use Rattle.scale_info_value.proofs.InOrder.{alike}
 use Rattle.std.proofs.lemmas.List.{take_more, map-append, take_all, take-append-drop}
-use Rattle.scale_info_visit.specs.Events.{unsigned, begin_list, end_list, integers_events}
+use Rattle.scale_info_visit.specs.Events.{unsigned, begin_list, end_list, integers_events, is_byte}
+use Rattle.scale_info_visit.proofs.Primitives.{byte_type}
 
 -- one byte more
 pub one_byte :
@@ -42,31 +51,45 @@ bytes_split all at =
 bytes_short : (n : ℕ) (input : List ℕ) → length input < n → bytes n input ≡ failed malformed
 bytes_short n input h = grind (arith, common_steps)
 
--- a byte is an integer of one byte
-byte_there : (b : ℕ) (bs : List ℕ) → read_integer 1 (b ∷ bs) ≡ decoded (dyn.Unsigned b) bs
+-- a byte, as an integer of one byte
+abbrev read_byte : Decoder Dyn
+read_byte = integer_within width.One false
+
+-- where it is there
+byte_there : (b : ℕ) (bs : List ℕ) → read_byte (b ∷ bs) ≡ decoded (dyn.Unsigned b) bs
 byte_there b bs =
     let one : b + 256 * 0 ≡ b = omega arith in
-    number_there 1 (b ∷ bs) (omega arith) ∙ ap (λ n. decoded (dyn.Unsigned n) bs) one
+    value_there (integer_of width.One false) 1 (b ∷ bs) (omega arith) ∙ ap (λ n. decoded (dyn.Unsigned n) bs) one
 
 -- where so many bytes are there, they are as many integers
 each_byte :
     (n : ℕ) (input : List ℕ) → n ≤ length input
-    → in_turn (replicate n (read_integer 1)) input ≡ decoded (map dyn.Unsigned (take n input)) (drop n input)
+    → in_turn (replicate n read_byte) input ≡ decoded (map dyn.Unsigned (take n input)) (drop n input)
 each_byte zero input h = refl
 each_byte (suc n) [] h = absurd (omega arith)
 each_byte (suc n) (b ∷ bs) h =
-    ap (λ o. and_then o (λ v r. outcome_map (λ vs. v ∷ vs) (in_turn (replicate n (read_integer 1)) r))) (byte_there b bs)
+    ap (λ o. and_then o (λ v r. outcome_map (λ vs. v ∷ vs) (in_turn (replicate n read_byte) r))) (byte_there b bs)
     ∙ ap (λ o. outcome_map (λ vs. dyn.Unsigned b ∷ vs) o) (each_byte n bs (omega arith))
 
 -- so many bytes are as many integers
-pub bytes_are_integers :
+bytes_are_integers :
     (n : ℕ) (input : List ℕ)
     → in_turn (replicate n (primitive kind.U8)) input ≡ outcome_map (λ all. map dyn.Unsigned all) (bytes n input)
 bytes_are_integers n input =
-    elim (cases_lt (length input) n) [
+    alike n input (unsigned_within width.One)
+    ∙ elim (cases_lt (length input) n) [
       | inl short ↦
-          integers_missing n 1 input (omega (arith, short))
+          values_missing (integer_of width.One false) n 1 input (omega (arith, short))
           ∙ ap (λ o. outcome_map (λ all. map dyn.Unsigned all) o) (sym (bytes_short n input short))
       | inr long ↦
           each_byte n input long ∙ ap (λ o. outcome_map (λ all. map dyn.Unsigned all) o) (sym (bytes_whole n input long))
     ]
+
+-- values of a type of bytes, by what the bytes are
+pub bytes_read :
+    (left : ℕ) (table : PortableRegistry) (d : TypeDef) (n : ℕ) (input : List ℕ) {o : Outcome (List ℕ)}
+    → is_byte (Some d) ≡ true → bytes n input ≡ o
+    → in_turn (replicate n (definition_within left table d)) input ≡ outcome_map (λ all. map dyn.Unsigned all) o
+bytes_read left table d n input byte_sized e =
+    primitives_are left table d kind.U8 n input (byte_type d byte_sized) ∙ bytes_are_integers n input
+    ∙ ap (λ o. outcome_map (λ all. map dyn.Unsigned all) o) e

@@ -10,7 +10,7 @@ use Rattle.scale_info_types.specs.Shapes.{map_field}
 use Rattle.scale_info_tables.specs.declared.portable.PortableRegistry.{PortableRegistry}
 use Rattle.scale_info_value.specs.declared.value.Dyn.{Dyn}
 use Rattle.scale_info_value.specs.declared.value.Dyn.TheVariants as dyn
-use Rattle.scale_info_value.specs.Outcomes.{Outcome, decoded, failed, Decoder, and_then, outcome_map}
+use Rattle.scale_info_value.specs.Outcomes.{Outcome, decoded, failed, Decoder, and_then, outcome_map, in_turn}
 use Rattle.scale_info_value.specs.ValueDefinitions.{field}
 use Rattle.scale_info_value.specs.Readings.{fields_within, part_within, value_within}
 use Rattle.scale_info_value.specs.Readings.{definition_within, variant_within, items_within, members_within, pairs_within}
@@ -20,11 +20,11 @@ use Rattle.scale_info_visit.specs.Events.{fields_of, definition_at, pair_of, is_
 use Rattle.scale_info_visit.specs.Events.{field as name_of}
 use Rattle.scale_info_value.specs.IntegerDecoders.{byte, count}
 use Rattle.scale_info_value.proofs.Steps.{variant_found, composite_is}
-use Rattle.scale_info_visit.specs.Visits.{HasVisited, field_within, bracketed, placed, value_by, field_by}
+use Rattle.scale_info_visit.specs.Visits.{HasVisited, field_within, bracketed, placed, value_by, field_by, key_then_value}
 use Rattle.scale_info_visit.specs.Visits.{fields_by, items_by, members_by, list_by}
 use Rattle.scale_info_visit.proofs.Events.{list_typed, record_typed, variant_typed, integers_alone, integers_joined}
-use Rattle.scale_info_visit.proofs.Places.{length_in_place}
-use Rattle.scale_info_visit.proofs.Visiting.{Appends, AreNext, IsNext, are_next}
+use Rattle.scale_info_visit.proofs.Places.{length_in_place, drop_replicate}
+use Rattle.scale_info_visit.proofs.Visiting.{Appends, AreNext, IsNext, are_next, Adds, adds_placed}
 use Rattle.scale_info_visit.proofs.Turns.{mapped_from, with_first, as_many}
 
 -- a name stays as it is
@@ -118,6 +118,24 @@ tuple_same table d tuple ids vs is whole long =
     ∙ list_typed table (Some (def.Tuple tuple)) vs
     ∙ ap (λ l. list_events false (in_place (value_by table) vs (map (λ t. definition_at table t.id) l))) (sym whole)
     ∙ list_apart table (map (λ t. definition_at table t.id) ids) (length ids) vs long
+
+-- a pair is shown as the list of its key and its value
+pub pair_same :
+    (left : ℕ) (table : PortableRegistry) (key value : Id) (input : List ℕ) (vs : List Dyn) (rest : List ℕ)
+    → in_turn (key_then_value left table key value) input ≡ decoded vs rest
+    → events_by table (Some (pair_of key value)) (dyn.List vs)
+    ≡ bracketed (begin_list 2) (members_by table (key ∷ value ∷ [])) end_list vs
+pair_same left table key value input vs rest e =
+    tuple_same table (pair_of key value) _ (key ∷ value ∷ []) vs refl refl
+    (as_many (key_then_value left table key value) input vs rest e)
+
+-- one item more of so many of one type
+pub adds_items :
+    (table : PortableRegistry) (type : Option TypeDef) (count k : ℕ) → k < count
+    → Adds (items_by table type count) (λ value. value_by table value type) k
+adds_items table type count k h =
+    adds_placed (value_by table) (replicate count type) (replicate (count - (k + 1)) type) type k
+    (drop_replicate count k type h)
 
 -- the events of a map
 pub map_same :

@@ -1,12 +1,9 @@
 -- What is decoded by decoders in turn.
-use Rattle.std.proofs.Common.{◌≡◌, ℕ, suc, ◌≤◌, List, [], ◌∷◌, ◌++◌, length, take, drop, replicate}
+use Rattle.std.proofs.Common.{◌≡◌, ℕ, suc, List, [], ◌∷◌, ◌++◌, length, replicate}
 use Rattle.std.proofs.Common.{refl, ap, sym, ◌∙◌}
 use Rattle.std.proofs.lemmas.List.{length-replicate}
 use Rattle.scale_info_value.specs.Outcomes.{Outcome, decoded, failed, Decoder, and_then, outcome_map, in_turn}
-use Rattle.scale_info_value.specs.declared.value.Dyn.TheVariants as dyn
-use Rattle.scale_info_value.specs.IntegerDecoders.{little_endian}
 use Rattle.scale_info_value.proofs.InOrder.{preceded}
-use Rattle.scale_info_value.proofs.Integers.{read_integer, number_there}
 
 -- what is decoded by a function of a value is that of a value that was decoded
 pub mapped_from :
@@ -52,13 +49,3 @@ pub so_many :
     {A : Type 0} (n : ℕ) (d : Decoder A) (input : List ℕ) (vs : List A) (rest : List ℕ)
     → in_turn (replicate n d) input ≡ decoded vs rest → length vs ≡ n
 so_many n d input vs rest e = as_many (replicate n d) input vs rest e ∙ length-replicate n d
-
--- an integer that was read of the first bytes, so many, and the others
-pub integer_read :
-    (width n : ℕ) (input front back : List ℕ)
-    → width ≤ length input → n ≡ little_endian front → front ≡ take width input → back ≡ drop width input
-    → read_integer width input ≡ decoded (dyn.Unsigned n) back
-integer_read width n input front back long is e f =
-    number_there width input long
-    ∙ ap (λ m. decoded (dyn.Unsigned m) (drop width input)) (sym (is ∙ ap little_endian e))
-    ∙ ap (λ after. decoded (dyn.Unsigned n) after) (sym f)

@@ -1,5 +1,5 @@
 -- Visits of one part after another.
-use Rattle.std.proofs.Common.{◌≡◌, ℕ, ◌+◌, List, [], ◌∷◌, ◌++◌, length, drop, Option, ap, sym, subst, refl, ◌∙◌, append_assoc, length-append}
+use Rattle.std.proofs.Common.{◌≡◌, ℕ, ◌+◌, ◌-◌, ◌<◌, ◌≤◌, arith, replicate, List, [], ◌∷◌, ◌++◌, length, drop, Option, ap, sym, subst, refl, ◌∙◌, append_assoc, length-append}
 use Rattle.std.proofs.Common.{Result, Ok, Err}
 use Rattle.std.specs.Prelude.{OnOk, IfErr}
 use Rattle.std.specs.Result.{IsErrAnd}
@@ -9,18 +9,25 @@ use Rattle.std.proofs.lemmas.List.{append-nil}
 use Rattle.std.proofs.lemmas.Grind.{flat_map-append}
 use Rattle.scale_info_value.specs.declared.value.Failure.{Failure}
 use Rattle.scale_info_value.specs.Outcomes.{Outcome, decoded, failed, Decoder, outcome_map, in_turn}
-use Rattle.scale_info_value.proofs.InOrder.{preceded, nothing_before, reads_one, reads_none, first_fails}
+use Rattle.scale_info_value.proofs.InOrder.{preceded, nothing_before, reads_one, reads_none, first_fails, take_next}
 use Rattle.scale_info_visit.specs.declared.visitor.VisitError.{VisitError}
 use Rattle.scale_info_visit.specs.declared.visitor.VisitError.TheVariants as error
 use Rattle.scale_info_types.specs.Portable.{TypeDef}
 use Rattle.scale_info_visit.specs.Events.{Event}
-use Rattle.scale_info_visit.specs.Visits.{HasVisited, HasFailed, StopsWithin, IsVisitErrorOf, bracketed, placed}
+use Rattle.scale_info_visit.specs.Visits.{HasVisited, HasFailed, StopsWithin, IsVisitErrorOf, HasReturned, bracketed, placed}
 use Rattle.scale_info_visit.proofs.Places.{placed_append}
 use Rattle.scale_info_visit.proofs.Turns.{with_first, mapped_from, preceded_from}
 
 -- events do what they do one after another
 abbrev pub Appends : {V : Type 0} → (List Event → V → V → Type 0) → Type 0
 Appends {V} Visited = (es fs : List Event) (a b c : V) → Visited es a b → Visited fs b c → Visited (es ++ fs) a c
+
+-- some events and more, which are all of these
+pub appended :
+    {V : Type 0} {Visited : List Event → V → V → Type 0} {es fs all : List Event} {a b c : V}
+    → Appends Visited → es ++ fs ≡ all → Visited es a b → Visited fs b c → Visited all a c
+appended {Visited = Visited} {es} {fs} {all} {a} {b} {c} append parts h k =
+    subst (λ events. Visited events a c) parts (append es fs a b c h k)
 
 -- where it stopped after some events, these were shown before
 abbrev pub StopsLater :
@@ -197,6 +204,26 @@ failure_passed Visited Stopped events {whole} {old} r why none h e =
 pub by_answer : {E : Type 0} (P : Type 0) {r : Result (Unit {0}) E} → r ≡ Ok tt → OnOk r P → P
 by_answer P {r} e h = IfOk-at_ok (λ _. P) e h
 
+module _
+    {V E : Type 0} (Visited : List Event → V → V → Type 0) (Stopped : List Event → V → E → V → Type 0) (es : List Event)
+    (old new : V) where
+  -- what a visitor returned, by what holds where it is no error, and where it is one
+  pub returned :
+      (r : Result (Unit {0}) E)
+      → OnOk r (Visited es old new) → IfErr r (λ e. Stopped es old e new) → HasReturned Visited Stopped es old new r
+  returned (Ok x) h k = h
+  returned (Err e) h k = k
+
+  -- where it is no error
+  pub took : (r : Result (Unit {0}) E) → HasReturned Visited Stopped es old new r → OnOk r (Visited es old new)
+  took (Ok x) h = h
+  took (Err e) h = tt
+
+  -- where it is one
+  pub refused : (r : Result (Unit {0}) E) → HasReturned Visited Stopped es old new r → IfErr r (λ e. Stopped es old e new)
+  refused (Ok x) h = tt
+  refused (Err e) h = h
+
 -- a value whose events are shown at once
 pub shown_whole :
     {A V : Type 0} {Visited : List Event → V → V → Type 0} {events : A → List Event} {outcome : Outcome A}
@@ -322,6 +349,63 @@ module _ {A V : Type 0} {Visited : List Event → V → V → Type 0} {shows : L
           parts = ap shows (all.2 ∙ ap (λ vs. p.done ++ vs) parts.5) ∙ next.1;
         };
   }
+
+-- So many parts of one kind: of these `k` were decoded and shown.
+abbrev pub IsRepeating :
+    {A V : Type 0} → (List Event → V → V → Type 0) → (List A → List Event) → ℕ → Decoder A → List ℕ → ℕ → List ℕ
+    → V → V → Type 0
+IsRepeating Visited shows count read input k rest old now =
+    IsVisiting Visited shows k (in_turn (replicate count read) input) (in_turn (replicate (count - k) read) rest) old now
+
+-- the next one is the first of those that are left
+take_one :
+    {A V : Type 0} {Visited : List Event → V → V → Type 0} {shows : List A → List Event}
+    (count : ℕ) (read : Decoder A) (input : List ℕ) (k : ℕ) (rest : List ℕ) {old now : V}
+    → k < count → IsRepeating Visited shows count read input k rest old now
+    → IsVisiting Visited shows k (in_turn (replicate count read) input)
+    (in_turn (read ∷ replicate (count - (k + 1)) read) rest) old now
+take_one {Visited = Visited} {shows} count read input k rest {old} {now} h p =
+    subst (λ ds. IsVisiting Visited shows k (in_turn (replicate count read) input) (in_turn ds rest) old now)
+    (take_next count k read h) p
+
+module _
+    {A V : Type 0} {Visited : List Event → V → V → Type 0} {shows : List A → List Event} {alone : A → List Event}
+    (count : ℕ) (read : Decoder A) (input : List ℕ) (k : ℕ) (rest : List ℕ) {old now : V} where
+  -- one more
+  pub repeats :
+      (after : List ℕ) {new : V}
+      → Appends Visited → Adds shows alone k → k < count
+      → IsRepeating Visited shows count read input k rest old now
+      → HasVisited Visited alone (read rest) after now new
+      → IsRepeating Visited shows count read input (k + 1) after old new
+  repeats after append adds h p q =
+      goes_on read (replicate (count - (k + 1)) read) rest after append adds (take_one count read input k rest h p) q
+
+  -- the next one comes next
+  pub next_repeated :
+      Adds shows alone k → k < count → IsRepeating Visited shows count read input k rest old now
+      → IsNext Visited shows alone (in_turn (replicate count read) input) (read rest) old now
+  next_repeated adds h p = next_part read (replicate (count - (k + 1)) read) rest adds (take_one count read input k rest h p)
+
+module _
+    {A V : Type 0} {Visited : List Event → V → V → Type 0} {shows : List A → List Event} (count : ℕ) (read : Decoder A)
+    (input : List ℕ) {old : V} where
+  -- before the first one
+  pub starts : shows [] ≡ [] → Visited [] old old → IsRepeating Visited shows count read input 0 input old old
+  starts none h =
+      let all : count ≡ count - 0 = omega arith in
+      subst (λ n. IsVisiting Visited shows 0 (in_turn (replicate count read) input) (in_turn (replicate n read) input) old old)
+      all (begins none h)
+
+  -- after the last one
+  pub all_shown :
+      (k : ℕ) (rest : List ℕ) {new : V} → count ≤ k → IsRepeating Visited shows count read input k rest old new
+      → HasVisited Visited shows (in_turn (replicate count read) input) rest old new
+  all_shown k rest {new} h p =
+      let none : count - k ≡ 0 = omega arith in
+      ends rest
+      (subst (λ n. IsVisiting Visited shows k (in_turn (replicate count read) input) (in_turn (replicate n read) rest) old new)
+      none p)
 
 -- A value made of parts has their events.
 module _

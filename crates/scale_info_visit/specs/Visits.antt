@@ -1,16 +1,18 @@
 -- What comes of showing a value to a visitor.
 use Rattle.std.specs.Prelude.{◌≡◌, ◌++◌, ℕ, Bool, List, [], ◌∷◌, Option, map, replicate}
+use Rattle.std.specs.Prelude.{Result, Ok, Err}
+use Rattle.std.specs.Borrow.{Bor}
 use Rattle.std.specs.List.{flat_map}
 use Rattle.scale_info_types.specs.Portable.{Id, Text, Field, TypeDef}
 use Rattle.scale_info_types.specs.Shapes.{map_field}
 use Rattle.scale_info_tables.specs.declared.portable.PortableRegistry.{PortableRegistry}
 use Rattle.scale_info_value.specs.declared.value.Failure.{Failure}
-use Rattle.scale_info_value.specs.Outcomes.{Decoder, Outcome, decoded, failed}
+use Rattle.scale_info_value.specs.Outcomes.{Decoder, Outcome, decoded, failed, in_turn}
 use Rattle.scale_info_value.specs.ValueDefinitions.{field}
 use Rattle.scale_info_value.specs.Readings.{part_within}
 use Rattle.scale_info_value.specs.declared.value.Dyn.{Dyn}
 use Rattle.scale_info_visit.specs.Events.{Event, definition_at, field_types, in_place, is_byte}
-use Rattle.scale_info_visit.specs.Events.{list_events, field_events, events_by}
+use Rattle.scale_info_visit.specs.Events.{list_events, field_events, events_by, events_of}
 use Rattle.scale_info_visit.specs.declared.visitor.VisitError.{VisitError}
 use Rattle.scale_info_visit.specs.declared.visitor.VisitError.TheVariants as error
 
@@ -51,6 +53,27 @@ IsVisitErrorOf Visited Stopped events outcome old new (error.Failed why) =
     HasFailed Visited outcome why old new
 IsVisitErrorOf Visited Stopped events outcome old new (error.Stopped e) =
     HasStopped Stopped events outcome old e new
+
+-- what a visitor returned for events: it was shown them, or it refused the last of them
+abbrev pub HasReturned :
+    {V E : Type 0} → (List Event → V → V → Type 0) → (List Event → V → E → V → Type 0)
+    → List Event → V → V → Result (Unit {0}) E → Type 0
+HasReturned Visited Stopped events old new (Ok _) = Visited events old new
+HasReturned Visited Stopped events old new (Err e) = Stopped events old e new
+
+-- so many values without parts, which the decoder gives one after another, were shown
+abbrev pub HasVisitedEach : {V : Type 0} → (List Event → V → V → Type 0)
+    → ℕ → Decoder Dyn → List ℕ → V → V → Bor (List ℕ) → Type 0
+HasVisitedEach Visited count read input old new rest =
+    HasVisited Visited (flat_map events_of) (in_turn (replicate count read) input) rest.now old new
+
+-- the error is that of showing so many values without parts
+abbrev pub IsErrorOfEach :
+    {V E : Type 0} → (List Event → V → V → Type 0) → (List Event → V → E → V → Type 0)
+    → ℕ → Decoder Dyn → List ℕ → V → V → VisitError E → Type 0
+IsErrorOfEach Visited Stopped count read input old new =
+    IsVisitErrorOf Visited Stopped (flat_map events_of) (in_turn (replicate count read) input)
+    old new
 
 -- the visitor was shown the first of these events, and refused the last that it was shown
 pub record StopsWithin {V E : Type 0} (Stopped : List Event → V → E → V → Type 0)

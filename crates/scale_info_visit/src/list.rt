@@ -1,26 +1,26 @@
 //! Values of primitive types shown, alone and in lists.
-ghost use Rattle.std.specs.Prelude.{◌≡◌, ◌≤◌, replicate, IfOk, IfErr, OnOk};
+ghost use Rattle.std.specs.Prelude.{◌≡◌, List, ℕ, replicate, IfOk, IfErr};
 ghost use Rattle.std.specs.List.{flat_map};
-ghost use Rattle.scale_info_value.specs.declared.value.Dyn.TheVariants as dyn;
-ghost use Rattle.scale_info_value.specs.Outcomes.{in_turn, outcome_map};
-ghost use Rattle.scale_info_value.specs.IntegerDecoders.{integer};
+ghost use Rattle.scale_info_value.specs.Outcomes.{in_turn};
+ghost use Rattle.scale_info_value.specs.IntegerWidths.{integer_within};
 ghost use Rattle.scale_info_value.specs.PrimitiveValues.{dyn_of, IsInRange};
-ghost use Rattle.scale_info_value.specs.ValueDefinitions.{primitive};
+ghost use Rattle.scale_info_value.specs.ValueDefinitions.{truth, primitive};
 ghost use Rattle.scale_info_visit.specs.Events.{events_of};
 ghost use Rattle.scale_info_visit.specs.Visits.{HasVisited, IsVisitErrorOf};
+ghost use Rattle.scale_info_visit.specs.Visits.{HasVisitedEach, IsErrorOfEach, HasReturned};
 
 use crate::visitor::{ValueVisitor, VisitError, shown};
 use scale_info_types::ty::TypeDefPrimitive;
-use scale_info_value::integer::little_endian;
-use scale_info_value::primitive::{PrimitiveValue, read_primitive};
+use scale_info_value::integer::IntegerWidth;
+use scale_info_value::primitive::{PrimitiveValue, read_primitive, split_integer, truth};
 use scale_info_value::value::Failure;
 
 /// Shows a value that has no parts.
+#[inline(always)]
 fn show<V: ValueVisitor>(value: PrimitiveValue<'_>, visitor: &mut V) -> Result<(), V::Error>
     requires { IsInRange value }
-    ensures ok { OnOk result (V.visited (events_of (dyn_of value.entry)) visitor.old visitor.new) }
-    ensures err { IfErr result (λ e.
-        V.stopped (events_of (dyn_of value.entry)) visitor.old e visitor.new) }
+    ensures { HasReturned V.visited V.stopped
+        (events_of (dyn_of value.entry)) visitor.old visitor.new result }
 {
     match value {
         PrimitiveValue::Bool(v) => visitor.truth(v),
@@ -48,32 +48,51 @@ pub(crate) fn primitive<'i, V: ValueVisitor>(
     Ok(rest)
 }
 
-/// Shows so many integers of an unsigned type with so many bytes. All bytes are there before one is
-/// shown.
+/// Shows so many values of a primitive type that are integers of so many bytes. All bytes are there
+/// before one is shown.
 #[inline(always)]
 fn integers<'i, V: ValueVisitor>(
-    width: usize,
+    kind: &TypeDefPrimitive,
+    form: IntegerWidth,
+    signed: bool,
     count: u32,
     input: &'i [u8],
     visitor: &mut V,
 ) -> Result<&'i [u8], VisitError<V::Error>>
-    requires { width ≤ 16 }
-    ensures ok { IfOk result (λ rest.
-        HasVisited V.visited (flat_map events_of)
-        (in_turn (replicate count (λ bytes. outcome_map dyn.Unsigned (integer width bytes)))
-        input.now) rest.now visitor.old visitor.new) }
-    ensures err { IfErr result (IsVisitErrorOf V.visited V.stopped (flat_map events_of)
-        (in_turn (replicate count (λ bytes. outcome_map dyn.Unsigned (integer width bytes)))
-        input.now)
-        visitor.old visitor.new) }
+    requires { (bytes : List ℕ) → primitive kind.now bytes ≡ integer_within form signed bytes }
+    ensures ok { IfOk result
+        (HasVisitedEach V.visited count (primitive kind.now) input.now visitor.old visitor.new) }
+    ensures err { IfErr result (IsErrorOfEach V.visited V.stopped
+        count (primitive kind.now) input.now visitor.old visitor.new) }
 {
+    let width = form.bytes();
     if input.len() < count as usize * width {
         return Err(VisitError::Failed(Failure::Malformed));
     }
     let mut rest = input;
     for _ in 0..count {
-        let (bytes, after) = rest.split_at(width);
-        shown(visitor.unsigned(little_endian(bytes)))?;
+        let (value, after) = split_integer(form, signed, rest);
+        shown(show(value, visitor))?;
+        rest = after;
+    }
+    Ok(rest)
+}
+
+/// Shows so many truth values, each of which is a byte.
+fn truths<'i, V: ValueVisitor>(
+    count: u32,
+    input: &'i [u8],
+    visitor: &mut V,
+) -> Result<&'i [u8], VisitError<V::Error>>
+    ensures ok { IfOk result
+        (HasVisitedEach V.visited count truth input.now visitor.old visitor.new) }
+    ensures err { IfErr result (IsErrorOfEach V.visited V.stopped
+        count truth input.now visitor.old visitor.new) }
+{
+    let mut rest = input;
+    for _ in 0..count {
+        let (value, after) = truth(rest)?;
+        shown(visitor.truth(value))?;
         rest = after;
     }
     Ok(rest)
@@ -86,13 +105,10 @@ fn each<'i, V: ValueVisitor>(
     input: &'i [u8],
     visitor: &mut V,
 ) -> Result<&'i [u8], VisitError<V::Error>>
-    ensures ok { IfOk result (λ rest.
-        HasVisited V.visited (flat_map events_of)
-        (in_turn (replicate count (primitive kind.now)) input.now)
-        rest.now visitor.old visitor.new) }
-    ensures err { IfErr result (IsVisitErrorOf V.visited V.stopped (flat_map events_of)
-        (in_turn (replicate count (primitive kind.now)) input.now)
-        visitor.old visitor.new) }
+    ensures ok { IfOk result
+        (HasVisitedEach V.visited count (primitive kind.now) input.now visitor.old visitor.new) }
+    ensures err { IfErr result (IsErrorOfEach V.visited V.stopped
+        count (primitive kind.now) input.now visitor.old visitor.new) }
 {
     let mut rest = input;
     for _ in 0..count {
@@ -117,10 +133,30 @@ pub(crate) fn primitives<'i, V: ValueVisitor>(
         visitor.old visitor.new) }
 {
     match kind {
-        TypeDefPrimitive::U16 => integers(2, count, input, visitor),
-        TypeDefPrimitive::U32 => integers(4, count, input, visitor),
-        TypeDefPrimitive::U64 => integers(8, count, input, visitor),
-        TypeDefPrimitive::U128 => integers(16, count, input, visitor),
+        TypeDefPrimitive::Bool => truths(count, input, visitor),
+        TypeDefPrimitive::U16 => integers(kind, IntegerWidth::Two, false, count, input, visitor),
+        TypeDefPrimitive::U32 => integers(kind, IntegerWidth::Four, false, count, input, visitor),
+        TypeDefPrimitive::U64 => integers(kind, IntegerWidth::Eight, false, count, input, visitor),
+        TypeDefPrimitive::U128 => integers(
+            kind,
+            IntegerWidth::Sixteen,
+            false,
+            count,
+            input,
+            visitor,
+        ),
+        TypeDefPrimitive::I8 => integers(kind, IntegerWidth::One, true, count, input, visitor),
+        TypeDefPrimitive::I16 => integers(kind, IntegerWidth::Two, true, count, input, visitor),
+        TypeDefPrimitive::I32 => integers(kind, IntegerWidth::Four, true, count, input, visitor),
+        TypeDefPrimitive::I64 => integers(kind, IntegerWidth::Eight, true, count, input, visitor),
+        TypeDefPrimitive::I128 => integers(
+            kind,
+            IntegerWidth::Sixteen,
+            true,
+            count,
+            input,
+            visitor,
+        ),
         _ => each(kind, count, input, visitor),
     }
 }

@@ -2,12 +2,11 @@
 ghost use Rattle.std.specs.Prelude.{◌≡◌, ◌≤◌, ◌∷◌, [], Some, IfOk, IfErr, OnOk, replicate, length};
 ghost use Rattle.scale_info_types.specs.declared.ty.TypeDef.TheVariants as def;
 ghost use Rattle.scale_info_value.specs.Outcomes.{in_turn};
-ghost use Rattle.scale_info_value.specs.IntegerDecoders as decoders;
 ghost use Rattle.scale_info_value.specs.Readings.{value_within, definition_within, fields_within};
 ghost use Rattle.scale_info_value.specs.Readings.{variant_within, items_within, members_within};
-ghost use Rattle.scale_info_value.specs.Readings.{compact_within, pairs_within, reading};
+ghost use Rattle.scale_info_value.specs.Readings.{pairs_within, reading};
 ghost use Rattle.scale_info_visit.specs.Events.{events, events_by, all_named, is_byte};
-ghost use Rattle.scale_info_visit.specs.Events.{definition_at, pair_of, unsigned, bytes};
+ghost use Rattle.scale_info_visit.specs.Events.{definition_at, pair_of};
 ghost use Rattle.scale_info_visit.specs.Events.{begin_list, end_list, begin_record, end_record};
 ghost use Rattle.scale_info_visit.specs.Events.{names, begin_of, end_of};
 ghost use Rattle.scale_info_visit.specs.Visits.{HasVisited, IsVisitErrorOf, StopsWithin};
@@ -23,6 +22,7 @@ use scale_info_types::form::PortableForm;
 use scale_info_types::ty::variant::{TypeDefVariant, Variant};
 use scale_info_types::ty::{Field, TypeDef, TypeDefPrimitive};
 use scale_info_value::compact::compact_within;
+use scale_info_value::definition::definition_of;
 use scale_info_value::integer::{byte, bytes, count};
 use scale_info_value::value::Failure;
 use scale_info_value::variants::variant_with_index;
@@ -49,28 +49,6 @@ pub fn visit_value<'i, V: ValueVisitor>(
     value_within(table, id, 128, input, visitor)
 }
 
-/// Shows a compact integer of the type with this id, and returns the rest.
-fn compact<'i, V: ValueVisitor>(
-    table: &PortableRegistry,
-    id: u32,
-    left: u8,
-    input: &'i [u8],
-    visitor: &mut V,
-) -> Result<&'i [u8], VisitError<V::Error>>
-    ensures ok { IfOk result (λ rest. HasVisited V.visited
-        (λ n. unsigned n ∷ [])
-        (compact_within left table.now id input.now)
-        rest.now visitor.old visitor.new) }
-    ensures err { IfErr result (IsVisitErrorOf V.visited V.stopped
-        (λ n. unsigned n ∷ [])
-        (compact_within left table.now id input.now)
-        visitor.old visitor.new) }
-{
-    let (integer, rest) = compact_within(table, id, left, input)?;
-    shown(visitor.unsigned(integer))?;
-    Ok(rest)
-}
-
 /// Shows a value of the type with this id, where so many levels are left.
 #[cycle(visit)]
 fn value_within<'i, V: ValueVisitor>(
@@ -89,13 +67,8 @@ fn value_within<'i, V: ValueVisitor>(
         (value_within left table.now id input.now)
         visitor.old visitor.new) }
 {
-    if left == 0 {
-        return Err(VisitError::Failed(Failure::TooDeep));
-    }
-    match table.resolve(id) {
-        None => Err(VisitError::Failed(Failure::NoSuchType)),
-        Some(ty) => value_by(table, &ty.type_def, left, input, visitor),
-    }
+    let definition = definition_of(table, id, left)?;
+    value_by(table, definition, left, input, visitor)
 }
 
 /// Shows a value by the definition of its type.
@@ -129,7 +102,11 @@ fn value_by<'i, V: ValueVisitor>(
         TypeDef::Array(array) => list(table, &array.type_param, array.len, left, input, visitor),
         TypeDef::Tuple(tuple) => members(table, tuple.fields.as_slice(), left, input, visitor),
         TypeDef::Primitive(kind) => primitive(kind, input, visitor),
-        TypeDef::Compact(inner) => compact(table, inner.type_param.id, left, input, visitor),
+        TypeDef::Compact(inner) => {
+            let (integer, rest) = compact_within(table, inner.type_param.id, left, input)?;
+            shown(visitor.unsigned(integer))?;
+            Ok(rest)
+        }
         TypeDef::BitSequence(_) => Err(VisitError::Failed(Failure::Unsupported)),
         TypeDef::Map(map) => {
             let (count, rest) = count(input)?;
@@ -308,13 +285,8 @@ fn list<'i, V: ValueVisitor>(
         shown(empty_list(table, ty, visitor))?;
         return Ok(input);
     }
-    if left == 1 {
-        return Err(VisitError::Failed(Failure::TooDeep));
-    }
-    match table.resolve(ty.id) {
-        None => Err(VisitError::Failed(Failure::NoSuchType)),
-        Some(item) => list_by(table, &item.type_def, count, left - 1, input, visitor),
-    }
+    let definition = definition_of(table, ty.id, left - 1)?;
+    list_by(table, definition, count, left - 1, input, visitor)
 }
 
 /// Whether values of the type are bytes.
@@ -376,7 +348,9 @@ fn list_by<'i, V: ValueVisitor>(
         visitor.old visitor.new) }
 {
     if is_byte(definition) {
-        return list_of_bytes(count, input, visitor);
+        let (all, rest) = bytes(count as usize, input)?;
+        shown(visitor.bytes(all))?;
+        return Ok(rest);
     }
     list_of_items(table, definition, count, left, input, visitor)
 }
@@ -406,26 +380,6 @@ fn list_of_items<'i, V: ValueVisitor>(
     shown(visitor.begin_list(count as usize))?;
     let rest = items(table, definition, count, left, input, visitor)?;
     shown(visitor.end_list())?;
-    Ok(rest)
-}
-
-/// Shows a list of so many bytes.
-fn list_of_bytes<'i, V: ValueVisitor>(
-    count: u32,
-    input: &'i [u8],
-    visitor: &mut V,
-) -> Result<&'i [u8], VisitError<V::Error>>
-    ensures ok { IfOk result (λ rest. HasVisited V.visited
-        (λ all. bytes all ∷ [])
-        (decoders.bytes count input.now)
-        rest.now visitor.old visitor.new) }
-    ensures err { IfErr result (IsVisitErrorOf V.visited V.stopped
-        (λ all. bytes all ∷ [])
-        (decoders.bytes count input.now)
-        visitor.old visitor.new) }
-{
-    let (all, rest) = bytes(count as usize, input)?;
-    shown(visitor.bytes(all))?;
     Ok(rest)
 }
 

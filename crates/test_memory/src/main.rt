@@ -19,6 +19,8 @@ use test_memory_types::calls as calls_of_types;
 fn outcome_here(rt: &HostRuntime, name: &str, input: &str) -> Option<Result<Outcome, Fail>> {
     match name {
         "decode_value" => Some(values::decode(rt, input)),
+        "decode_lent" => Some(values::decode_and_lend(rt, input)),
+        "Lent::to_dyn" => Some(values::copy_lent(rt, input)),
         "append_value_json" => Some(values::append_text(rt, input)),
         "value_json" => Some(values::text(rt, input)),
         "pass" => Some(passes::pass(rt, input)),

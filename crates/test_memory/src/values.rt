@@ -1,9 +1,10 @@
-//! Values that are decoded by a table, and written as text.
+//! Values that are decoded by a table, lent, and written as text.
 use example_callers::print::print_decoded;
 use scale_info::PortableRegistry;
+use scale_info::lent::{Lent, decode_lent};
 use scale_info::value::{Dyn, ValueError, decode_value};
 use scale_info::value_text::{ValueTextError, append_value_json, value_json};
-use std::alloc::Global;
+use std::alloc::{AllocError, Global};
 use std::test::Fail;
 use test_common::held::Held;
 use test_common::rows::{parted, row_bytes};
@@ -82,6 +83,63 @@ pub fn decode(rt: &HostRuntime, row: &str) -> Result<Outcome, Fail> {
     let returned = decode_value(rt.alloc(), &table, id, &input);
     end(rt);
     let answer = answer(rt.alloc(), &table, id, &input, returned)?;
+    Outcome::of(Ok(answer))
+}
+
+/// What a decoding to a value that borrows returned, and whether its copy is the value that is
+/// decoded.
+fn lent_answer(
+    alloc: Global,
+    table: &PortableRegistry,
+    id: u32,
+    input: &[u8],
+    returned: Result<(Lent<'_, '_>, &[u8]), ValueError>,
+) -> Result<Answer, Fail> {
+    match returned {
+        Ok((lent, rest)) => {
+            let copy = lent.to_dyn(alloc)?;
+            let is_same = is_decoded_again(alloc, table, id, input, &copy)?;
+            Ok(done(format!(in alloc; "{is_same} {rest:?}"))?)
+        }
+        Err(error) => Ok(failed(alloc, &error)?),
+    }
+}
+
+/// Decodes the value of a row as one that borrows.
+pub fn decode_and_lend(rt: &HostRuntime, row: &str) -> Result<Outcome, Fail> {
+    let (id, input, table) = parts(rt.alloc(), row)?;
+    begin(rt);
+    let returned = decode_lent(rt.alloc(), &table, id, &input);
+    end(rt);
+    let answer = lent_answer(rt.alloc(), &table, id, &input, returned)?;
+    Outcome::of(Ok(answer))
+}
+
+/// What a copy of a value that borrows returned: whether it is the value that is decoded.
+fn copy_answer(
+    alloc: Global,
+    table: &PortableRegistry,
+    id: u32,
+    input: &[u8],
+    returned: Result<Dyn, AllocError>,
+) -> Result<Answer, Fail> {
+    match returned {
+        Ok(copy) => {
+            let is_same = is_decoded_again(alloc, table, id, input, &copy)?;
+            Ok(done(format!(in alloc; "{is_same}"))?)
+        }
+        Err(error) => Ok(failed(alloc, &error)?),
+    }
+}
+
+/// Copies the value of a row that borrows.
+pub fn copy_lent(rt: &HostRuntime, row: &str) -> Result<Outcome, Fail> {
+    let (id, input, table) = parts(rt.alloc(), row)?;
+    let (lent, _) = decode_lent(rt.alloc(), &table, id, &input)?;
+    begin(rt);
+    let returned = lent.to_dyn(rt.alloc());
+    end(rt);
+    let answer = copy_answer(rt.alloc(), &table, id, &input, returned)?;
     Outcome::of(Ok(answer))
 }
 

@@ -8,6 +8,7 @@
 
 mod identities;
 mod levels;
+mod reads;
 
 use crate::levels::{depth, nested, table_bytes, value_bytes};
 use anyhow::{Result, bail};
@@ -63,7 +64,7 @@ fn call(alloc: Global, what: &str, call: &str, levels: u32) -> Result<usize> {
         (kinds, "drop") => drop_value(alloc, kinds, levels),
         (kinds, "compare") => compare(alloc, kinds, levels),
         (kinds, "number") => number(alloc, kinds, levels),
-        _ => bail!("no call has this name"),
+        (kinds, call) => reads::call(alloc, kinds, call, levels),
     }
 }
 

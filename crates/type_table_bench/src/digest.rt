@@ -26,7 +26,7 @@ impl Digest {
     }
 
     /// Puts in a number of 128 bits.
-    fn put_wide(&mut self, number: u128) {
+    pub fn put_wide(&mut self, number: u128) {
         self.put((number & 0xffff_ffff_ffff_ffff) as u64);
         self.put((number >> 64) as u64);
     }
@@ -48,6 +48,14 @@ impl Digest {
     fn put_few(&mut self, bytes: &[u8]) {
         for byte in bytes {
             self.put(*byte as u64);
+        }
+    }
+
+    /// Puts in integers of 8 bits and their count, as a list that is made is put in.
+    pub fn put_integers(&mut self, integers: &[u8]) {
+        self.put(integers.len() as u64);
+        for integer in integers {
+            self.put_wide(*integer as u128);
         }
     }
 

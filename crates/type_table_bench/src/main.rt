@@ -9,10 +9,12 @@ mod commands;
 mod digest;
 mod events;
 mod interners;
+mod lent_values;
 mod own;
 mod payloads;
 mod pool;
 mod random;
+mod readings;
 mod records;
 mod registrations;
 mod runtime;
@@ -20,14 +22,20 @@ mod scale;
 mod table_bytes;
 mod tables;
 mod texts;
+mod value_texts;
+mod visits;
 
 use crate::digest::Digest;
+use crate::lent_values::Loans;
+use crate::readings::{read_payloads, read_records};
+use crate::value_texts::Texts;
+use crate::visits::Visits;
 use anyhow::{Result, bail};
 use std::alloc::Global;
 use std::env;
 
 /// The workloads.
-const NAMES: [&str; 7] = [
+const NAMES: [&str; 13] = [
     "records",
     "payloads",
     "tables",
@@ -35,6 +43,12 @@ const NAMES: [&str; 7] = [
     "registrations",
     "commands",
     "interners",
+    "visits",
+    "payload_visits",
+    "lent_values",
+    "lent_payloads",
+    "value_texts",
+    "payload_texts",
 ];
 
 /// Runs a workload.
@@ -47,6 +61,12 @@ fn run(alloc: Global, name: &str, seed: u32, rounds: u32) -> Result<Digest> {
         "registrations" => registrations::run(alloc, seed, rounds),
         "commands" => commands::run(alloc, seed, rounds),
         "interners" => interners::run(alloc, seed, rounds),
+        "visits" => read_records::<Visits>(alloc, seed, rounds),
+        "payload_visits" => read_payloads::<Visits>(alloc, seed, rounds),
+        "lent_values" => read_records::<Loans>(alloc, seed, rounds),
+        "lent_payloads" => read_payloads::<Loans>(alloc, seed, rounds),
+        "value_texts" => read_records::<Texts>(alloc, seed, rounds),
+        "payload_texts" => read_payloads::<Texts>(alloc, seed, rounds),
         _ => bail!("no workload has this name"),
     }
 }

@@ -16,18 +16,18 @@ const DEPTH: u32 = 100;
 
 /// Ids of the types that are asked for.
 #[derive(Drop, Clone, Copy)]
-struct Ids {
-    bytes: u32,
-    calls: u32,
-    numbers: u32,
-    compacts: u32,
-    wide: u32,
-    deep: u32,
-    maps: u32,
+pub struct Ids {
+    pub bytes: u32,
+    pub calls: u32,
+    pub numbers: u32,
+    pub compacts: u32,
+    pub wide: u32,
+    pub deep: u32,
+    pub maps: u32,
 }
 
 /// The bytes of the table, and its ids.
-fn payload_table(alloc: Global) -> Result<(Vec<u8>, Ids), AllocError> {
+pub fn payload_table(alloc: Global) -> Result<(Vec<u8>, Ids), AllocError> {
     let mut table = TableBytes::new(alloc);
     let byte = table.primitive(3)?;
     let number = table.primitive(5)?;
@@ -83,7 +83,7 @@ fn write_deep(table: &mut TableBytes, number: u32) -> Result<u32, AllocError> {
 }
 
 /// Appends a list of so many bytes.
-fn push_many(out: &mut Vec<u8>, random: &mut Random, count: u32) -> Result<(), AllocError> {
+pub fn push_many(out: &mut Vec<u8>, random: &mut Random, count: u32) -> Result<(), AllocError> {
     let words = count / 8;
     push_compact(out, words * 8)?;
     for _ in 0..words {
@@ -102,7 +102,7 @@ fn push_letters(out: &mut Vec<u8>, random: &mut Random, count: u32) -> Result<()
 }
 
 /// Appends a list of calls, of 30 bytes to 3,000.
-fn push_calls(out: &mut Vec<u8>, random: &mut Random) -> Result<(), AllocError> {
+pub fn push_calls(out: &mut Vec<u8>, random: &mut Random) -> Result<(), AllocError> {
     push_compact(out, 30)?;
     for _ in 0..10 {
         let count = 30 + random.below(2970);
@@ -119,7 +119,7 @@ fn push_calls(out: &mut Vec<u8>, random: &mut Random) -> Result<(), AllocError> 
 }
 
 /// Appends a list of compact integers of each width.
-fn push_compacts(out: &mut Vec<u8>, random: &mut Random, count: u32) -> Result<(), AllocError> {
+pub fn push_compacts(out: &mut Vec<u8>, random: &mut Random, count: u32) -> Result<(), AllocError> {
     push_compact(out, count)?;
     for _ in 0..count {
         let bits = random.below(32);
@@ -129,7 +129,7 @@ fn push_compacts(out: &mut Vec<u8>, random: &mut Random, count: u32) -> Result<(
 }
 
 /// Appends a list of the last variant of the wide enum.
-fn push_wide(out: &mut Vec<u8>, random: &mut Random, count: u32) -> Result<(), AllocError> {
+pub fn push_wide(out: &mut Vec<u8>, random: &mut Random, count: u32) -> Result<(), AllocError> {
     push_compact(out, count)?;
     for _ in 0..count {
         out.push((WIDE - 1) as u8)?;
@@ -139,7 +139,7 @@ fn push_wide(out: &mut Vec<u8>, random: &mut Random, count: u32) -> Result<(), A
 }
 
 /// Appends a list of numbers, each in a value that is deep.
-fn push_deep(out: &mut Vec<u8>, random: &mut Random, count: u32) -> Result<(), AllocError> {
+pub fn push_deep(out: &mut Vec<u8>, random: &mut Random, count: u32) -> Result<(), AllocError> {
     push_compact(out, count)?;
     for _ in 0..count {
         out.extend_from_slice(&random.below(1000000).to_le_bytes())?;
@@ -148,7 +148,7 @@ fn push_deep(out: &mut Vec<u8>, random: &mut Random, count: u32) -> Result<(), A
 }
 
 /// Appends a list of maps from numbers to short strings.
-fn push_maps(out: &mut Vec<u8>, random: &mut Random, count: u32) -> Result<(), AllocError> {
+pub fn push_maps(out: &mut Vec<u8>, random: &mut Random, count: u32) -> Result<(), AllocError> {
     push_compact(out, count)?;
     for _ in 0..count {
         push_compact(out, 10)?;

@@ -13,47 +13,19 @@ use Rattle.type_table_io.specs.declared.message.Message.TheVariants.{Usage, Refu
 abbrev pub usage_line : List ℕ
 usage_line = codes "usage: type_table check | prune ID .. | json\n"
 
--- the line of an input that begins with no table
-abbrev pub malformed_line : List ℕ
-malformed_line = codes "type_table: malformed\n"
-
--- the line of an input that goes on after its table
-abbrev pub trailing_bytes_line : List ℕ
-trailing_bytes_line = codes "type_table: trailing bytes\n"
-
 -- a line that ends with an id, in decimal digits
 abbrev pub id_line : List ℕ → ℕ → List ℕ
 id_line text id = text ++ (decimal id ++ codes "\n")
 
--- the line of a given id that is no index of the table
-abbrev pub no_such_type_line : ℕ → List ℕ
-no_such_type_line id = id_line (codes "type_table: no such type ") id
-
--- the line of an id that is reached and is no index of the table
-abbrev pub dangling_line : ℕ → List ℕ
-dangling_line id = id_line (codes "type_table: dangling id ") id
-
--- the line of a failed allocation
-abbrev pub out_of_memory_line : List ℕ
-out_of_memory_line = codes "type_table: out of memory\n"
-
--- the line of a failed read
-abbrev pub input_failed_line : List ℕ
-input_failed_line = codes "type_table: input failed\n"
-
--- the line of a failed write
-abbrev pub output_failed_line : List ℕ
-output_failed_line = codes "type_table: output failed\n"
-
 -- the line that reports an error
 abbrev pub line_of : RunError → List ℕ
-line_of Malformed = malformed_line
-line_of TrailingBytes = trailing_bytes_line
-line_of (NoSuchType id) = no_such_type_line id
-line_of (Dangling id) = dangling_line id
-line_of Memory = out_of_memory_line
-line_of Input = input_failed_line
-line_of Output = output_failed_line
+line_of Malformed = codes "type_table: malformed\n"
+line_of TrailingBytes = codes "type_table: trailing bytes\n"
+line_of (NoSuchType id) = id_line (codes "type_table: no such type ") id
+line_of (Dangling id) = id_line (codes "type_table: dangling id ") id
+line_of Memory = codes "type_table: out of memory\n"
+line_of Input = codes "type_table: input failed\n"
+line_of Output = codes "type_table: output failed\n"
 
 -- the line of a message
 abbrev pub message_line : Message → List ℕ

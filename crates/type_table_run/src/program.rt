@@ -6,11 +6,8 @@ ghost use Rattle.scale_info_grammar.specs.Ty.{EncodesTypes};
 ghost use Rattle.scale_info_prune.specs.Prunes.{HasDangling, HasNoSuchType};
 ghost use Rattle.scale_info_prune.specs.TableIndexes.{HasTrailing};
 ghost use Rattle.type_table_io.specs.Commands.{HasCommand, HasIdTexts, IsCommand, given_ids};
-ghost use Rattle.type_table_io.specs.Lines.{kept_line, usage_line};
-ghost use Rattle.type_table_io.specs.Lines.{malformed_line, trailing_bytes_line};
-ghost use Rattle.type_table_io.specs.Lines.{no_such_type_line, dangling_line};
-ghost use Rattle.type_table_io.specs.Lines.{out_of_memory_line, input_failed_line};
-ghost use Rattle.type_table_io.specs.Lines.{output_failed_line};
+ghost use Rattle.type_table_io.specs.Lines.{kept_line, line_of, usage_line};
+ghost use Rattle.type_table_io.specs.declared.error.RunError.TheVariants as run_error;
 ghost use Rattle.type_table_run.specs.Outputs.{Writes, WritesPrefix};
 ghost use Rattle.type_table_run.specs.Refusals.{Explains, Refuses, RefusesBy};
 ghost use Rattle.type_table_io.specs.Reports.{AppendsPrefix, Reported};
@@ -187,31 +184,33 @@ pub fn run<R: Read, W: Write, F: Write>(
         (R.remaining reader.old) (W.contents output.old) (W.contents output.new)
         (F.contents errors.old) (F.contents errors.new)) }
     ensures malformed { Reported (F.contents errors.old) (F.contents errors.new)
-        malformed_line
+        (line_of run_error.Malformed)
         → IfSome (R.remaining reader.old) (HasNoPrefix EncodesTypes)
         × Keeps (W.contents output.old) (W.contents output.new) }
     ensures trailing_bytes { Reported (F.contents errors.old) (F.contents errors.new)
-        trailing_bytes_line
+        (line_of run_error.TrailingBytes)
         → IfSome (R.remaining reader.old) HasTrailing
         × Keeps (W.contents output.old) (W.contents output.new) }
     ensures no_such_type { (id : ℕ) → id ≤ 4294967295
-        → Reported (F.contents errors.old) (F.contents errors.new) (no_such_type_line id)
+        → Reported (F.contents errors.old) (F.contents errors.new)
+        (line_of (run_error.NoSuchType id))
         → HasCommand arguments.now (λ command. IfSome (R.remaining reader.old)
         (λ input. HasNoSuchType input (given_ids command) id))
         × Keeps (W.contents output.old) (W.contents output.new) }
     ensures dangling { (id : ℕ) → id ≤ 4294967295
-        → Reported (F.contents errors.old) (F.contents errors.new) (dangling_line id)
+        → Reported (F.contents errors.old) (F.contents errors.new)
+        (line_of (run_error.Dangling id))
         → HasCommand arguments.now (λ command. IfSome (R.remaining reader.old)
         (λ input. HasDangling input (given_ids command) id))
         × Keeps (W.contents output.old) (W.contents output.new) }
     ensures out_of_memory { Reported (F.contents errors.old) (F.contents errors.new)
-        out_of_memory_line
+        (line_of run_error.Memory)
         → Keeps (W.contents output.old) (W.contents output.new) }
     ensures input_failed { Reported (F.contents errors.old) (F.contents errors.new)
-        input_failed_line
+        (line_of run_error.Input)
         → Keeps (W.contents output.old) (W.contents output.new) }
     ensures output_failed { Reported (F.contents errors.old) (F.contents errors.new)
-        output_failed_line
+        (line_of run_error.Output)
         → HasCommand arguments.now (λ command. IfSome (R.remaining reader.old)
         (WritesPrefix command (W.contents output.old) (W.contents output.new))) }
 {

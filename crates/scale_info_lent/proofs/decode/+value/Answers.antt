@@ -5,67 +5,36 @@ use Rattle.scale_info_types.specs.Shapes.{map_field}
 use Rattle.scale_info_value.specs.declared.value.Dyn.{Dyn}
 use Rattle.scale_info_value.specs.declared.value.Dyn.TheVariants as dyn
 use Rattle.scale_info_value.specs.Outcomes.{Decoder, decoded, outcome_map, in_turn}
-use Rattle.scale_info_value.specs.Readings.{type_at, value_within, definition_within, pair_within}
+use Rattle.scale_info_value.specs.Readings.{value_within, definition_within, pair_within}
 use Rattle.scale_info_value.specs.Readings.{fields_within, part_within}
 use Rattle.scale_info_value.specs.ValueDefinitions.{field}
-use Rattle.scale_info_value.proofs.Errors.{passed}
-use Rattle.scale_info_value.proofs.InOrder.{preceded, done_fails, all_fail}
-use Rattle.scale_info_value.proofs.Steps.{value_too_deep, value_no_type, value_of_type}
-use Rattle.scale_info_value.proofs.Steps.{composite_is}
-use Rattle.scale_info_value.proofs.Steps.{variant_missing, variant_found, items_of_type}
-use Rattle.scale_info_value.proofs.Steps.{primitives_are}
+use Rattle.scale_info_value.proofs.Errors.{passed, repeat_fails, failed_as}
+use Rattle.scale_info_value.proofs.InOrder.{alike, preceded, all_fail}
+use Rattle.scale_info_value.proofs.Steps.{composite_is, variant_missing, variant_found, primitives_are}
 use Rattle.scale_info_lent.specs.LentValues.{dyn_of, field_of}
 use Rattle.scale_info_lent.proofs.Copies.{record_copied, variant_copied}
 use Rattle.scale_info_lent.proofs.InTurn.{one_more_done, one_more_read, first_of, named_value}
 use Rattle.scale_info_lent.proofs.decode.+value.Goals as goal
 
-pub value_within-returns-then-left-eq0-clause-err : goal.value_within-returns-then-left-eq0-clause-err
-value_within-returns-then-left-eq0-clause-err t c =
-    value_too_deep c.args.left c.args.table.now c.args.id c.args.input.now (omega arith)
+pub value_within-returns-in_err-definition-clause-err : goal.value_within-returns-in_err-definition-clause-err
+value_within-returns-in_err-definition-clause-err t c =
+    failed_as c.from_residual.result c.in_err-definition.field-0.0 c.from_residual.ensures.1 _
+    (c.in_err-definition.ensures.unknown c.args.input.now).0
 
-pub value_within-returns-in-None-clause-err : goal.value_within-returns-in-None-clause-err
-value_within-returns-in-None-clause-err t c =
-    let none : type_at c.args.table.now c.args.id ≡ None = grind (arith, common_steps) in
-    value_no_type c.args.left c.args.table.now c.args.id c.args.input.now (omega arith) none
-
-pub value_within-returns-in-Some-clause-ok : goal.value_within-returns-in-Some-clause-ok
-value_within-returns-in-Some-clause-ok t c =
-    let some : type_at c.args.table.now c.args.id ≡ Some c.in-Some.ty.now = grind (arith, common_steps) in
-    rw (value_of_type c.args.left c.args.table.now c.args.id c.args.input.now c.in-Some.ty.now (omega arith) some)
-    c.value_by.ensures.ok
-
-pub value_within-returns-in-Some-clause-err : goal.value_within-returns-in-Some-clause-err
-value_within-returns-in-Some-clause-err t c =
-    let some : type_at c.args.table.now c.args.id ≡ Some c.in-Some.ty.now = grind (arith, common_steps) in
-    rw (value_of_type c.args.left c.args.table.now c.args.id c.args.input.now c.in-Some.ty.now (omega arith) some)
-    c.value_by.ensures.err
-
-pub list-returns-then-left-eq1-clause-err : goal.list-returns-then-left-eq1-clause-err
-list-returns-then-left-eq1-clause-err t c =
+pub list-returns-in_err-definition-clause-err : goal.list-returns-in_err-definition-clause-err
+list-returns-in_err-definition-clause-err t c =
     let read = value_within (c.args.left - 1) c.args.table.now c.args.ty.now.id in
-    all_fail c.args.count read c.args.input.now _ (omega arith)
-    (value_too_deep (c.args.left - 1) c.args.table.now c.args.ty.now.id c.args.input.now (omega arith))
+    failed_as c.from_residual.result c.in_err-definition.field-0.0 c.from_residual.ensures.1 _
+    (all_fail c.args.count read c.args.input.now _ (omega arith)
+    (c.in_err-definition.ensures.unknown c.args.input.now).0)
 
-pub list-returns-in-None-clause-err : goal.list-returns-in-None-clause-err
-list-returns-in-None-clause-err t c =
-    let read = value_within (c.args.left - 1) c.args.table.now c.args.ty.now.id in
-    let none : type_at c.args.table.now c.args.ty.now.id ≡ None = grind (arith, common_steps) in
-    all_fail c.args.count read c.args.input.now _ (omega arith)
-    (value_no_type (c.args.left - 1) c.args.table.now c.args.ty.now.id c.args.input.now (omega arith) none)
+pub list-returns-clause-ok : goal.list-returns-clause-ok
+list-returns-clause-ok t c =
+    rw (alike c.args.count c.args.input.now (λ bytes. (c.in_ok-definition.ensures.known bytes).0)) c.list_by.ensures.ok
 
-pub list-returns-in-Some-clause-ok : goal.list-returns-in-Some-clause-ok
-list-returns-in-Some-clause-ok t c =
-    let some : type_at c.args.table.now c.args.ty.now.id ≡ Some c.in-Some.item.now = grind (arith, common_steps) in
-    rw (items_of_type c.args.left c.args.table.now c.args.ty.now c.args.count c.args.input.now c.in-Some.item.now
-    (omega arith) some)
-    c.list_by.ensures.ok
-
-pub list-returns-in-Some-clause-err : goal.list-returns-in-Some-clause-err
-list-returns-in-Some-clause-err t c =
-    let some : type_at c.args.table.now c.args.ty.now.id ≡ Some c.in-Some.item.now = grind (arith, common_steps) in
-    rw (items_of_type c.args.left c.args.table.now c.args.ty.now c.args.count c.args.input.now c.in-Some.item.now
-    (omega arith) some)
-    c.list_by.ensures.err
+pub list-returns-clause-err : goal.list-returns-clause-err
+list-returns-clause-err t c =
+    rw (alike c.args.count c.args.input.now (λ bytes. (c.in_ok-definition.ensures.known bytes).0)) c.list_by.ensures.err
 
 pub list_by-returns-in-Primitive-clause-err : goal.list_by-returns-in-Primitive-clause-err
 list_by-returns-in-Primitive-clause-err t c =
@@ -75,12 +44,9 @@ list_by-returns-in-Primitive-clause-err t c =
 
 pub items-returns-in_err-value-clause-err : goal.items-returns-in_err-value-clause-err
 items-returns-in_err-value-clause-err t c =
-    let read = definition_within c.args.left c.args.table.now c.args.definition.now in
-    passed c.from_residual.result c.in_err-value.field-0.0 c.from_residual.ensures.1 (read c.loop.rest.now) _
-    (λ why e.
-    done_fails c.args.count read c.args.input.now c.loop.counter (map dyn_of c.loop.values) c.loop.rest.now why
-    (omega arith) c.loop.invariant e)
-    c.in_err-value.ensures.err
+    repeat_fails c.args.count (definition_within c.args.left c.args.table.now c.args.definition.now)
+    c.args.input.now c.loop.counter (map dyn_of c.loop.values) c.loop.rest.now c.from_residual.result
+    c.in_err-value.field-0.0 c.from_residual.ensures.1 (omega arith) c.loop.invariant c.in_err-value.ensures.err
 
 pub items-loop-preserved : goal.items-loop-preserved
 items-loop-preserved t c =
@@ -91,12 +57,9 @@ items-loop-preserved t c =
 
 pub pairs-returns-in_err-pair-clause-err : goal.pairs-returns-in_err-pair-clause-err
 pairs-returns-in_err-pair-clause-err t c =
-    let read = pair_within c.args.left c.args.table.now c.args.key.now c.args.value.now in
-    passed c.from_residual.result c.in_err-pair.field-0.0 c.from_residual.ensures.1 (read c.loop.rest.now) _
-    (λ why e.
-    done_fails c.args.count read c.args.input.now c.loop.counter (map dyn_of c.loop.values) c.loop.rest.now why
-    (omega arith) c.loop.invariant e)
-    c.in_err-pair.ensures.err
+    repeat_fails c.args.count (pair_within c.args.left c.args.table.now c.args.key.now c.args.value.now)
+    c.args.input.now c.loop.counter (map dyn_of c.loop.values) c.loop.rest.now c.from_residual.result
+    c.in_err-pair.field-0.0 c.from_residual.ensures.1 (omega arith) c.loop.invariant c.in_err-pair.ensures.err
 
 pub pairs-loop-preserved : goal.pairs-loop-preserved
 pairs-loop-preserved t c =

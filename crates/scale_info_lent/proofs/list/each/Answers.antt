@@ -1,19 +1,15 @@
 use Rattle.std.proofs.Common.{arith, map}
 use Rattle.scale_info_value.specs.ValueDefinitions.{primitive}
-use Rattle.scale_info_value.proofs.Errors.{passed}
-use Rattle.scale_info_value.proofs.InOrder.{done_fails}
+use Rattle.scale_info_value.proofs.Errors.{repeat_fails}
 use Rattle.scale_info_lent.specs.LentValues.{dyn_of}
 use Rattle.scale_info_lent.proofs.InTurn.{one_more_done}
 use Rattle.scale_info_lent.proofs.list.each.Goals as goal
 
 pub returns-in_err-value-clause-err : goal.returns-in_err-value-clause-err
 returns-in_err-value-clause-err c =
-    let read = primitive c.args.kind.now in
-    passed c.from_residual.result c.in_err-value.field-0.0 c.from_residual.ensures.1 (read c.loop.rest.now) _
-    (λ why e.
-    done_fails c.args.count read c.args.input.now c.loop.counter (map dyn_of c.loop.values) c.loop.rest.now why
-    (omega arith) c.loop.invariant e)
-    c.in_err-value.ensures.err
+    repeat_fails c.args.count (primitive c.args.kind.now)
+    c.args.input.now c.loop.counter (map dyn_of c.loop.values) c.loop.rest.now c.from_residual.result
+    c.in_err-value.field-0.0 c.from_residual.ensures.1 (omega arith) c.loop.invariant c.in_err-value.ensures.err
 
 pub loop-preserved : goal.loop-preserved
 loop-preserved c =

@@ -2,8 +2,9 @@ use Rattle.std.proofs.Common.{Bool, ◌/◌, map, length, ap, sym, ◌∙◌}
 use Rattle.std.specs.Int.{byte_len}
 use Rattle.std.specs.List.{range_with_len}
 use Rattle.scale_info_value.specs.declared.value.Dyn.TheVariants as dyn
-use Rattle.scale_info_lent.specs.declared.integers.IntegerWidth.{IntegerWidth}
-use Rattle.scale_info_lent.specs.IntegerLists.{width_of, item_at}
+use Rattle.scale_info_value.specs.declared.integer.IntegerWidth.{IntegerWidth}
+use Rattle.scale_info_value.specs.IntegerWidths.{width_of}
+use Rattle.scale_info_lent.specs.IntegerLists.{item_at}
 use Rattle.scale_info_lent.proofs.Copies.{bytes_copied}
 use Rattle.scale_info_lent.proofs.InBytes.{bytes_are}
 use Rattle.scale_info_lent.proofs.list.list_of.Goals as goal

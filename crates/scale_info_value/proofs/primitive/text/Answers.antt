@@ -1,4 +1,3 @@
-use Rattle.std.proofs.Common.{refl}
 use Rattle.scale_info_value.proofs.Texts.{text_decoded, text_failed}
 use Rattle.scale_info_value.proofs.primitive.text.Goals as goal
 

@@ -1,59 +1,47 @@
-use Rattle.std.proofs.Common.{List, Option, length, ◌≡◌, ◌-◌, ◌+◌, [], ◌∷◌, Some, None, true, false, find, ◌==◌, arith, ap, sym, subst, ◌∙◌, map, replicate, drop, refl, option_map}
+use Rattle.std.proofs.Common.{List, Option, length, ◌≡◌, ◌-◌, ◌+◌, [], ◌∷◌, Some, None, true, false, find, ◌==◌, arith, ap, sym, subst, ◌∙◌, map, replicate, drop, refl}
 use Rattle.std.proofs.lemmas.Grind.{common_steps}
 use Rattle.std.proofs.lemmas.List.{drop-map}
 use Rattle.std.proofs.lemmas.Result.{IfOk-weaker}
 use Rattle.scale_info_types.specs.Shapes.{map_field, map_variant}
 use Rattle.scale_info_types.specs.Portable.{Id, Field, Text, TypeDef}
 use Rattle.scale_info_value.specs.declared.value.Dyn.{Dyn}
-use Rattle.scale_info_primitives.specs.declared.primitive.TypeDefPrimitive.TheVariants as kind
 use Rattle.scale_info_value.specs.declared.value.Dyn.TheVariants as dyn
 use Rattle.scale_info_value.specs.ValueDefinitions.{field, fields_of}
 use Rattle.scale_info_value.specs.Outcomes.{Decoder, and_then, outcome_map, in_turn}
-use Rattle.scale_info_value.specs.Readings.{type_at, value_within, definition_within, pair_within, part_within}
+use Rattle.scale_info_value.specs.Readings.{value_within, definition_within, pair_within, part_within}
 use Rattle.scale_info_value.specs.Readings.{items_within, pairs_within}
-use Rattle.scale_info_value.proofs.InOrder.{all_fail, take_next}
-use Rattle.scale_info_value.proofs.Steps.{value_too_deep, value_no_type, value_of_type}
-use Rattle.scale_info_value.proofs.Steps.{variant_missing, items_of_type, primitives_are}
+use Rattle.scale_info_value.proofs.InOrder.{alike, all_fail}
+use Rattle.scale_info_value.proofs.Steps.{variant_missing, primitives_are}
 use Rattle.scale_info_visit.specs.Events.{begin_list, end_list, begin_record, end_record, names, begin_of, end_of}
 use Rattle.scale_info_visit.specs.Events.{definition_at, field_types, pair_of, is_byte, events_by}
-use Rattle.scale_info_visit.specs.Visits.{field_within, key_then_value, value_by, field_by, fields_by, items_by, members_by, list_by}
-use Rattle.scale_info_visit.proofs.Visiting.{IsVisiting, begins, goes_on, ends, next_part, adds_placed, part_returned, part_passed, part_fails, by_answer}
+use Rattle.scale_info_visit.specs.Visits.{field_within, value_by, field_by, fields_by, members_by, list_by}
+use Rattle.scale_info_visit.proofs.Visiting.{IsVisiting, begins, goes_on, ends, next_part, repeats, next_repeated, adds_placed, part_returned, part_passed, part_fails, by_answer}
 use Rattle.scale_info_visit.proofs.Visiting.{refusal_passed, refusal, passed_on, fails_first, failure_passed, between, at_first, in_parts, at_last}
 use Rattle.scale_info_visit.proofs.Visiting.{made_of, parts_next, shown_as, next_as, shown_whole, whole_next}
-use Rattle.scale_info_visit.proofs.Places.{drop_replicate}
 use Rattle.scale_info_visit.proofs.Events.{unsigned_by}
-use Rattle.scale_info_visit.proofs.Bytes.{bytes_are_integers}
-use Rattle.scale_info_visit.proofs.Turns.{so_many, as_many}
-use Rattle.scale_info_visit.proofs.Primitives.{no_parts, places_alone, byte_type}
+use Rattle.scale_info_visit.proofs.Bytes.{bytes_read}
+use Rattle.scale_info_visit.proofs.Turns.{so_many}
+use Rattle.scale_info_visit.proofs.Primitives.{no_parts, places_alone}
 use Rattle.scale_info_visit.proofs.Lists.{record_same, variant_same, sequence_same, array_same, tuple_same, map_same, items_same, bytes_same}
-use Rattle.scale_info_visit.proofs.Lists.{field_shown, at_name, in_field, first_of, found_itself}
+use Rattle.scale_info_visit.proofs.Lists.{field_shown, at_name, in_field, first_of, found_itself, pair_same, adds_items}
 use Rattle.scale_info_visit.proofs.Lists.{composite_by, variant_chosen, sequence_by, tuple_by, map_by, many_members}
 use Rattle.scale_info_visit.proofs.visit.+visit.Goals as goal
 
-pub value_within-returns-then-left-eq0-clause-err : goal.value_within-returns-then-left-eq0-clause-err
-value_within-returns-then-left-eq0-clause-err g t c =
-    fails_first _ (g.met.V.ValueVisitor.visited_none c.args.visitor.now) (value_too_deep c.args.left c.args.table.now c.args.id c.args.input.now (omega arith))
+pub value_within-returns-in_err-definition-clause-err : goal.value_within-returns-in_err-definition-clause-err
+value_within-returns-in_err-definition-clause-err g t c =
+    failure_passed _ _ _ c.from_residual.result c.in_err-definition.field-0.0 (g.met.V.ValueVisitor.visited_none c.args.visitor.now)
+    c.from_residual.ensures.1 (c.in_err-definition.ensures.unknown c.args.input.now).0
 
-pub value_within-returns-in-None-clause-err : goal.value_within-returns-in-None-clause-err
-value_within-returns-in-None-clause-err g t c =
-    let none : type_at c.args.table.now c.args.id ≡ None = grind (arith, common_steps) in
-    fails_first _ (g.met.V.ValueVisitor.visited_none c.args.visitor.now)
-    (value_no_type c.args.left c.args.table.now c.args.id c.args.input.now (omega arith) none)
+pub value_within-returns-clause-ok : goal.value_within-returns-clause-ok
+value_within-returns-clause-ok g t c =
+    rw ((c.in_ok-definition.ensures.known c.args.input.now).0)
+    (IfOk-weaker c.value_by.result _ _ (λ rest p. shown_as (λ value left e. ap (λ t. events_by c.args.table.now t value) c.in_ok-definition.ensures.found) p) c.value_by.ensures.ok)
 
-pub value_within-returns-in-Some-clause-ok : goal.value_within-returns-in-Some-clause-ok
-value_within-returns-in-Some-clause-ok g t c =
-    let some : type_at c.args.table.now c.args.id ≡ Some c.in-Some.ty.now = grind (arith, common_steps) in
-    let known : definition_at c.args.table.now c.args.id ≡ Some c.in-Some.ty.now.type_def = ap (λ o. option_map (λ d. d.type_def) o) some in
-    rw (value_of_type c.args.left c.args.table.now c.args.id c.args.input.now c.in-Some.ty.now (omega arith) some)
-    (IfOk-weaker c.value_by.result _ _ (λ rest p. shown_as (λ value left e. ap (λ t. events_by c.args.table.now t value) known) p) c.value_by.ensures.ok)
-
-pub value_within-returns-in-Some-clause-err : goal.value_within-returns-in-Some-clause-err
-value_within-returns-in-Some-clause-err g t c =
-    let some : type_at c.args.table.now c.args.id ≡ Some c.in-Some.ty.now = grind (arith, common_steps) in
-    let known : definition_at c.args.table.now c.args.id ≡ Some c.in-Some.ty.now.type_def = ap (λ o. option_map (λ d. d.type_def) o) some in
-    rw (value_of_type c.args.left c.args.table.now c.args.id c.args.input.now c.in-Some.ty.now (omega arith) some)
+pub value_within-returns-clause-err : goal.value_within-returns-clause-err
+value_within-returns-clause-err g t c =
+    rw ((c.in_ok-definition.ensures.known c.args.input.now).0)
     (part_returned _ c.value_by.result g.met.V.ValueVisitor.visited_append g.met.V.ValueVisitor.stopped_later
-    (next_as (λ value left e. ap (λ t. events_by c.args.table.now t value) known) (g.met.V.ValueVisitor.visited_none c.args.visitor.now)) c.value_by.ensures.err)
+    (next_as (λ value left e. ap (λ t. events_by c.args.table.now t value) c.in_ok-definition.ensures.found) (g.met.V.ValueVisitor.visited_none c.args.visitor.now)) c.value_by.ensures.err)
 
 pub value_by-returns-in-Composite-clause-ok : goal.value_by-returns-in-Composite-clause-ok
 value_by-returns-in-Composite-clause-ok g t c =
@@ -146,21 +134,32 @@ value_by-returns-in-Primitive-clause-err g t c =
     (next_as (λ value left e. no_parts c.in-Primitive.kind c.args.input.now value left (sym (ap (λ d. definition_within c.args.left c.args.table.now d c.args.input.now) c.in-Primitive.is) ∙ e) c.args.table.now (Some c.args.definition.now)) (g.met.V.ValueVisitor.visited_none c.args.visitor.now))
     (rw c.in-Primitive.is c.primitive.ensures.err)
 
-pub value_by-returns-in-Compact-clause-ok : goal.value_by-returns-in-Compact-clause-ok
-value_by-returns-in-Compact-clause-ok g t c =
-    IfOk-weaker c.compact.result _ _ (λ rest p. made_of dyn.Unsigned
-    (λ n rest e. unsigned_by c.args.table.now (Some c.args.definition.now) n)
-    (ap (λ d. definition_within c.args.left c.args.table.now d c.args.input.now) c.in-Compact.is) p)
-    c.compact.ensures.ok
+pub value_by-returns-in_ok-shown-in-Compact-clause-ok : goal.value_by-returns-in_ok-shown-in-Compact-clause-ok
+value_by-returns-in_ok-shown-in-Compact-clause-ok g t c =
+    let n = c.in_ok-integer-in-Compact.integer in
+    shown_whole (dyn.Unsigned n) _
+    (ap (λ d. definition_within c.args.left c.args.table.now d c.args.input.now) c.in-Compact.is
+    ∙ ap (λ o. outcome_map dyn.Unsigned o) c.in_ok-integer-in-Compact.ensures.ok)
+    (unsigned_by c.args.table.now (Some c.args.definition.now) n)
+    (by_answer _ c.in_ok-shown-in-Compact.ensures.ok c.unsigned.ensures.ok)
 
-pub value_by-returns-in-Compact-clause-err : goal.value_by-returns-in-Compact-clause-err
-value_by-returns-in-Compact-clause-err g t c =
-    part_returned _ c.compact.result g.met.V.ValueVisitor.visited_append g.met.V.ValueVisitor.stopped_later
-    (parts_next dyn.Unsigned
-    (λ n rest e. unsigned_by c.args.table.now (Some c.args.definition.now) n)
-    (ap (λ d. definition_within c.args.left c.args.table.now d c.args.input.now) c.in-Compact.is)
-    (g.met.V.ValueVisitor.visited_none c.args.visitor.now))
-    c.compact.ensures.err
+pub value_by-returns-in_err-integer-in-Compact-clause-err : goal.value_by-returns-in_err-integer-in-Compact-clause-err
+value_by-returns-in_err-integer-in-Compact-clause-err g t c =
+    failure_passed _ _ _ c.from_residual-in_err-integer-in-Compact.result c.in_err-integer-in-Compact.field-0.0
+    (g.met.V.ValueVisitor.visited_none c.args.visitor.now) c.from_residual-in_err-integer-in-Compact.ensures.1
+    (ap (λ d. definition_within c.args.left c.args.table.now d c.args.input.now) c.in-Compact.is
+    ∙ ap (λ o. outcome_map dyn.Unsigned o) c.in_err-integer-in-Compact.ensures.err)
+
+pub value_by-returns-in_err-shown-in-Compact-clause-err : goal.value_by-returns-in_err-shown-in-Compact-clause-err
+value_by-returns-in_err-shown-in-Compact-clause-err g t c =
+    let n = c.in_ok-integer-in-Compact.integer in
+    refusal_passed _ c.from_residual-in_err-shown-in-Compact.result c.in_err-shown-in-Compact.field-0.0 c.unsigned.result
+    g.met.V.ValueVisitor.visited_append g.met.V.ValueVisitor.stopped_later c.from_residual-in_err-shown-in-Compact.ensures.1
+    (whole_next (dyn.Unsigned n) _ (g.met.V.ValueVisitor.visited_none c.args.visitor.now)
+    (ap (λ d. definition_within c.args.left c.args.table.now d c.args.input.now) c.in-Compact.is
+    ∙ ap (λ o. outcome_map dyn.Unsigned o) c.in_ok-integer-in-Compact.ensures.ok)
+    (unsigned_by c.args.table.now (Some c.args.definition.now) n))
+    c.in_err-shown-in-Compact.ensures.err c.unsigned.ensures.err
 
 pub value_by-returns-in_ok-count-in-Map-clause-ok : goal.value_by-returns-in_ok-count-in-Map-clause-ok
 value_by-returns-in_ok-count-in-Map-clause-ok g t c =
@@ -403,66 +402,43 @@ pair-returns-in_err-shown-2-clause-err g t c =
 
 pub items-loop-preserved : goal.items-loop-preserved
 items-loop-preserved g t c =
-    let read = definition_within c.args.left c.args.table.now c.args.definition.now in
-    let more = replicate (c.args.count - (c.loop.counter + 1)) read in
-    goes_on read more c.loop.rest.now c.in_ok-rest.rest.now g.met.V.ValueVisitor.visited_append
-    (adds_placed (value_by c.args.table.now) (replicate c.args.count (Some c.args.definition.now)) (replicate (c.args.count - (c.loop.counter + 1)) (Some c.args.definition.now)) (Some c.args.definition.now) c.loop.counter
-    (drop_replicate c.args.count c.loop.counter (Some c.args.definition.now) c.loop-test.true))
-    (subst (λ ds.
-    IsVisiting g.V.ValueVisitor.visited (items_by c.args.table.now (Some c.args.definition.now) c.args.count) c.loop.counter (in_turn (replicate c.args.count read) c.args.input.now)
-    (in_turn ds c.loop.rest.now) c.args.visitor.now c.loop.visitor)
-    (take_next c.args.count c.loop.counter read c.loop-test.true) c.loop.invariant)
-    c.in_ok-rest.ensures.ok
+    repeats c.args.count (definition_within c.args.left c.args.table.now c.args.definition.now) c.args.input.now
+    c.loop.counter c.loop.rest.now c.in_ok-rest.rest.now g.met.V.ValueVisitor.visited_append
+    (adds_items c.args.table.now (Some c.args.definition.now) c.args.count c.loop.counter c.loop-test.true)
+    c.loop-test.true c.loop.invariant c.in_ok-rest.ensures.ok
 
 pub items-returns-in_err-rest-clause-err : goal.items-returns-in_err-rest-clause-err
 items-returns-in_err-rest-clause-err g t c =
-    let read = definition_within c.args.left c.args.table.now c.args.definition.now in
-    let more = replicate (c.args.count - (c.loop.counter + 1)) read in
     part_passed _ c.from_residual.result c.in_err-rest.field-0.0 g.met.V.ValueVisitor.visited_append
     g.met.V.ValueVisitor.stopped_later c.from_residual.ensures.1
-    (next_part read more c.loop.rest.now
-    (adds_placed (value_by c.args.table.now) (replicate c.args.count (Some c.args.definition.now)) (replicate (c.args.count - (c.loop.counter + 1)) (Some c.args.definition.now)) (Some c.args.definition.now) c.loop.counter
-    (drop_replicate c.args.count c.loop.counter (Some c.args.definition.now) c.loop-test.true))
-    (subst (λ ds.
-    IsVisiting g.V.ValueVisitor.visited (items_by c.args.table.now (Some c.args.definition.now) c.args.count) c.loop.counter (in_turn (replicate c.args.count read) c.args.input.now)
-    (in_turn ds c.loop.rest.now) c.args.visitor.now c.loop.visitor)
-    (take_next c.args.count c.loop.counter read c.loop-test.true) c.loop.invariant))
+    (next_repeated c.args.count (definition_within c.args.left c.args.table.now c.args.definition.now) c.args.input.now
+    c.loop.counter c.loop.rest.now
+    (adds_items c.args.table.now (Some c.args.definition.now) c.args.count c.loop.counter c.loop-test.true)
+    c.loop-test.true c.loop.invariant)
     c.in_err-rest.ensures.err
 
 pub each_pair-loop-preserved : goal.each_pair-loop-preserved
 each_pair-loop-preserved g t c =
-    let kv = key_then_value c.args.left c.args.table.now c.args.key.now c.args.value.now in
-    let read = pair_within c.args.left c.args.table.now c.args.key.now c.args.value.now in
-    let more = replicate (c.args.count - (c.loop.counter + 1)) read in
-    goes_on read more c.loop.rest.now c.in_ok-rest.rest.now g.met.V.ValueVisitor.visited_append
-    (adds_placed (value_by c.args.table.now) (replicate c.args.count (Some (pair_of c.args.key.now c.args.value.now))) (replicate (c.args.count - (c.loop.counter + 1)) (Some (pair_of c.args.key.now c.args.value.now))) (Some (pair_of c.args.key.now c.args.value.now)) c.loop.counter
-    (drop_replicate c.args.count c.loop.counter (Some (pair_of c.args.key.now c.args.value.now)) c.loop-test.true))
-    (subst (λ ds.
-    IsVisiting g.V.ValueVisitor.visited (items_by c.args.table.now (Some (pair_of c.args.key.now c.args.value.now)) c.args.count) c.loop.counter (in_turn (replicate c.args.count read) c.args.input.now)
-    (in_turn ds c.loop.rest.now) c.args.visitor.now c.loop.visitor)
-    (take_next c.args.count c.loop.counter read c.loop-test.true) c.loop.invariant)
-    (made_of dyn.List
-    (λ vs rest e. tuple_same c.args.table.now (pair_of c.args.key.now c.args.value.now) _ (c.args.key.now ∷ c.args.value.now ∷ []) vs refl refl
-    (as_many kv c.loop.rest.now vs rest e)) refl c.in_ok-rest.ensures.ok)
+    let type = pair_of c.args.key.now c.args.value.now in
+    repeats c.args.count (pair_within c.args.left c.args.table.now c.args.key.now c.args.value.now) c.args.input.now
+    c.loop.counter c.loop.rest.now c.in_ok-rest.rest.now g.met.V.ValueVisitor.visited_append
+    (adds_items c.args.table.now (Some type) c.args.count c.loop.counter c.loop-test.true)
+    c.loop-test.true c.loop.invariant
+    (made_of dyn.List (pair_same c.args.left c.args.table.now c.args.key.now c.args.value.now c.loop.rest.now) refl
+    c.in_ok-rest.ensures.ok)
 
 pub each_pair-returns-in_err-rest-clause-err : goal.each_pair-returns-in_err-rest-clause-err
 each_pair-returns-in_err-rest-clause-err g t c =
-    let kv = key_then_value c.args.left c.args.table.now c.args.key.now c.args.value.now in
-    let read = pair_within c.args.left c.args.table.now c.args.key.now c.args.value.now in
-    let more = replicate (c.args.count - (c.loop.counter + 1)) read in
+    let type = pair_of c.args.key.now c.args.value.now in
     part_passed _ c.from_residual.result c.in_err-rest.field-0.0 g.met.V.ValueVisitor.visited_append
     g.met.V.ValueVisitor.stopped_later c.from_residual.ensures.1
-    (next_part read more c.loop.rest.now
-    (adds_placed (value_by c.args.table.now) (replicate c.args.count (Some (pair_of c.args.key.now c.args.value.now))) (replicate (c.args.count - (c.loop.counter + 1)) (Some (pair_of c.args.key.now c.args.value.now))) (Some (pair_of c.args.key.now c.args.value.now)) c.loop.counter
-    (drop_replicate c.args.count c.loop.counter (Some (pair_of c.args.key.now c.args.value.now)) c.loop-test.true))
-    (subst (λ ds.
-    IsVisiting g.V.ValueVisitor.visited (items_by c.args.table.now (Some (pair_of c.args.key.now c.args.value.now)) c.args.count) c.loop.counter (in_turn (replicate c.args.count read) c.args.input.now)
-    (in_turn ds c.loop.rest.now) c.args.visitor.now c.loop.visitor)
-    (take_next c.args.count c.loop.counter read c.loop-test.true) c.loop.invariant))
+    (next_repeated c.args.count (pair_within c.args.left c.args.table.now c.args.key.now c.args.value.now) c.args.input.now
+    c.loop.counter c.loop.rest.now
+    (adds_items c.args.table.now (Some type) c.args.count c.loop.counter c.loop-test.true)
+    c.loop-test.true c.loop.invariant)
     (part_fails _ g.met.V.ValueVisitor.visited_append g.met.V.ValueVisitor.stopped_later
-    (parts_next dyn.List
-    (λ vs rest e. tuple_same c.args.table.now (pair_of c.args.key.now c.args.value.now) _ (c.args.key.now ∷ c.args.value.now ∷ []) vs refl refl
-    (as_many kv c.loop.rest.now vs rest e)) refl (g.met.V.ValueVisitor.visited_none c.loop.visitor))
+    (parts_next dyn.List (pair_same c.args.left c.args.table.now c.args.key.now c.args.value.now c.loop.rest.now) refl
+    (g.met.V.ValueVisitor.visited_none c.loop.visitor))
     c.in_err-rest.field-0.0 c.in_err-rest.ensures.err)
 
 pub each_member-loop-ty-preserved : goal.each_member-loop-ty-preserved
@@ -591,33 +567,23 @@ key_and_value-returns-clause-err g t c =
     (goes_on key (value ∷ []) c.args.input.now c.in_ok-rest.rest.now g.met.V.ValueVisitor.visited_append (adds_placed (value_by c.args.table.now) types (definition_at c.args.table.now c.args.value.now.id ∷ []) (definition_at c.args.table.now c.args.key.now.id) 0 refl) (begins refl (g.met.V.ValueVisitor.visited_none c.args.visitor.now)) (rw inner at c.in_ok-rest.ensures.ok)))
     (rw inner at c.value_within-2.ensures.err)
 
-pub list-returns-then-left-eq1-clause-err : goal.list-returns-then-left-eq1-clause-err
-list-returns-then-left-eq1-clause-err g t c =
+pub list-returns-in_err-definition-clause-err : goal.list-returns-in_err-definition-clause-err
+list-returns-in_err-definition-clause-err g t c =
     let read = value_within (c.args.left - 1) c.args.table.now c.args.ty.now.id in
-    fails_first _ (g.met.V.ValueVisitor.visited_none c.args.visitor.now)
-    (all_fail c.args.count read c.args.input.now _ (omega arith) (value_too_deep (c.args.left - 1) c.args.table.now c.args.ty.now.id c.args.input.now (omega arith)))
+    failure_passed _ _ _ c.from_residual-in_err-definition.result c.in_err-definition.field-0.0 (g.met.V.ValueVisitor.visited_none c.args.visitor.now)
+    c.from_residual-in_err-definition.ensures.1
+    (all_fail c.args.count read c.args.input.now _ (omega arith) (c.in_err-definition.ensures.unknown c.args.input.now).0)
 
-pub list-returns-in-None-clause-err : goal.list-returns-in-None-clause-err
-list-returns-in-None-clause-err g t c =
-    let read = value_within (c.args.left - 1) c.args.table.now c.args.ty.now.id in
-    let none : type_at c.args.table.now c.args.ty.now.id ≡ None = grind (arith, common_steps) in
-    fails_first _ (g.met.V.ValueVisitor.visited_none c.args.visitor.now)
-    (all_fail c.args.count read c.args.input.now _ (omega arith) (value_no_type (c.args.left - 1) c.args.table.now c.args.ty.now.id c.args.input.now (omega arith) none))
+pub list-returns-clause-ok : goal.list-returns-clause-ok
+list-returns-clause-ok g t c =
+    rw (alike c.args.count c.args.input.now (λ bytes. (c.in_ok-definition.ensures.known bytes).0))
+    (IfOk-weaker c.list_by.result _ _ (λ rest p. shown_as (λ vs left e. ap (λ t. list_by c.args.table.now t c.args.count vs) c.in_ok-definition.ensures.found) p) c.list_by.ensures.ok)
 
-pub list-returns-in-Some-clause-ok : goal.list-returns-in-Some-clause-ok
-list-returns-in-Some-clause-ok g t c =
-    let some : type_at c.args.table.now c.args.ty.now.id ≡ Some c.in-Some.item.now = grind (arith, common_steps) in
-    let known : definition_at c.args.table.now c.args.ty.now.id ≡ Some c.in-Some.item.now.type_def = ap (λ o. option_map (λ d. d.type_def) o) some in
-    rw (items_of_type c.args.left c.args.table.now c.args.ty.now c.args.count c.args.input.now c.in-Some.item.now (omega arith) some)
-    (IfOk-weaker c.list_by.result _ _ (λ rest p. shown_as (λ vs left e. ap (λ t. list_by c.args.table.now t c.args.count vs) known) p) c.list_by.ensures.ok)
-
-pub list-returns-in-Some-clause-err : goal.list-returns-in-Some-clause-err
-list-returns-in-Some-clause-err g t c =
-    let some : type_at c.args.table.now c.args.ty.now.id ≡ Some c.in-Some.item.now = grind (arith, common_steps) in
-    let known : definition_at c.args.table.now c.args.ty.now.id ≡ Some c.in-Some.item.now.type_def = ap (λ o. option_map (λ d. d.type_def) o) some in
-    rw (items_of_type c.args.left c.args.table.now c.args.ty.now c.args.count c.args.input.now c.in-Some.item.now (omega arith) some)
+pub list-returns-clause-err : goal.list-returns-clause-err
+list-returns-clause-err g t c =
+    rw (alike c.args.count c.args.input.now (λ bytes. (c.in_ok-definition.ensures.known bytes).0))
     (part_returned _ c.list_by.result g.met.V.ValueVisitor.visited_append g.met.V.ValueVisitor.stopped_later
-    (next_as (λ vs left e. ap (λ t. list_by c.args.table.now t c.args.count vs) known) (g.met.V.ValueVisitor.visited_none c.args.visitor.now)) c.list_by.ensures.err)
+    (next_as (λ vs left e. ap (λ t. list_by c.args.table.now t c.args.count vs) c.in_ok-definition.ensures.found) (g.met.V.ValueVisitor.visited_none c.args.visitor.now)) c.list_by.ensures.err)
 
 pub list-returns-then-count-eq0-clause-ok : goal.list-returns-then-count-eq0-clause-ok
 list-returns-then-count-eq0-clause-ok g t c =
@@ -634,20 +600,27 @@ list-returns-in_err-shown-clause-err g t c =
 pub list_by-returns-then-is_byte-clause-ok : goal.list_by-returns-then-is_byte-clause-ok
 list_by-returns-then-is_byte-clause-ok g t c =
     let byte_sized : is_byte (Some c.args.definition.now) ≡ true = sym c.is_byte.ensures ∙ c.if-is_byte.true in
-    IfOk-weaker c.list_of_bytes.result _ _ (λ rest p. made_of (λ all. map dyn.Unsigned all)
-    (λ all rest e. bytes_same c.args.table.now c.args.definition.now c.args.count all byte_sized)
-    (primitives_are c.args.left c.args.table.now c.args.definition.now kind.U8 c.args.count c.args.input.now (byte_type c.args.definition.now byte_sized) ∙ bytes_are_integers c.args.count c.args.input.now) p)
-    c.list_of_bytes.ensures.ok
+    shown_whole (map dyn.Unsigned c.in_ok-all.all.now) _
+    (bytes_read c.args.left c.args.table.now c.args.definition.now c.args.count c.args.input.now byte_sized c.in_ok-all.ensures.ok)
+    (bytes_same c.args.table.now c.args.definition.now c.args.count c.in_ok-all.all.now byte_sized)
+    (by_answer _ c.in_ok-shown.ensures.ok c.bytes-then-is_byte.ensures.ok)
 
-pub list_by-returns-then-is_byte-clause-err : goal.list_by-returns-then-is_byte-clause-err
-list_by-returns-then-is_byte-clause-err g t c =
+pub list_by-returns-in_err-all-clause-err : goal.list_by-returns-in_err-all-clause-err
+list_by-returns-in_err-all-clause-err g t c =
     let byte_sized : is_byte (Some c.args.definition.now) ≡ true = sym c.is_byte.ensures ∙ c.if-is_byte.true in
-    part_returned _ c.list_of_bytes.result g.met.V.ValueVisitor.visited_append g.met.V.ValueVisitor.stopped_later
-    (parts_next (λ all. map dyn.Unsigned all)
-    (λ all rest e. bytes_same c.args.table.now c.args.definition.now c.args.count all byte_sized)
-    (primitives_are c.args.left c.args.table.now c.args.definition.now kind.U8 c.args.count c.args.input.now (byte_type c.args.definition.now byte_sized) ∙ bytes_are_integers c.args.count c.args.input.now)
-    (g.met.V.ValueVisitor.visited_none c.args.visitor.now))
-    c.list_of_bytes.ensures.err
+    failure_passed _ _ _ c.from_residual.result c.in_err-all.field-0.0 (g.met.V.ValueVisitor.visited_none c.args.visitor.now)
+    c.from_residual.ensures.1
+    (bytes_read c.args.left c.args.table.now c.args.definition.now c.args.count c.args.input.now byte_sized c.in_err-all.ensures.err)
+
+pub list_by-returns-in_err-shown-clause-err : goal.list_by-returns-in_err-shown-clause-err
+list_by-returns-in_err-shown-clause-err g t c =
+    let byte_sized : is_byte (Some c.args.definition.now) ≡ true = sym c.is_byte.ensures ∙ c.if-is_byte.true in
+    refusal_passed _ c.from_residual-in_err-shown.result c.in_err-shown.field-0.0 c.bytes-then-is_byte.result
+    g.met.V.ValueVisitor.visited_append g.met.V.ValueVisitor.stopped_later c.from_residual-in_err-shown.ensures.1
+    (whole_next (map dyn.Unsigned c.in_ok-all.all.now) _ (g.met.V.ValueVisitor.visited_none c.args.visitor.now)
+    (bytes_read c.args.left c.args.table.now c.args.definition.now c.args.count c.args.input.now byte_sized c.in_ok-all.ensures.ok)
+    (bytes_same c.args.table.now c.args.definition.now c.args.count c.in_ok-all.all.now byte_sized))
+    c.in_err-shown.ensures.err c.bytes-then-is_byte.ensures.err
 
 pub list_by-returns-clause-ok : goal.list_by-returns-clause-ok
 list_by-returns-clause-ok g t c =

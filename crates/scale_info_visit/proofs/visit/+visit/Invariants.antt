@@ -1,9 +1,8 @@
-use Rattle.std.proofs.Common.{◌-◌, ◌*◌, ◌+◌, drop, replicate, Some}
-use Rattle.scale_info_value.specs.Outcomes.{in_turn}
+use Rattle.std.proofs.Common.{◌-◌, ◌*◌, ◌+◌, drop, Some}
 use Rattle.scale_info_value.specs.Readings.{definition_within, members_within, fields_within, pair_within}
 use Rattle.scale_info_visit.specs.Events.{pair_of}
 use Rattle.scale_info_visit.specs.Visits.{fields_by, items_by, members_by}
-use Rattle.scale_info_visit.proofs.Visiting.{IsVisiting}
+use Rattle.scale_info_visit.proofs.Visiting.{IsVisiting, IsRepeating}
 use Rattle.scale_info_visit.proofs.visit.+visit.Given as goal
 
 abbrev pub decreases-value_within : goal.decreases-value_within
@@ -59,10 +58,8 @@ decreases-key_and_value g l = 7 * l.left - 5
 
 abbrev pub invariant-items-loop : goal.invariant-items-loop
 invariant-items-loop g l =
-    IsVisiting g.V.ValueVisitor.visited (items_by l.table (Some l.definition) l.count) l.counter
-    (in_turn (replicate l.count (definition_within l.left l.table l.definition)) l.input)
-    (in_turn (replicate (l.count - l.counter) (definition_within l.left l.table l.definition)) l.rest)
-    l.fn.visitor l.visitor
+    IsRepeating g.V.ValueVisitor.visited (items_by l.table (Some l.definition) l.count) l.count
+    (definition_within l.left l.table l.definition) l.input l.counter l.rest l.fn.visitor l.visitor
 
 abbrev pub invariant-each_member-loop-ty : goal.invariant-each_member-loop-ty
 invariant-each_member-loop-ty g l =
@@ -80,7 +77,5 @@ invariant-fields-loop-next g l =
 
 abbrev pub invariant-each_pair-loop : goal.invariant-each_pair-loop
 invariant-each_pair-loop g l =
-    IsVisiting g.V.ValueVisitor.visited (items_by l.table (Some (pair_of l.key l.value)) l.count) l.counter
-    (in_turn (replicate l.count (pair_within l.left l.table l.key l.value)) l.input)
-    (in_turn (replicate (l.count - l.counter) (pair_within l.left l.table l.key l.value)) l.rest)
-    l.fn.visitor l.visitor
+    IsRepeating g.V.ValueVisitor.visited (items_by l.table (Some (pair_of l.key l.value)) l.count) l.count
+    (pair_within l.left l.table l.key l.value) l.input l.counter l.rest l.fn.visitor l.visitor

@@ -1,4 +1,4 @@
-use Rattle.std.proofs.Common.{ℕ, Bool, length, ◌/◌, ◌*◌, ◌+◌, ◌<◌, ◌≤◌, ◌≡◌, List, Some, sym, ap, ◌∙◌, arith, subst, take, drop, slice_get}
+use Rattle.std.proofs.Common.{ℕ, Bool, true, false, length, ◌/◌, ◌*◌, ◌+◌, ◌<◌, ◌≤◌, ◌≡◌, List, Some, sym, ap, ◌∙◌, arith, subst, take, drop, slice_get}
 use Rattle.std.proofs.lemmas.List.FromFn.{length-map-range_with_len}
 use Rattle.std.specs.Prelude.{if◌then◌else◌}
 use Rattle.std.specs.Int.{byte_len, cast_signed, w128}
@@ -6,7 +6,8 @@ use Rattle.std.proofs.lemmas.Int.{to_z-of_z}
 use Rattle.scale_info_value.specs.declared.value.Dyn.TheVariants as dyn
 use Rattle.scale_info_value.specs.IntegerDecoders.{little_endian}
 use Rattle.scale_info_lent.specs.declared.integers.Integers.{Integers}
-use Rattle.scale_info_lent.specs.IntegerLists.{width_of, item_at, integers_of}
+use Rattle.scale_info_value.specs.IntegerWidths.{width_of}
+use Rattle.scale_info_lent.specs.IntegerLists.{item_at, integers_of}
 use Rattle.scale_info_lent.proofs.InBytes.{bytes_fit, item_there}
 use Rattle.scale_info_lent.proofs.integers.Integers.item.Goals as goal
 
@@ -29,18 +30,19 @@ fits list i w h f =
 
 -- and they are the item
 is_item :
-    (list : Integers) (i w n : ℕ) (rest bytes : List ℕ) → i < length (integers_of list)
+    (list : Integers) (signed : Bool) (i w n : ℕ) (rest bytes : List ℕ) → list.signed ≡ signed
+    → i < length (integers_of list)
     → w ≡ byte_len (width_of list.width) → rest ≡ drop (i * w) list.bytes.now → bytes ≡ take w rest
     → n ≡ little_endian bytes
     → slice_get (integers_of list) i
-    ≡ Some (if list.signed then dyn.Signed (cast_signed (width_of list.width) n) else dyn.Unsigned n)
-is_item list i w n rest bytes h e f g k =
+    ≡ Some (if signed then dyn.Signed (cast_signed (width_of list.width) n) else dyn.Unsigned n)
+is_item list signed i w n rest bytes sign h e f g k =
     let count = length list.bytes.now / byte_len (width_of list.width) in
     let read : ℕ → ℕ = λ v. little_endian (take v (drop (i * v) list.bytes.now)) in
     let same : n ≡ read (byte_len (width_of list.width)) =
     k ∙ ap little_endian (g ∙ ap (λ b. take w b) f) ∙ ap read e in
     item_there (item_at list.width list.signed list.bytes.now) count i (inside list i h)
-    ∙ ap (λ m. Some (if list.signed then dyn.Signed (cast_signed (width_of list.width) m) else dyn.Unsigned m)) (sym same)
+    ∙ (λ j. Some (if sign j then dyn.Signed (cast_signed (width_of list.width) (sym same j)) else dyn.Unsigned (sym same j)))
 
 pub overflow_mul-index : goal.overflow_mul-index
 overflow_mul-index c =
@@ -59,20 +61,14 @@ split_at-requires-2 c =
 
 pub returns-then-self : goal.returns-then-self
 returns-then-self c =
-    let list = c.args.self.now in
-    let n = c.little_endian-integer.result in
-    let pick = λ (b : Bool). Some (if b then dyn.Signed (cast_signed (width_of list.width) n) else dyn.Unsigned n) in
-    is_item list c.args.index c.bytes-width.result n c.split_at.result.1.now c.split_at-2.result.0.now c.requires
-    c.bytes-width.ensures c.split_at.ensures.back c.split_at-2.ensures.front c.little_endian-integer.ensures.integer
-    ∙ ap pick c.if-self.true
+    is_item c.args.self.now true c.args.index c.bytes-width.result c.little_endian-integer.result c.split_at.result.1.now
+    c.split_at-2.result.0.now c.if-self.true c.requires c.bytes-width.ensures c.split_at.ensures.back
+    c.split_at-2.ensures.front c.little_endian-integer.ensures.integer
     ∙ ap (λ z. Some (dyn.Signed z))
     (sym c.with_sign.ensures.integer ∙ sym (to_z-of_z w128 c.with_sign.result c.with_sign.ensures.range))
 
 pub returns-else-self : goal.returns-else-self
 returns-else-self c =
-    let list = c.args.self.now in
-    let n = c.little_endian-integer.result in
-    let pick = λ (b : Bool). Some (if b then dyn.Signed (cast_signed (width_of list.width) n) else dyn.Unsigned n) in
-    is_item list c.args.index c.bytes-width.result n c.split_at.result.1.now c.split_at-2.result.0.now c.requires
-    c.bytes-width.ensures c.split_at.ensures.back c.split_at-2.ensures.front c.little_endian-integer.ensures.integer
-    ∙ ap pick c.if-self.false
+    is_item c.args.self.now false c.args.index c.bytes-width.result c.little_endian-integer.result c.split_at.result.1.now
+    c.split_at-2.result.0.now c.if-self.false c.requires c.bytes-width.ensures c.split_at.ensures.back
+    c.split_at-2.ensures.front c.little_endian-integer.ensures.integer

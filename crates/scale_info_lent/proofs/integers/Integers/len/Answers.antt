@@ -1,7 +1,8 @@
 use Rattle.std.proofs.Common.{length, ◌/◌, sym, ap, ◌∙◌}
 use Rattle.std.specs.Int.{byte_len}
 use Rattle.std.proofs.lemmas.List.FromFn.{length-map-range_with_len}
-use Rattle.scale_info_lent.specs.IntegerLists.{width_of, item_at}
+use Rattle.scale_info_value.specs.IntegerWidths.{width_of}
+use Rattle.scale_info_lent.specs.IntegerLists.{item_at}
 use Rattle.scale_info_lent.proofs.integers.Integers.len.Goals as goal
 
 pub returns : goal.returns

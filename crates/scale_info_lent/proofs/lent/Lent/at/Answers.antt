@@ -4,8 +4,8 @@ use Rattle.std.proofs.lemmas.Option.{slice_get-map}
 use Rattle.scale_info_value.specs.declared.value.Dyn.TheVariants as dyn
 use Rattle.scale_info_lent.specs.IntegerLists.{integers_of}
 use Rattle.scale_info_lent.specs.LentValues.{dyn_of, value_of}
-use Rattle.scale_info_lent.proofs.Copies.{bytes_copied, integers_copied, list_copied, unsigned_copied}
-use Rattle.scale_info_lent.proofs.Parts.{item_found, no_items, lent_item}
+use Rattle.scale_info_lent.proofs.Copies.{bytes_copied, integers_copied, unsigned_copied}
+use Rattle.scale_info_lent.proofs.Parts.{item_found, no_items, lent_item, listed_at}
 use Rattle.scale_info_lent.proofs.lent.Lent.at.Goals as goal
 
 pub returns-in_err-byte-in-Bytes : goal.returns-in_err-byte-in-Bytes
@@ -40,24 +40,14 @@ returns-in_ok-at-in-Integers c =
 
 pub returns-in_err-get-in-List : goal.returns-in_err-get-in-List
 returns-in_err-get-in-List c =
-    let all = c.in-List.items in
-    let past =
-    ap (λ l. slice_get l c.args.index) (sym c.as_slice.ensures)
-    ∙ lent_item c.as_slice.result.now c.args.index c.get-in-List.result c.get-in-List.ensures.lookup
-    ∙ ap option_copied c.in_err-get-in-List.was in
     ap (λ o. option_map value_of o) c.from_residual-in_err-get-in-List.ensures
-    ∙ ap (λ o. option_map dyn_of o) (sym past) ∙ sym (slice_get-map dyn_of all c.args.index)
-    ∙ item_found c.args.self.now (map dyn_of all) c.args.index (ap dyn_of c.in-List.is ∙ list_copied all)
+    ∙ listed_at c.args.self.now c.in-List.items c.as_slice.result.now c.args.index c.get-in-List.result _ c.in-List.is
+    c.as_slice.ensures c.get-in-List.ensures.lookup c.in_err-get-in-List.was
 
 pub returns-in_ok-get-in-List : goal.returns-in_ok-get-in-List
 returns-in_ok-get-in-List c =
-    let all = c.in-List.items in
-    let there =
-    ap (λ l. slice_get l c.args.index) (sym c.as_slice.ensures)
-    ∙ lent_item c.as_slice.result.now c.args.index c.get-in-List.result c.get-in-List.ensures.lookup
-    ∙ ap option_copied c.in_ok-get-in-List.was in
-    ap (λ o. option_map dyn_of o) (sym there) ∙ sym (slice_get-map dyn_of all c.args.index)
-    ∙ item_found c.args.self.now (map dyn_of all) c.args.index (ap dyn_of c.in-List.is ∙ list_copied all)
+    listed_at c.args.self.now c.in-List.items c.as_slice.result.now c.args.index c.get-in-List.result _ c.in-List.is
+    c.as_slice.ensures c.get-in-List.ensures.lookup c.in_ok-get-in-List.was
 
 pub returns-in_default : goal.returns-in_default
 returns-in_default c =

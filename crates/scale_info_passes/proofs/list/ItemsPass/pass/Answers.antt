@@ -4,8 +4,7 @@ use Rattle.scale_info_bytes.proofs.Options.{some_on, none_on, none_is}
 use Rattle.scale_info_passes.proofs.list.ItemsPass.pass.Goals as goal
 
 pub returns-in_err-count-clause-none : goal.returns-in_err-count-clause-none
-returns-in_err-count-clause-none g c =
-    none_is c.from_residual.result (no_count g.T.Pass.encodes _ c.in_err-count.ensures.none)
+returns-in_err-count-clause-none g c = none_is _ (no_count _ _ c.in_err-count.ensures.none)
 
 pub returns-clause-some : goal.returns-clause-some
 returns-clause-some g c =

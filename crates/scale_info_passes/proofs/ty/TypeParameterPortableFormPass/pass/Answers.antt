@@ -2,6 +2,7 @@ use Rattle.std.proofs.Common.{refl}
 use Rattle.std.specs.Prelude.{option_to_list}
 use Rattle.scale_info_grammar.specs.Ty.{parameter_parts}
 use Rattle.scale_info_bytes.proofs.Steps.{no_prefix_through}
+use Rattle.scale_info_grammar.specs.TyLaws.{parameter_of}
 use Rattle.scale_info_passes.proofs.Passes.{visited_into, own_references}
 use Rattle.scale_info_bytes.proofs.Options.{some_on, none_on}
 use Rattle.scale_info_passes.proofs.ty.TypeParameterPortableFormPass.pass.Goals as goal
@@ -9,7 +10,7 @@ use Rattle.scale_info_passes.proofs.ty.TypeParameterPortableFormPass.pass.Goals 
 pub returns-clause-some : goal.returns-clause-some
 returns-clause-some g c =
     some_on c.pass.result
-    (λ rest p. visited_into (λ q. record { name = q.0; ty = q.1 }) (λ q x s. s) (λ q. own_references (option_to_list q.1)) (λ f q. refl) p) c.pass.ensures.some
+    (λ rest p. visited_into parameter_of (λ q x s. s) (λ q. own_references (option_to_list q.1)) (λ f q. refl) p) c.pass.ensures.some
 
 pub returns-clause-none : goal.returns-clause-none
 returns-clause-none g c =

@@ -5,19 +5,14 @@ use Rattle.scale_info_bytes.specs.Parts.{EncodesList}
 use Rattle.scale_info_bytes.specs.Strings.{EncodesText}
 use Rattle.scale_info_grammar.specs.Ty.{EncodesParameter, EncodesPath}
 use Rattle.scale_info_grammar.specs.Ty.{EncodesTypeDef, description_parts}
-use Rattle.scale_info_grammar.specs.TyLaws.{type_def_law}
+use Rattle.scale_info_grammar.specs.TyLaws.{path_of, type_def_law}
 use Rattle.scale_info_transcode.proofs.Objects.{four_rows}
 use Rattle.scale_info_transcode.proofs.Parts.{four_parts, no_first, no_second}
 use Rattle.scale_info_transcode.proofs.Parts.{no_third, no_fourth}
 use Rattle.scale_info_transcode.proofs.Skips.{only_rest, read_again, rest_through}
 use Rattle.scale_info_transcode.specs.Skips.{IsOnlyRest}
 use Rattle.scale_info_types.specs.Portable as portable
-use Rattle.scale_info_types.specs.Portable.{Text}
 use Rattle.scale_info_transcode.proofs.ty.DescriptionPortableFormTranscodeMembers.transcode_members.Goals as goal
-
--- a path by its segments
-abbrev path_of : List Text → portable.Path
-path_of segments = record { segments = segments; form = tt }
 
 -- the rest after the segments is that after the path
 path_rest : {a b : List ℕ} → IsOnlyRest (EncodesList EncodesText) a b → IsOnlyRest EncodesPath a b

@@ -1,13 +1,12 @@
 use Rattle.std.proofs.Common.{refl}
 use Rattle.scale_info_bytes.proofs.Steps.{no_prefix_through}
+use Rattle.scale_info_grammar.specs.TyLaws.{composite_of}
 use Rattle.scale_info_transcode.proofs.Objects.{row_alone}
 use Rattle.scale_info_transcode.proofs.Results.{malformed_in, ok_on}
 use Rattle.scale_info_transcode.proofs.ty.TypeDefCompositePortableFormTranscodeMembers.transcode_members.Goals as goal
 
-pub returns-clause-ok : goal.returns-clause-ok
-returns-clause-ok c =
-    ok_on c.transcode_unless_empty.result (λ rest p. row_alone (λ v. record { fields = v }) (λ v x e. e) (λ v. refl) p) c.transcode_unless_empty.ensures.ok
-
-pub returns-clause-malformed : goal.returns-clause-malformed
-returns-clause-malformed c =
-    malformed_in c.transcode_unless_empty.result (λ n. no_prefix_through (λ v. v.fields) n) c.transcode_unless_empty.ensures.malformed
+pub returns : goal.returns
+returns c = let list = c.transcode_unless_empty in record {
+  ok = ok_on list.result (λ rest p. row_alone composite_of (λ v x s. s) (λ v. refl) p) list.ensures.ok;
+  malformed = malformed_in list.result (λ n. no_prefix_through (λ v. v.fields) n) list.ensures.malformed;
+}

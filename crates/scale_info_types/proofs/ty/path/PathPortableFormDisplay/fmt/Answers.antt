@@ -35,18 +35,12 @@ loop-segment-preserved g c =
           (has_written_styled_append _ _ _ _ _ _ before (has_written_styled_append _ _ _ _ _ _ between after)),
     )
 
-pub returns-after-loop-segment-clause-writes : goal.returns-after-loop-segment-clause-writes
-returns-after-loop-segment-clause-writes g c =
-    λ plain _.
+pub returns-after-loop-segment : goal.returns-after-loop-segment
+returns-after-loop-segment g c =
     let so_far = c.loop-segment.invariant in
-    has_written_of_eq _ _ _ _ _
-    (joined_all c.args.self.now.segments c.in-Some.others.now so_far.0 c.loop-segment.segment-index so_far.1 c.loop-segment-test.false)
-    (so_far.2 plain)
-
-pub returns-after-loop-segment-clause-styled : goal.returns-after-loop-segment-clause-styled
-returns-after-loop-segment-clause-styled g c =
-    λ flush _.
-    let so_far = c.loop-segment.invariant in
-    has_written_styled_of_eq _ _ _ _ _
-    (joined_all c.args.self.now.segments c.in-Some.others.now so_far.0 c.loop-segment.segment-index so_far.1 c.loop-segment-test.false)
-    (so_far.3 flush)
+    let all =
+    joined_all c.args.self.now.segments c.in-Some.others.now so_far.0 c.loop-segment.segment-index so_far.1 c.loop-segment-test.false in
+    record {
+      writes = λ plain _. has_written_of_eq _ _ _ _ _ all (so_far.2 plain);
+      styled = λ flush _. has_written_styled_of_eq _ _ _ _ _ all (so_far.3 flush);
+    }
