@@ -14,12 +14,14 @@ by_type decode part None input = failed no_such_type
 by_type decode part (Some d) input =
     decode (map_definition {G = Unit {0}} (λ r. part r.id) (λ t. t) d.type_def) input
 
+-- so it is for values
 pub values_by_type :
     (part : ℕ → Part) (o : Option Description) (input : List ℕ)
     → value_by_type part o input ≡ by_type value_by part o input
 values_by_type part None input = refl
 values_by_type part (Some d) input = refl
 
+-- and for compact integers
 pub compacts_by_type :
     (read : ℕ → Decoder ℕ) (o : Option Description) (input : List ℕ)
     → compact_by_type read o input ≡ by_type compact_by read o input
