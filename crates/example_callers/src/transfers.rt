@@ -47,7 +47,7 @@ impl EventVisitor for Transfers {
         let moves = self.in_transfer && self.at_amount;
         self.at_amount = false;
         match event {
-            ValueEvent::BeginVariant(variant) => {
+            ValueEvent::BeginVariant { variant, .. } => {
                 self.in_transfer = variant.name.as_str() == "Transfer";
             }
             ValueEvent::Field { field, .. } => self.at_amount = is_amount(field),

@@ -43,15 +43,31 @@ opening names = if all_named names then begin_object else begin_array
 abbrev pub closing : List (Option Text) → Token
 closing names = if all_named names then end_object else end_array
 
--- what begins a variant: without fields it is its name, and else an object with its name as the key
-abbrev pub variant_opening : Text → List (Option Text) → List Token
-variant_opening name [] = string name ∷ []
-variant_opening name (n ∷ names) = begin_object ∷ key name ∷ opening (n ∷ names) ∷ []
+-- what begins the fields of a variant, if it has any
+abbrev pub fields_opening : List (Option Text) → List Token
+fields_opening [] = []
+fields_opening (n ∷ names) = opening (n ∷ names) ∷ []
+
+-- what ends them
+abbrev pub fields_closing : List (Option Text) → List Token
+fields_closing [] = []
+fields_closing (n ∷ names) = closing (n ∷ names) ∷ []
+
+-- what begins a variant: without fields it is its name, and else an object with its name as the
+-- key; where its name is shared, always an object, and under the key an array of its index and then
+-- the fields
+abbrev pub variant_opening : Bool → Text → ℕ → List (Option Text) → List Token
+variant_opening true name index names =
+    begin_object ∷ key name ∷ begin_array ∷ number (decimal index) ∷ fields_opening names
+variant_opening false name index [] = string name ∷ []
+variant_opening false name index (n ∷ names) =
+    begin_object ∷ key name ∷ opening (n ∷ names) ∷ []
 
 -- what ends it
-abbrev pub variant_closing : List (Option Text) → List Token
-variant_closing [] = []
-variant_closing (n ∷ names) = closing (n ∷ names) ∷ end_object ∷ []
+abbrev pub variant_closing : Bool → List (Option Text) → List Token
+variant_closing true names = fields_closing names ++ end_array ∷ end_object ∷ []
+variant_closing false [] = []
+variant_closing false (n ∷ names) = closing (n ∷ names) ∷ end_object ∷ []
 
 -- what stands before the value of a field: its name, where the fields are an object
 abbrev pub field_opening : Option Text → Bool → List Token
@@ -70,8 +86,9 @@ event_tokens (event.begin_list n) = begin_array ∷ []
 event_tokens event.end_list = end_array ∷ []
 event_tokens (event.begin_record names) = opening names ∷ []
 event_tokens (event.end_record names) = closing names ∷ []
-event_tokens (event.begin_variant name index names) = variant_opening name names
-event_tokens (event.end_variant name index names) = variant_closing names
+event_tokens (event.begin_variant name index names shared) =
+    variant_opening shared name index names
+event_tokens (event.end_variant name index names shared) = variant_closing shared names
 event_tokens (event.field name named) = field_opening name named
 
 -- the tokens of a value of the type with this id

@@ -1,5 +1,5 @@
 //! A visitor that writes what it is shown as JSON.
-ghost use Rattle.std.specs.Prelude.{◌≡◌, ◌++◌};
+ghost use Rattle.std.specs.Prelude.{◌≡◌, ◌++◌, OnOk};
 ghost use Rattle.std.specs.List.{flat_map};
 ghost use Rattle.std.specs.Str.{IsUtf8};
 ghost use Rattle.std.proofs.Common.{refl, sym, ap, ◌∙◌, append_assoc};
@@ -9,6 +9,7 @@ ghost use Rattle.json.specs.Print.{print};
 ghost use Rattle.json.specs.Written.{Writes};
 ghost use Rattle.scale_info_visit.specs.Events.{names};
 ghost use Rattle.scale_info_value_text.specs.ValueTexts.{event_tokens, opening, closing};
+ghost use Rattle.scale_info_value_text.specs.ValueTexts.{fields_opening, fields_closing};
 
 use crate::hexadecimal::hexadecimal;
 use itoa::Buffer;
@@ -16,7 +17,7 @@ use json::Writer;
 use scale_info_types::form::PortableForm;
 use scale_info_types::ty::Field;
 use scale_info_types::ty::variant::Variant;
-use scale_info_visit::visit::all_named;
+use scale_info_visit::visit::{all_named, shares_name};
 use scale_info_visit::visitor::ValueVisitor;
 use std::alloc::{AllocError, Global};
 
@@ -61,6 +62,30 @@ fn close(out: &mut Writer, fields: &[Field<PortableForm>]) -> Result<(), AllocEr
     } else {
         out.end_array()
     }
+}
+
+/// Begins the fields of a variant, if it has any.
+fn open_any(out: &mut Writer, fields: &[Field<PortableForm>]) -> Result<(), AllocError>
+    ensures keeps { out.new.before ≡ out.old.before }
+    ensures ok { OnOk result
+        (out.new.tokens ≡ out.old.tokens ++ fields_opening (names fields.now)) }
+{
+    if fields.is_empty() {
+        return Ok(());
+    }
+    open(out, fields)
+}
+
+/// Ends the fields of a variant, if it has any.
+fn close_any(out: &mut Writer, fields: &[Field<PortableForm>]) -> Result<(), AllocError>
+    ensures keeps { out.new.before ≡ out.old.before }
+    ensures ok { OnOk result
+        (out.new.tokens ≡ out.old.tokens ++ fields_closing (names fields.now)) }
+{
+    if fields.is_empty() {
+        return Ok(());
+    }
+    close(out, fields)
 }
 
 impl ValueVisitor for TextWriter {
@@ -117,20 +142,37 @@ impl ValueVisitor for TextWriter {
         close(&mut self.out, fields)
     }
 
-    fn begin_variant(&mut self, variant: &Variant<PortableForm>) -> Result<(), AllocError> {
-        if variant.fields.is_empty() {
+    fn begin_variant(
+        &mut self,
+        choice: &[Variant<PortableForm>],
+        variant: &Variant<PortableForm>,
+    ) -> Result<(), AllocError> {
+        let shared = shares_name(choice, variant);
+        if variant.fields.is_empty() && !shared {
             return self.out.string(variant.name.as_str());
         }
         self.out.begin_object()?;
         self.out.key(variant.name.as_str())?;
-        open(&mut self.out, variant.fields.as_slice())
+        if shared {
+            self.out.begin_array()?;
+            self.out.u64(variant.index as u64)?;
+        }
+        open_any(&mut self.out, variant.fields.as_slice())
     }
 
-    fn end_variant(&mut self, variant: &Variant<PortableForm>) -> Result<(), AllocError> {
-        if variant.fields.is_empty() {
+    fn end_variant(
+        &mut self,
+        choice: &[Variant<PortableForm>],
+        variant: &Variant<PortableForm>,
+    ) -> Result<(), AllocError> {
+        let shared = shares_name(choice, variant);
+        if variant.fields.is_empty() && !shared {
             return Ok(());
         }
-        close(&mut self.out, variant.fields.as_slice())?;
+        close_any(&mut self.out, variant.fields.as_slice())?;
+        if shared {
+            self.out.end_array()?;
+        }
         self.out.end_object()
     }
 

@@ -8,29 +8,34 @@ use Rattle.scale_info_value.specs.declared.value.Dyn.{Dyn}
 use Rattle.scale_info_value.specs.declared.value.Dyn.TheVariants as dyn
 use Rattle.scale_info_value.specs.declared.value.Dyn.TheVariants.{rolls-Bool, rolls-Unsigned, rolls-Signed, rolls-Text}
 use Rattle.scale_info_value.specs.declared.value.Dyn.TheVariants.{rolls-List, rolls-Record, rolls-Variant}
+use Rattle.scale_info_value.specs.declared.value.Dyn.TheOpen.{Dyn-F}
 use Rattle.scale_info_value.specs.declared.value.Dyn.TheOpen as layer
 use Rattle.scale_info_value.specs.declared.value.Dyn.TheFolds.{fold-roll-Dyn}
 use Rattle.scale_info_visit.specs.Events.{Event, truth, unsigned, signed, text, begin_record, end_record}
 use Rattle.scale_info_visit.specs.Events.{begin_variant, end_variant, keys, all_named, field_events, list_events, integers_in}
-use Rattle.scale_info_visit.specs.Events.{events_step, events_of, events_by, step_by, are_bytes, part_types, in_place}
+use Rattle.scale_info_visit.specs.Events.{events_step, events_of, events_by, step_by, are_bytes, shared_in, part_types, in_place}
 use Rattle.scale_info_visit.specs.Visits.{placed, bracketed, value_by, field_by}
 use Rattle.scale_info_visit.proofs.Places.{in_place_map, flat_in_place, keys_in_place}
 
+-- one step of a value, of which no type is known
+abbrev pub step_alone : Dyn-F (List Event) → List Event
+step_alone = events_step false (λ name. false)
+
 -- the event of a truth value
 pub truth_events : (b : Bool) → events_of (dyn.Bool b) ≡ truth b ∷ []
-truth_events b = ap events_of (sym (rolls-Bool b)) ∙ fold-roll-Dyn (List Event) (events_step false) (layer.Bool b)
+truth_events b = ap events_of (sym (rolls-Bool b)) ∙ fold-roll-Dyn (List Event) step_alone (layer.Bool b)
 
 -- that of an integer of an unsigned type
 pub unsigned_events : (n : ℕ) → events_of (dyn.Unsigned n) ≡ unsigned n ∷ []
-unsigned_events n = ap events_of (sym (rolls-Unsigned n)) ∙ fold-roll-Dyn (List Event) (events_step false) (layer.Unsigned n)
+unsigned_events n = ap events_of (sym (rolls-Unsigned n)) ∙ fold-roll-Dyn (List Event) step_alone (layer.Unsigned n)
 
 -- that of an integer of a signed type
 pub signed_events : (n : _) → events_of (dyn.Signed n) ≡ signed n ∷ []
-signed_events n = ap events_of (sym (rolls-Signed n)) ∙ fold-roll-Dyn (List Event) (events_step false) (layer.Signed n)
+signed_events n = ap events_of (sym (rolls-Signed n)) ∙ fold-roll-Dyn (List Event) step_alone (layer.Signed n)
 
 -- that of a text
 pub text_events : (t : Text) → events_of (dyn.Text t) ≡ text t ∷ []
-text_events t = ap events_of (sym (rolls-Text t)) ∙ fold-roll-Dyn (List Event) (events_step false) (layer.Text t)
+text_events t = ap events_of (sym (rolls-Text t)) ∙ fold-roll-Dyn (List Event) step_alone (layer.Text t)
 
 -- a value without parts is shown alike, whatever is known of its type
 abbrev pub HasNoParts : Dyn → Type 0
@@ -113,15 +118,17 @@ module _ (table : PortableRegistry) (type : Option TypeDef) where
   pub variant_typed :
       (name : Text) (index : ℕ) (fs : List (Option Text × Dyn))
       → events_by table type (dyn.Variant name index fs)
-      ≡ bracketed (begin_variant name index (keys fs))
-      (placed (field_by table (all_named (keys fs))) (part_types table type index (length fs))) (end_variant name index (keys fs)) fs
+      ≡ bracketed (begin_variant name index (keys fs) (shared_in type name))
+      (placed (field_by table (all_named (keys fs))) (part_types table type index (length fs)))
+      (end_variant name index (keys fs) (shared_in type name)) fs
   variant_typed name index fs =
+      let first : List (Option Text) → Event = λ ns. begin_variant name index ns (shared_in type name) in
+      let last : List (Option Text) → Event = λ ns. end_variant name index ns (shared_in type name) in
       ap (events_by table type) (sym (rolls-Variant name index fs))
       ∙ ap (λ h. h type) (fold-roll-Dyn (Option TypeDef → List Event) (step_by table) (layer.Variant name index fs))
-      ∙ ap (λ n. named_parts (begin_variant name index) (end_variant name index)
-      (in_place (λ f t. (f.0, f.1 t)) (parts fs) (part_types table type index n)))
+      ∙ ap (λ n. named_parts first last (in_place (λ f t. (f.0, f.1 t)) (parts fs) (part_types table type index n)))
       (length-map fs (λ f. (f.0, value_by table f.1)))
-      ∙ fields_typed (begin_variant name index) (end_variant name index) fs (part_types table type index (length fs))
+      ∙ fields_typed first last fs (part_types table type index (length fs))
 
 -- a truth value has no parts
 pub truth_alone : (b : Bool) → HasNoParts (dyn.Bool b)

@@ -15,7 +15,7 @@ use Rattle.scale_info_value.specs.ValueDefinitions.{field}
 use Rattle.scale_info_value.specs.Readings.{fields_within, part_within, value_within}
 use Rattle.scale_info_value.specs.Readings.{definition_within, variant_within, items_within, members_within, pairs_within}
 use Rattle.scale_info_visit.specs.Events.{Event, begin_list, end_list, begin_record, end_record, keys, names, all_named}
-use Rattle.scale_info_visit.specs.Events.{begin_of, end_of, begin_variant, end_variant, bytes, unsigned, events, events_by}
+use Rattle.scale_info_visit.specs.Events.{begin_of, end_of, is_shared, begin_variant, end_variant, bytes, unsigned, events, events_by}
 use Rattle.scale_info_visit.specs.Events.{fields_of, definition_at, pair_of, is_byte, in_place, list_events, joined}
 use Rattle.scale_info_visit.specs.Events.{field as name_of}
 use Rattle.scale_info_value.specs.IntegerDecoders.{byte, count}
@@ -71,13 +71,15 @@ pub variant_same :
     → find (λ v. v.index == variant.index) choice.variants ≡ Some variant
     → (fs : List (Option Text × Dyn)) (rest : List ℕ) → fields_within left table variant.fields input ≡ decoded fs rest
     → events_by table (Some (def.Variant choice)) (dyn.Variant variant.name variant.index fs)
-    ≡ bracketed (begin_of variant) (fields_by table (all_named (names variant.fields)) variant.fields) (end_of variant) fs
+    ≡ bracketed (begin_of choice.variants variant) (fields_by table (all_named (names variant.fields)) variant.fields)
+    (end_of choice.variants variant) fs
 variant_same left table choice variant input found fs rest e =
+    let shared = is_shared choice.variants variant.name in
+    let first : List (Option Text) → Event = λ ns. begin_variant variant.name variant.index ns shared in
+    let last : List (Option Text) → Event = λ ns. end_variant variant.name variant.index ns shared in
     variant_typed table (Some (def.Variant choice)) variant.name variant.index fs
-    ∙ ap (λ o. bracketed (begin_variant variant.name variant.index (keys fs))
-    (fields_by table (all_named (keys fs)) (fields_of o)) (end_variant variant.name variant.index (keys fs)) fs) found
-    ∙ ap (λ ns. bracketed (begin_variant variant.name variant.index ns)
-    (fields_by table (all_named ns) variant.fields) (end_variant variant.name variant.index ns) fs)
+    ∙ ap (λ o. bracketed (first (keys fs)) (fields_by table (all_named (keys fs)) (fields_of o)) (last (keys fs)) fs) found
+    ∙ ap (λ ns. bracketed (first ns) (fields_by table (all_named ns) variant.fields) (last ns) fs)
     (named_alike left table variant.fields input fs rest e)
 
 -- the events of a list that is not shown at once

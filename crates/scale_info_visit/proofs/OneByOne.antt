@@ -16,14 +16,18 @@ use Rattle.scale_info_value.specs.declared.value.Dyn.TheFolds.{fold-roll-Dyn, in
 use Rattle.scale_info_visit.specs.Events as all_events
 use Rattle.scale_info_visit.specs.Events.{Event, truth, unsigned, signed, text, bytes, begin_list, end_list, begin_record, end_record}
 use Rattle.scale_info_visit.specs.Events.{begin_variant, end_variant, field, keys, all_named, items_events, integers_in, list_events}
-use Rattle.scale_info_visit.specs.Events.{integers_events, one_by_one, events_step, events_of, events_by, step_by, are_bytes, part_types, in_place}
+use Rattle.scale_info_visit.specs.Events.{integers_events, one_by_one, unshared, shared_in, events_of, events_by, step_by, are_bytes, part_types, in_place}
 use Rattle.scale_info_visit.specs.Visits.{placed, bracketed, value_by, field_by}
 use Rattle.scale_info_visit.proofs.Places.{length_in_place}
-use Rattle.scale_info_visit.proofs.Events.{list_typed, record_typed, variant_typed}
+use Rattle.scale_info_visit.proofs.Events.{step_alone, list_typed, record_typed, variant_typed}
 
--- all events one by one
+-- an event with all forgotten that a type says of it
+abbrev pub without_type : Event → List Event
+without_type e = one_by_one (unshared e)
+
+-- all events so
 abbrev apart : List Event → List Event
-apart es = flat_map one_by_one es
+apart es = flat_map without_type es
 
 -- an item is one event of an integer
 first_integer :
@@ -40,8 +44,8 @@ first_integer (begin_list n ∷ more) items all e = cc
 first_integer (end_list ∷ more) items all e = cc
 first_integer (begin_record ns ∷ more) items all e = cc
 first_integer (end_record ns ∷ more) items all e = cc
-first_integer (begin_variant t n ns ∷ more) items all e = cc
-first_integer (end_variant t n ns ∷ more) items all e = cc
+first_integer (begin_variant t n ns b ∷ more) items all e = cc
+first_integer (end_variant t n ns b ∷ more) items all e = cc
 first_integer (field t b ∷ more) items all e = cc
 
 -- the others are integers too
@@ -94,14 +98,14 @@ placed_apart :
     → (ks : List K) (types : List (Option TypeDef)) (last : List Event)
     → apart (placed shows types (map part ks) ++ last) ≡ flat_map alone (map part ks) ++ apart last
 placed_apart shows alone part law ks types last =
-    flat_map-append one_by_one (placed shows types (map part ks)) last ∙ ap (λ es. es ++ apart last) (all ks types)
+    flat_map-append without_type (placed shows types (map part ks)) last ∙ ap (λ es. es ++ apart last) (all ks types)
   where
     all : (ks : List _) (types : List (Option TypeDef)) → apart (placed shows types (map part ks)) ≡ flat_map alone (map part ks)
     all [] types = refl
     all (k ∷ ks) [] =
-        flat_map-append one_by_one (shows (part k) None) (placed shows [] (map part ks)) ∙ (λ i. law k None i ++ all ks [] i)
+        flat_map-append without_type (shows (part k) None) (placed shows [] (map part ks)) ∙ (λ i. law k None i ++ all ks [] i)
     all (k ∷ ks) (t ∷ types) =
-        flat_map-append one_by_one (shows (part k) t) (placed shows types (map part ks)) ∙ (λ i. law k t i ++ all ks types i)
+        flat_map-append without_type (shows (part k) t) (placed shows types (map part ks)) ∙ (λ i. law k t i ++ all ks types i)
 
 module _ (table : PortableRegistry) where
   -- a value's events one by one do not depend on what is known of its type
@@ -120,16 +124,16 @@ module _ (table : PortableRegistry) where
   by_layer :
       (x : Dyn-F Dyn) (type : Option TypeDef)
       → apart (step_by table (map-Dyn Dyn (Option TypeDef → List Event) (value_by table) x) type)
-      ≡ events_step false (map-Dyn Dyn (List Event) events_of x)
+      ≡ step_alone (map-Dyn Dyn (List Event) events_of x)
       → apart (events_by table type (roll-Dyn x)) ≡ events_of (roll-Dyn x)
   by_layer x type e =
       ap (λ h. apart (h type)) (fold-roll-Dyn (Option TypeDef → List Event) (step_by table) x)
-      ∙ e ∙ sym (fold-roll-Dyn (List Event) (events_step false) x)
+      ∙ e ∙ sym (fold-roll-Dyn (List Event) step_alone x)
 
   -- the events of a list, with no types
   list_plain : (vs : List Dyn) → events_of (dyn.List vs) ≡ begin_list (length vs) ∷ flat_map events_of vs ++ end_list ∷ []
   list_plain vs =
-      ap events_of (sym (rolls-List vs)) ∙ fold-roll-Dyn (List Event) (events_step false) (layer.List vs)
+      ap events_of (sym (rolls-List vs)) ∙ fold-roll-Dyn (List Event) step_alone (layer.List vs)
       ∙ (λ i. begin_list (length-map vs events_of i) ∷ flat_map-map (λ e. e) events_of vs i ++ end_list ∷ [])
 
   -- a list
@@ -174,20 +178,20 @@ module _ (table : PortableRegistry) where
 
   -- one by one they do not depend on types
   fields_alike :
-      (first last : List (Option Text) → Event) → ((ns : List (Option Text)) → one_by_one (first ns) ≡ first ns ∷ [])
-      → ((ns : List (Option Text)) → one_by_one (last ns) ≡ last ns ∷ [])
+      (first last begins ends : List (Option Text) → Event) → ((ns : List (Option Text)) → without_type (first ns) ≡ begins ns ∷ [])
+      → ((ns : List (Option Text)) → without_type (last ns) ≡ ends ns ∷ [])
       → (ks : List (Option Text × Known)) (types : List (Option TypeDef))
-      → apart (between_names first last types (map (λ k. (k.0, k.1.0)) ks)) ≡ plain_between first last (plain (map (λ k. (k.0, k.1.0)) ks))
-  fields_alike first last one other ks types =
+      → apart (between_names first last types (map (λ k. (k.0, k.1.0)) ks)) ≡ plain_between begins ends (plain (map (λ k. (k.0, k.1.0)) ks))
+  fields_alike first last begins ends one other ks types =
       let fs : List (Option Text × Dyn) = map (λ k. (k.0, k.1.0)) ks in
       let named = all_named (keys fs) in
       ap (λ es. es ++ apart (placed (field_by table named) types fs ++ last (keys fs) ∷ [])) (one (keys fs))
-      ∙ ap (λ es. first (keys fs) ∷ es)
+      ∙ ap (λ es. begins (keys fs) ∷ es)
       (placed_apart (field_by table named) (field_plain named) (λ k. (k.0, k.1.0))
       (λ k t. ap (λ es. field k.0 named ∷ es) (k.1.1 t)) ks types (last (keys fs) ∷ []))
-      ∙ ap (λ es. first (keys fs) ∷ flat_map (field_plain named) fs ++ (es ++ [])) (other (keys fs))
-      ∙ ap (λ es. first (keys fs) ∷ es ++ last (keys fs) ∷ []) (sym (fields_plain named fs))
-      ∙ ap (λ ns. first ns ∷ flat_map (all_events.field_events (all_named ns)) (plain fs) ++ last ns ∷ []) (sym (keys_plain fs))
+      ∙ ap (λ es. begins (keys fs) ∷ flat_map (field_plain named) fs ++ (es ++ [])) (other (keys fs))
+      ∙ ap (λ es. begins (keys fs) ∷ es ++ ends (keys fs) ∷ []) (sym (fields_plain named fs))
+      ∙ ap (λ ns. begins ns ∷ flat_map (all_events.field_events (all_named ns)) (plain fs) ++ ends ns ∷ []) (sym (keys_plain fs))
 
   -- each layer of values, whose events do not depend on types
   layers_alike : (y : Dyn-F Known) → Alike (roll-Dyn (lower y))
@@ -200,15 +204,16 @@ module _ (table : PortableRegistry) where
       let fs : List (Option Text × Dyn) = map (λ k. (k.0, k.1.0)) ks in
       subst (λ d. apart (events_by table type d) ≡ events_of d) (sym (rolls-Record fs))
       (ap apart (record_typed table type fs)
-      ∙ fields_alike begin_record end_record (λ ns. refl) (λ ns. refl) ks (part_types table type 0 (length fs))
-      ∙ sym (ap events_of (sym (rolls-Record fs)) ∙ fold-roll-Dyn (List Event) (events_step false) (layer.Record fs)))
+      ∙ fields_alike begin_record end_record begin_record end_record (λ ns. refl) (λ ns. refl) ks (part_types table type 0 (length fs))
+      ∙ sym (ap events_of (sym (rolls-Record fs)) ∙ fold-roll-Dyn (List Event) step_alone (layer.Record fs)))
   layers_alike (layer.Variant name index ks) type =
       let fs : List (Option Text × Dyn) = map (λ k. (k.0, k.1.0)) ks in
       subst (λ d. apart (events_by table type d) ≡ events_of d) (sym (rolls-Variant name index fs))
       (ap apart (variant_typed table type name index fs)
-      ∙ fields_alike (begin_variant name index) (end_variant name index) (λ ns. refl) (λ ns. refl) ks (part_types table type index (length fs))
-      ∙ sym (ap events_of (sym (rolls-Variant name index fs)) ∙ fold-roll-Dyn (List Event) (events_step false) (layer.Variant name index fs)))
+      ∙ fields_alike (λ ns. begin_variant name index ns (shared_in type name)) (λ ns. end_variant name index ns (shared_in type name))
+      (λ ns. begin_variant name index ns false) (λ ns. end_variant name index ns false) (λ ns. refl) (λ ns. refl) ks (part_types table type index (length fs))
+      ∙ sym (ap events_of (sym (rolls-Variant name index fs)) ∙ fold-roll-Dyn (List Event) step_alone (layer.Variant name index fs)))
 
-  -- every value's events one by one are those without types
+  -- every value's events, with all forgotten that types say, are those without types
   pub all_alike : (d : Dyn) → Alike d
   all_alike = ind-Dyn Alike (λ x y joined. subst (λ z. Alike (roll-Dyn z)) joined (layers_alike y))

@@ -11,12 +11,13 @@ use Rattle.scale_info_value.specs.declared.value.Dyn.TheOpen as layer
 use Rattle.scale_info_value.specs.declared.value.Dyn.TheViews.{roll-Dyn}
 use Rattle.scale_info_value.specs.declared.value.Dyn.TheFolds.{fold-roll-Dyn, ind-Dyn, map-Dyn}
 use Rattle.scale_info_visit.specs.Events.{Event, truth, unsigned, signed, text, bytes, begin_list, end_list, begin_record, end_record}
-use Rattle.scale_info_visit.specs.Events.{begin_variant, end_variant, field, field_events, keys, all_named, one_by_one, events_step, events_of, events, definition_at}
+use Rattle.scale_info_visit.specs.Events.{begin_variant, end_variant, field, field_events, keys, all_named, events_of, events, definition_at}
 use Rattle.scale_info_visit.specs.Sizes.{size_step, size, values, values_in}
 use Rattle.scale_info_visit.specs.Visits.{BeginsWith, HasStopped, IsVisitErrorOf}
 use Rattle.scale_info_visit.specs.declared.visitor.VisitError.{VisitError}
 use Rattle.scale_info_visit.specs.declared.visitor.VisitError.TheVariants as error
-use Rattle.scale_info_visit.proofs.OneByOne.{all_alike}
+use Rattle.scale_info_visit.proofs.Events.{step_alone}
+use Rattle.scale_info_visit.proofs.OneByOne.{without_type, all_alike}
 use Rattle.scale_info_visit.proofs.Visiting.{same_value}
 
 -- a sum by its first
@@ -31,8 +32,8 @@ integers_many (n ∷ all) =
     let more = sum_more values (unsigned n) (map unsigned all ++ end_list ∷ []) in
     omega arith
 
--- an event one by one is of as many values
-one_apart : (e : Event) → values e ≡ values_in (one_by_one e)
+-- an event with all forgotten that a type says is of as many values
+one_apart : (e : Event) → values e ≡ values_in (without_type e)
 one_apart (truth b) = refl
 one_apart (unsigned n) = refl
 one_apart (signed n) = refl
@@ -45,18 +46,18 @@ one_apart (begin_list n) = refl
 one_apart end_list = refl
 one_apart (begin_record ns) = refl
 one_apart (end_record ns) = refl
-one_apart (begin_variant t n ns) = refl
-one_apart (end_variant t n ns) = refl
+one_apart (begin_variant t n ns b) = refl
+one_apart (end_variant t n ns b) = refl
 one_apart (field t b) = refl
 
 -- so are all
-all_apart : (es : List Event) → values_in es ≡ values_in (flat_map one_by_one es)
+all_apart : (es : List Event) → values_in es ≡ values_in (flat_map without_type es)
 all_apart [] = refl
 all_apart (e ∷ es) =
     let here = one_apart e in
     let rest = all_apart es in
     let more = sum_more values e es in
-    let both = sum_by-append values (one_by_one e) (flat_map one_by_one es) in
+    let both = sum_by-append values (without_type e) (flat_map without_type es) in
     omega arith
 
 -- its events are of as many values as it is
@@ -122,7 +123,7 @@ begins_with first es n one many = let more = sum_more values first es in omega a
 -- one step of a layer
 step_counted :
     (y : Dyn-F Known)
-    → values_in (events_step false (map-Dyn Dyn (List Event) events_of (lower y))) ≡ size_step (map-Dyn Dyn ℕ size (lower y))
+    → values_in (step_alone (map-Dyn Dyn (List Event) events_of (lower y))) ≡ size_step (map-Dyn Dyn ℕ size (lower y))
 step_counted (layer.Bool b) = refl
 step_counted (layer.Unsigned n) = refl
 step_counted (layer.Signed n) = refl
@@ -136,13 +137,13 @@ step_counted (layer.Record ks) =
     (fields_many (all_named names) ks (end_record names) refl)
 step_counted (layer.Variant name index ks) =
     let names = keys (plain_fields ks) in
-    begins_with (begin_variant name index names) (shown_fields (all_named names) ks ++ end_variant name index names ∷ []) _ refl
-    (fields_many (all_named names) ks (end_variant name index names) refl)
+    begins_with (begin_variant name index names false) (shown_fields (all_named names) ks ++ end_variant name index names false ∷ []) _ refl
+    (fields_many (all_named names) ks (end_variant name index names false) refl)
 
 -- each layer
 layers_counted : (y : Dyn-F Known) → Counted (roll-Dyn (lower y))
 layers_counted y =
-    ap values_in (fold-roll-Dyn (List Event) (events_step false) (lower y)) ∙ step_counted y
+    ap values_in (fold-roll-Dyn (List Event) step_alone (lower y)) ∙ step_counted y
     ∙ sym (fold-roll-Dyn ℕ size_step (lower y))
 
 -- the events of a value are of as many values as it is

@@ -17,8 +17,8 @@ event_of (value_event.BeginList n) = begin_list n
 event_of value_event.EndList = end_list
 event_of (value_event.BeginRecord fields) = begin_record (names fields.now)
 event_of (value_event.EndRecord fields) = end_record (names fields.now)
-event_of (value_event.BeginVariant v) = begin_of v.now
-event_of (value_event.EndVariant v) = end_of v.now
+event_of (value_event.BeginVariant choice v) = begin_of choice.now v.now
+event_of (value_event.EndVariant choice v) = end_of choice.now v.now
 event_of (value_event.Field f named) = field f.now.name named
 
 -- `Taken event old new` says what one event does. These events were taken, one after another.

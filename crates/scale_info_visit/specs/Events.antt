@@ -1,7 +1,8 @@
 -- What a value is made of, in order.
 use Rattle.std.specs.Prelude.{ℕ, ℤ, Bool, true, false, List, [], ◌∷◌, ◌++◌, length, map, replicate}
-use Rattle.std.specs.Prelude.{Option, Some, None, option_map, find, ◌==◌}
-use Rattle.std.specs.List.{flat_map}
+use Rattle.std.specs.Prelude.{Option, Some, None, option_map, find, ◌==◌, nat_lt}
+use Rattle.std.specs.List.{flat_map, count_by}
+use Rattle.std.specs.Str.{bytes_eq}
 use Rattle.scale_info_types.specs.Portable.{Id, Text, Field, Variant, TypeDef}
 use Rattle.scale_info_types.specs.declared.ty.TypeDef.TheVariants as def
 use Rattle.scale_info_primitives.specs.declared.primitive.TypeDefPrimitive.TheVariants as kind
@@ -14,7 +15,8 @@ use Rattle.scale_info_value.specs.declared.value.Dyn.TheFolds.{fold-Dyn}
 
 -- One step of going over a value. A list begins with how many items it has; a list of bytes is one
 -- step. A record begins with the names of its fields; before the value of a field stand its name,
--- and whether all fields there have names.
+-- and whether all fields there have names. A variant begins with its name, its index, the names of
+-- its fields, and whether another variant of its enum has the same name.
 pub data Event : Type 0 where
   truth : Bool → Event
   unsigned : ℕ → Event
@@ -25,8 +27,8 @@ pub data Event : Type 0 where
   end_list : Event
   begin_record : List (Option Text) → Event
   end_record : List (Option Text) → Event
-  begin_variant : Text → ℕ → List (Option Text) → Event
-  end_variant : Text → ℕ → List (Option Text) → Event
+  begin_variant : Text → ℕ → List (Option Text) → Bool → Event
+  end_variant : Text → ℕ → List (Option Text) → Bool → Event
   field : Option Text → Bool → Event
 
 -- the names in fields of values
@@ -63,24 +65,25 @@ abbrev pub list_events : Bool → List (List Event) → List Event
 list_events true items = joined (integers_in items) items
 list_events false items = items_events items
 
--- the events of a value by those of its parts, where it is known whether it is a list of bytes
-abbrev pub events_step : Bool → Dyn-F (List Event) → List Event
-events_step are_bytes (layer.Bool b) = truth b ∷ []
-events_step are_bytes (layer.Unsigned n) = unsigned n ∷ []
-events_step are_bytes (layer.Signed n) = signed n ∷ []
-events_step are_bytes (layer.Text t) = text t ∷ []
-events_step are_bytes (layer.List items) = list_events are_bytes items
-events_step are_bytes (layer.Record fields) =
+-- the events of a value by those of its parts, where it is known whether it is a list of bytes, and
+-- which names variants share
+abbrev pub events_step : Bool → (Text → Bool) → Dyn-F (List Event) → List Event
+events_step are_bytes shared (layer.Bool b) = truth b ∷ []
+events_step are_bytes shared (layer.Unsigned n) = unsigned n ∷ []
+events_step are_bytes shared (layer.Signed n) = signed n ∷ []
+events_step are_bytes shared (layer.Text t) = text t ∷ []
+events_step are_bytes shared (layer.List items) = list_events are_bytes items
+events_step are_bytes shared (layer.Record fields) =
     begin_record (keys fields)
     ∷ flat_map (field_events (all_named (keys fields))) fields ++ end_record (keys fields) ∷ []
-events_step are_bytes (layer.Variant name index fields) =
-    begin_variant name index (keys fields)
+events_step are_bytes shared (layer.Variant name index fields) =
+    begin_variant name index (keys fields) (shared name)
     ∷ flat_map (field_events (all_named (keys fields))) fields
-    ++ end_variant name index (keys fields) ∷ []
+    ++ end_variant name index (keys fields) (shared name) ∷ []
 
 -- the events of a value, of which no type is known
 abbrev pub events_of : Dyn → List Event
-events_of = fold-Dyn (List Event) (events_step false)
+events_of = fold-Dyn (List Event) (events_step false (λ name. false))
 
 -- the definition of the type with this id; None, where the id is no index
 abbrev pub definition_at : PortableRegistry → ℕ → Option TypeDef
@@ -125,6 +128,15 @@ are_bytes table (Some (def.Sequence d)) = is_byte (definition_at table d.type_pa
 are_bytes table (Some (def.Array d)) = is_byte (definition_at table d.type_param.id)
 are_bytes table _ = false
 
+-- whether more than one of the variants has this name
+abbrev pub is_shared : List Variant → Text → Bool
+is_shared choice name = nat_lt 1 (count_by (λ v. bytes_eq v.name name) choice)
+
+-- whether more than one variant of the enum has this name
+abbrev pub shared_in : Option TypeDef → Text → Bool
+shared_in (Some (def.Variant d)) name = is_shared d.variants name
+shared_in _ name = false
+
 -- each part with the definition at its place; of a part past all of them nothing is known
 abbrev pub in_place :
     {P A : Type 0} → (P → Option TypeDef → A) → List P → List (Option TypeDef) → List A
@@ -150,7 +162,8 @@ parts_by table type (layer.Variant name index fields) =
 -- one step of going over a value by the definition of its type
 abbrev pub step_by :
     PortableRegistry → Dyn-F (Option TypeDef → List Event) → Option TypeDef → List Event
-step_by table value type = events_step (are_bytes table type) (parts_by table type value)
+step_by table value type =
+    events_step (are_bytes table type) (shared_in type) (parts_by table type value)
 
 -- the events of a value by the definition of its type
 abbrev pub events_by : PortableRegistry → Option TypeDef → Dyn → List Event
@@ -170,14 +183,20 @@ abbrev pub one_by_one : Event → List Event
 one_by_one (bytes b) = integers_events b
 one_by_one event = event ∷ []
 
+-- a variant as one whose name no other has, and any other event as it is
+abbrev pub unshared : Event → Event
+unshared (begin_variant name index names shared) = begin_variant name index names false
+unshared (end_variant name index names shared) = end_variant name index names false
+unshared event = event
+
 -- the names of fields of a table
 abbrev pub names : List Field → List (Option Text)
 names fields = map (λ f. f.name) fields
 
--- how a variant of a table begins
-abbrev pub begin_of : Variant → Event
-begin_of v = begin_variant v.name v.index (names v.fields)
+-- how one of the variants of a table's enum begins
+abbrev pub begin_of : List Variant → Variant → Event
+begin_of choice v = begin_variant v.name v.index (names v.fields) (is_shared choice v.name)
 
 -- how it ends
-abbrev pub end_of : Variant → Event
-end_of v = end_variant v.name v.index (names v.fields)
+abbrev pub end_of : List Variant → Variant → Event
+end_of choice v = end_variant v.name v.index (names v.fields) (is_shared choice v.name)

@@ -37,7 +37,7 @@ values (text t) = 1
 values (bytes b) = 1 + length b
 values (begin_list n) = 1
 values (begin_record names) = 1
-values (begin_variant name index names) = 1
+values (begin_variant name index names shared) = 1
 values _ = 0
 
 -- how many values some events show or begin

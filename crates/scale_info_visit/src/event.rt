@@ -37,10 +37,20 @@ pub enum ValueEvent<'e> {
     BeginRecord(&'e [Field<PortableForm>]),
     /// The record of these fields ends.
     EndRecord(&'e [Field<PortableForm>]),
-    /// A value of this variant begins.
-    BeginVariant(&'e Variant<PortableForm>),
-    /// The value of this variant ends.
-    EndVariant(&'e Variant<PortableForm>),
+    /// A value of an enum begins.
+    BeginVariant {
+        /// The variants of the enum, as the table has them.
+        choice: &'e [Variant<PortableForm>],
+        /// The variant of the value.
+        variant: &'e Variant<PortableForm>,
+    },
+    /// The value of an enum ends.
+    EndVariant {
+        /// The variants of the enum, as the table has them.
+        choice: &'e [Variant<PortableForm>],
+        /// The variant of the value.
+        variant: &'e Variant<PortableForm>,
+    },
     /// A field, whose value comes next.
     Field {
         /// The field, as the table has it.
@@ -160,13 +170,21 @@ impl<'v, V: EventVisitor> ValueVisitor for EachEvent<'v, V> {
     }
 
     #[inline(always)]
-    fn begin_variant(&mut self, variant: &Variant<PortableForm>) -> Result<(), V::Error> {
-        self.pass(ValueEvent::BeginVariant(variant))
+    fn begin_variant(
+        &mut self,
+        choice: &[Variant<PortableForm>],
+        variant: &Variant<PortableForm>,
+    ) -> Result<(), V::Error> {
+        self.pass(ValueEvent::BeginVariant { choice, variant })
     }
 
     #[inline(always)]
-    fn end_variant(&mut self, variant: &Variant<PortableForm>) -> Result<(), V::Error> {
-        self.pass(ValueEvent::EndVariant(variant))
+    fn end_variant(
+        &mut self,
+        choice: &[Variant<PortableForm>],
+        variant: &Variant<PortableForm>,
+    ) -> Result<(), V::Error> {
+        self.pass(ValueEvent::EndVariant { choice, variant })
     }
 
     #[inline(always)]

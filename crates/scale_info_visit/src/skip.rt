@@ -56,11 +56,19 @@ impl ValueVisitor for Skipping {
         Ok(())
     }
 
-    fn begin_variant(&mut self, _variant: &Variant<PortableForm>) -> Result<(), Infallible> {
+    fn begin_variant(
+        &mut self,
+        _choice: &[Variant<PortableForm>],
+        _variant: &Variant<PortableForm>,
+    ) -> Result<(), Infallible> {
         Ok(())
     }
 
-    fn end_variant(&mut self, _variant: &Variant<PortableForm>) -> Result<(), Infallible> {
+    fn end_variant(
+        &mut self,
+        _choice: &[Variant<PortableForm>],
+        _variant: &Variant<PortableForm>,
+    ) -> Result<(), Infallible> {
         Ok(())
     }
 

@@ -8,7 +8,7 @@ ghost use Rattle.scale_info_value.specs.Readings.{pairs_within, reading};
 ghost use Rattle.scale_info_visit.specs.Events.{events, events_by, all_named, is_byte};
 ghost use Rattle.scale_info_visit.specs.Events.{definition_at, pair_of};
 ghost use Rattle.scale_info_visit.specs.Events.{begin_list, end_list, begin_record, end_record};
-ghost use Rattle.scale_info_visit.specs.Events.{names, begin_of, end_of};
+ghost use Rattle.scale_info_visit.specs.Events.{names, begin_of, end_of, is_shared};
 ghost use Rattle.scale_info_visit.specs.Visits.{HasVisited, IsVisitErrorOf, StopsWithin};
 ghost use Rattle.scale_info_visit.specs.Visits.{field_within, bracketed, key_then_value, field_by};
 ghost use Rattle.scale_info_visit.specs.Visits.{fields_by, items_by, members_by, list_by};
@@ -127,6 +127,23 @@ pub fn all_named(fields: &[Field<PortableForm>]) -> bool
     true
 }
 
+/// Whether more than one of the variants of an enum has this variant's name. The Rust compiler writes
+/// no such enum, but a table may come from elsewhere.
+pub fn shares_name(choice: &[Variant<PortableForm>], variant: &Variant<PortableForm>) -> bool
+    ensures { result ≡ is_shared choice.now variant.now.name }
+{
+    let mut found = false;
+    for other in choice {
+        if other.name == variant.name {
+            if found {
+                return true;
+            }
+            found = true;
+        }
+    }
+    false
+}
+
 /// Shows the record of these fields.
 #[cycle(visit)]
 fn record<'i, V: ValueVisitor>(
@@ -174,16 +191,18 @@ fn variant<'i, V: ValueVisitor>(
         visitor.old visitor.new) }
 {
     let (index, rest) = byte(input)?;
-    match variant_with_index(choice.variants.as_slice(), index) {
+    let variants = choice.variants.as_slice();
+    match variant_with_index(variants, index) {
         None => Err(VisitError::Failed(Failure::Malformed)),
-        Some(variant) => chosen(table, variant, left, rest, visitor),
+        Some(variant) => chosen(table, variants, variant, left, rest, visitor),
     }
 }
 
-/// Shows a value of this variant, whose fields are at the start of the input.
+/// Shows a value of this variant of the enum, whose fields are at the start of the input.
 #[cycle(visit)]
 fn chosen<'i, V: ValueVisitor>(
     table: &PortableRegistry,
+    choice: &[Variant<PortableForm>],
     variant: &Variant<PortableForm>,
     left: u8,
     input: &'i [u8],
@@ -191,22 +210,22 @@ fn chosen<'i, V: ValueVisitor>(
 ) -> Result<&'i [u8], VisitError<V::Error>>
     requires { 1 ≤ left }
     ensures ok { IfOk result (λ rest. HasVisited V.visited
-        (bracketed (begin_of variant.now)
+        (bracketed (begin_of choice.now variant.now)
         (fields_by table.now (all_named (names variant.now.fields)) variant.now.fields)
-        (end_of variant.now))
+        (end_of choice.now variant.now))
         (fields_within left table.now variant.now.fields input.now)
         rest.now visitor.old visitor.new) }
     ensures err { IfErr result (IsVisitErrorOf V.visited V.stopped
-        (bracketed (begin_of variant.now)
+        (bracketed (begin_of choice.now variant.now)
         (fields_by table.now (all_named (names variant.now.fields)) variant.now.fields)
-        (end_of variant.now))
+        (end_of choice.now variant.now))
         (fields_within left table.now variant.now.fields input.now)
         visitor.old visitor.new) }
 {
     let all = variant.fields.as_slice();
-    shown(visitor.begin_variant(variant))?;
+    shown(visitor.begin_variant(choice, variant))?;
     let rest = fields(table, all, all_named(all), left, input, visitor)?;
-    shown(visitor.end_variant(variant))?;
+    shown(visitor.end_variant(choice, variant))?;
     Ok(rest)
 }
 

@@ -109,15 +109,26 @@ pub trait ValueVisitor {
         ensures err { IfErr result
             (λ e. stopped (end_record (names fields.now) ∷ []) self.old e self.new) };
 
-    /// Begins this variant, which is part of the table.
-    fn begin_variant(&mut self, variant: &Variant<PortableForm>) -> Result<(), Self::Error>
-        ensures ok { OnOk result (visited (begin_of variant.now ∷ []) self.old self.new) }
-        ensures err { IfErr result (λ e. stopped (begin_of variant.now ∷ []) self.old e self.new) };
+    /// Begins a variant of an enum with these variants, which are part of the table.
+    fn begin_variant(
+        &mut self,
+        choice: &[Variant<PortableForm>],
+        variant: &Variant<PortableForm>,
+    ) -> Result<(), Self::Error>
+        ensures ok { OnOk result
+            (visited (begin_of choice.now variant.now ∷ []) self.old self.new) }
+        ensures err { IfErr result
+            (λ e. stopped (begin_of choice.now variant.now ∷ []) self.old e self.new) };
 
-    /// Ends this variant.
-    fn end_variant(&mut self, variant: &Variant<PortableForm>) -> Result<(), Self::Error>
-        ensures ok { OnOk result (visited (end_of variant.now ∷ []) self.old self.new) }
-        ensures err { IfErr result (λ e. stopped (end_of variant.now ∷ []) self.old e self.new) };
+    /// Ends a variant of an enum with these variants.
+    fn end_variant(
+        &mut self,
+        choice: &[Variant<PortableForm>],
+        variant: &Variant<PortableForm>,
+    ) -> Result<(), Self::Error>
+        ensures ok { OnOk result (visited (end_of choice.now variant.now ∷ []) self.old self.new) }
+        ensures err { IfErr result
+            (λ e. stopped (end_of choice.now variant.now ∷ []) self.old e self.new) };
 
     /// Takes a field of the table, whose value comes next. `named` says whether each field of its
     /// record or variant has a name.

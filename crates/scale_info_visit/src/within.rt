@@ -125,13 +125,21 @@ impl<'v, V: ValueVisitor> ValueVisitor for Limited<'v, V> {
         passed(self.inner.end_record(fields))
     }
 
-    fn begin_variant(&mut self, variant: &Variant<PortableForm>) -> Result<(), Refusal<V::Error>> {
+    fn begin_variant(
+        &mut self,
+        choice: &[Variant<PortableForm>],
+        variant: &Variant<PortableForm>,
+    ) -> Result<(), Refusal<V::Error>> {
         self.take(1)?;
-        passed(self.inner.begin_variant(variant))
+        passed(self.inner.begin_variant(choice, variant))
     }
 
-    fn end_variant(&mut self, variant: &Variant<PortableForm>) -> Result<(), Refusal<V::Error>> {
-        passed(self.inner.end_variant(variant))
+    fn end_variant(
+        &mut self,
+        choice: &[Variant<PortableForm>],
+        variant: &Variant<PortableForm>,
+    ) -> Result<(), Refusal<V::Error>> {
+        passed(self.inner.end_variant(choice, variant))
     }
 
     fn field(&mut self, next: &Field<PortableForm>, named: bool) -> Result<(), Refusal<V::Error>> {

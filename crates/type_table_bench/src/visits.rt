@@ -64,14 +64,22 @@ impl ValueVisitor for DigestVisitor<'_> {
         Ok(())
     }
 
-    fn begin_variant(&mut self, variant: &Variant<PortableForm>) -> Result<(), Infallible> {
+    fn begin_variant(
+        &mut self,
+        _choice: &[Variant<PortableForm>],
+        variant: &Variant<PortableForm>,
+    ) -> Result<(), Infallible> {
         self.digest.put_bytes(variant.name.as_bytes());
         self.digest.put(variant.index as u64);
         self.digest.put(variant.fields.len() as u64);
         Ok(())
     }
 
-    fn end_variant(&mut self, _variant: &Variant<PortableForm>) -> Result<(), Infallible> {
+    fn end_variant(
+        &mut self,
+        _choice: &[Variant<PortableForm>],
+        _variant: &Variant<PortableForm>,
+    ) -> Result<(), Infallible> {
         Ok(())
     }
 

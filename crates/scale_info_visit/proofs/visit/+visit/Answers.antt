@@ -211,7 +211,7 @@ variant-returns-in-Some-clause-ok g t c =
     (variant_same c.args.left c.args.table.now c.args.choice.now v c.in_ok-index.rest.now
     (found_itself c.in_ok-index.index c.args.choice.now.variants v some))
     (variant_chosen c.args.left c.args.table.now c.args.choice.now.variants c.args.input.now c.in_ok-index.rest.now c.in_ok-index.index v c.in_ok-index.ensures.ok some) p)
-    c.chosen.ensures.ok
+    (rw c.as_slice-variants.ensures at c.chosen.ensures.ok)
 
 pub variant-returns-in-Some-clause-err : goal.variant-returns-in-Some-clause-err
 variant-returns-in-Some-clause-err g t c =
@@ -224,7 +224,7 @@ variant-returns-in-Some-clause-err g t c =
     (found_itself c.in_ok-index.index c.args.choice.now.variants v some))
     (variant_chosen c.args.left c.args.table.now c.args.choice.now.variants c.args.input.now c.in_ok-index.rest.now c.in_ok-index.index v c.in_ok-index.ensures.ok some)
     (g.met.V.ValueVisitor.visited_none c.args.visitor.now))
-    c.chosen.ensures.err
+    (rw c.as_slice-variants.ensures at c.chosen.ensures.err)
 
 pub variant-returns-in_err-index-clause-err : goal.variant-returns-in_err-index-clause-err
 variant-returns-in_err-index-clause-err g t c =
@@ -262,7 +262,7 @@ record-returns-in_err-shown-2-clause-err g t c =
 
 pub chosen-returns-clause-ok : goal.chosen-returns-clause-ok
 chosen-returns-clause-ok g t c =
-    between (begin_of c.args.variant.now) (end_of c.args.variant.now) g.met.V.ValueVisitor.visited_append
+    between (begin_of c.args.choice.now c.args.variant.now) (end_of c.args.choice.now c.args.variant.now) g.met.V.ValueVisitor.visited_append
     (by_answer _ c.in_ok-shown.ensures.ok c.begin_variant.ensures.ok)
     (rw (c.all_named.ensures, c.as_slice-all.ensures) at c.in_ok-rest.ensures.ok)
     (by_answer _ c.in_ok-shown-2.ensures.ok c.end_variant.ensures.ok)
@@ -270,21 +270,21 @@ chosen-returns-clause-ok g t c =
 pub chosen-returns-in_err-shown-clause-err : goal.chosen-returns-in_err-shown-clause-err
 chosen-returns-in_err-shown-clause-err g t c =
     refusal_passed _ c.from_residual.result c.in_err-shown.field-0.0 c.begin_variant.result g.met.V.ValueVisitor.visited_append
-    g.met.V.ValueVisitor.stopped_later c.from_residual.ensures.1 (at_first (begin_of c.args.variant.now) (end_of c.args.variant.now) _ (g.met.V.ValueVisitor.visited_none c.args.visitor.now))
+    g.met.V.ValueVisitor.stopped_later c.from_residual.ensures.1 (at_first (begin_of c.args.choice.now c.args.variant.now) (end_of c.args.choice.now c.args.variant.now) _ (g.met.V.ValueVisitor.visited_none c.args.visitor.now))
     c.in_err-shown.ensures.err c.begin_variant.ensures.err
 
 pub chosen-returns-in_err-rest-clause-err : goal.chosen-returns-in_err-rest-clause-err
 chosen-returns-in_err-rest-clause-err g t c =
     part_passed _ c.from_residual-in_err-rest.result c.in_err-rest.field-0.0 g.met.V.ValueVisitor.visited_append
     g.met.V.ValueVisitor.stopped_later c.from_residual-in_err-rest.ensures.1
-    (in_parts (begin_of c.args.variant.now) (end_of c.args.variant.now) _ (by_answer _ c.in_ok-shown.ensures.ok c.begin_variant.ensures.ok))
+    (in_parts (begin_of c.args.choice.now c.args.variant.now) (end_of c.args.choice.now c.args.variant.now) _ (by_answer _ c.in_ok-shown.ensures.ok c.begin_variant.ensures.ok))
     (rw (c.all_named.ensures, c.as_slice-all.ensures) at c.in_err-rest.ensures.err)
 
 pub chosen-returns-in_err-shown-2-clause-err : goal.chosen-returns-in_err-shown-2-clause-err
 chosen-returns-in_err-shown-2-clause-err g t c =
     refusal_passed _ c.from_residual-in_err-shown-2.result c.in_err-shown-2.field-0.0 c.end_variant.result g.met.V.ValueVisitor.visited_append
     g.met.V.ValueVisitor.stopped_later c.from_residual-in_err-shown-2.ensures.1
-    (at_last (begin_of c.args.variant.now) (end_of c.args.variant.now) g.met.V.ValueVisitor.visited_append
+    (at_last (begin_of c.args.choice.now c.args.variant.now) (end_of c.args.choice.now c.args.variant.now) g.met.V.ValueVisitor.visited_append
     (by_answer _ c.in_ok-shown.ensures.ok c.begin_variant.ensures.ok) (rw (c.all_named.ensures, c.as_slice-all.ensures) at c.in_ok-rest.ensures.ok))
     c.in_err-shown-2.ensures.err c.end_variant.ensures.err
 
