@@ -6,5 +6,6 @@
 #![tactic(auto)]
 
 mod closed;
+pub mod laws;
 mod offsets;
 pub mod view;
