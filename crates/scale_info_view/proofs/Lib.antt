@@ -1,0 +1,3 @@
+pub mod Viewed
+pub mod EntriesFound
+pub mod ClosedEntries

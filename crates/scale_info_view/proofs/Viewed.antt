@@ -1,0 +1,189 @@
+-- What is known of the table of a view.
+use Rattle.std.proofs.Common.{◌≡◌, ◌<◌, ◌≤◌, ◌==◌, ◌↔◌, ◌-◌, ℕ, zero, suc, List, [], ◌∷◌, ◌++◌, length, drop}
+use Rattle.std.proofs.Common.{length-append, length-drop}
+use Rattle.std.proofs.Common.{take, get_or, Some, None, Bool, IsTrue, All, refl, sym, ap, subst, ◌∙◌, arith}
+use Rattle.std.proofs.Math.Logic.{∥∥₁_elim}
+use Rattle.std.proofs.Math.Seq.{take-append_seam}
+use Rattle.std.proofs.lemmas.Slice.Zip.{AllZip-long}
+use Rattle.std.proofs.lemmas.Bool.{eqb-true}
+use Rattle.std.proofs.lemmas.List.{append-nil, nil_from_length, take_all}
+use Rattle.std.proofs.lemmas.Option.{slice_get_past, slice_get_read, slice_get-get_or}
+use Rattle.std.specs.Coded.{Coded-set, coded_bool, coded_ℕ, coded_option}
+use Rattle.std.specs.Coded.{le_prop, ×_prop, Π_prop, →_prop}
+use Rattle.std.specs.List.{AllZip, enumerate_from, slice_get}
+use Rattle.scale_info_bytes.proofs.Steps.{same_prefix}
+use Rattle.scale_info_bytes.specs.Encodings.{HasNoPrefix, HasPrefix}
+use Rattle.scale_info_grammar.specs.Ty.{EncodesPortableType}
+use Rattle.scale_info_grammar.specs.TyLaws.{portable_type_law}
+use Rattle.scale_info_tables.specs.ClosedTables.{AreBelow, HasIndicesAsIds, HasReferencesBelow}
+use Rattle.scale_info_tables.specs.ClosedTables.{IsClosed}
+use Rattle.scale_info_tables.specs.TableEncoding.{EncodesRegistry}
+use Rattle.scale_info_tables.specs.TableEncodingLaws.{registry_law}
+use Rattle.scale_info_tables.specs.contracts.portable.PortableRegistry as tables
+use Rattle.scale_info_tables.specs.declared.portable.PortableRegistry.{PortableRegistry}
+use Rattle.scale_info_types.specs.References.{references}
+use Rattle.scale_info_types.specs.contracts.ty.PortableType as entries
+use Rattle.scale_info_types.specs.declared.ty.PortableType.{PortableType}
+use Rattle.scale_info_view.specs.ViewLaws.{view_prop}
+use Rattle.scale_info_view.specs.Views.{BeginsWithTable, HasEntriesAt, IsEntryAt, IsTableView}
+
+-- the part of the bytes from an offset on is what is left without the bytes before it
+pub part_from :
+    (bytes : List ℕ) (offset : ℕ)
+    → take (length bytes - offset) (drop offset bytes) ≡ drop offset bytes
+part_from bytes offset =
+    take_all (length bytes - offset) (drop offset bytes) (omega (arith, length-drop offset bytes))
+
+-- what is read of a list at an index is its element there
+pub found_at :
+    (xs ys : List ℕ) (index x : ℕ) → ys ≡ xs → index < length ys → x ≡ get_or ys index x
+    → slice_get xs index ≡ Some x
+found_at xs ys index x same within is =
+    subst (λ list. slice_get list index ≡ Some x) same
+    (slice_get_read ys (length ys) index x refl within is)
+
+-- where an offset is found, the entry with its index begins there
+pub entry_at :
+    (bytes : List ℕ) (types : List PortableType) (offsets : List ℕ) (index offset : ℕ)
+    → AllZip (IsEntryAt bytes) types offsets → slice_get offsets index ≡ Some offset
+    → (entry : PortableType) × (slice_get types index ≡ Some entry) × IsEntryAt bytes entry offset
+entry_at bytes [] [] index offset at found = absurd cc
+entry_at bytes [] (o ∷ offsets) index offset at found = absurd at
+entry_at bytes (e ∷ types) [] index offset at found = absurd at
+entry_at bytes (e ∷ types) (o ∷ offsets) zero offset at found =
+    let same : o ≡ offset = cc in (e, refl, subst (IsEntryAt bytes e) same at.0)
+entry_at bytes (e ∷ types) (o ∷ offsets) (suc index) offset at found =
+    entry_at bytes types offsets index offset at.1 found
+
+-- each element has P in one way at most
+all_prop :
+    {X : Type 0} (P : X → Type 0) → ((x : X) → IsProp (P x)) → (xs : List X) → IsProp (All P xs)
+all_prop P unique xs = Π_prop (λ k. Π_prop (λ d. →_prop (unique (get_or xs k d))))
+
+-- a table is closed in one way at most
+closed_prop : (table : PortableRegistry) → IsProp (IsClosed table)
+closed_prop table =
+    ×_prop
+    (all_prop (λ indexed. indexed.1.id ≡ indexed.0) (λ indexed. Coded-set coded_ℕ _ _)
+    (enumerate_from 0 table.types))
+    (all_prop (λ entry. AreBelow (length table.types) (references entry.ty))
+    (λ entry. all_prop (λ symbol. symbol.id < length table.types) (λ symbol. le_prop) (references entry.ty))
+    table.types)
+
+-- the table of a view
+module _ (bytes offsets : List ℕ) (view : IsTableView bytes offsets) (table : PortableRegistry)
+    (is : view.0 ≡ table) where
+  -- its entries begin at the offsets
+  pub entries_there : ∥ HasEntriesAt bytes offsets table ∥₁
+  entries_there = subst (λ t. ∥ HasEntriesAt bytes offsets t ∥₁) is view.1
+
+  -- it has as many entries as there are offsets
+  pub view_long : length offsets ≡ length table.types
+  view_long =
+      ∥∥₁_elim entries_there (Coded-set coded_ℕ _ _)
+      (λ there. AllZip-long (IsEntryAt bytes) table.types offsets there.at_offsets)
+
+  -- past the last offset there is no entry
+  pub no_entry : (index : ℕ) → length offsets ≤ index → None ≡ slice_get table.types index
+  no_entry index past = sym (slice_get_past table.types index (omega (arith, view_long)))
+
+  -- an offset that is found is within the bytes
+  pub offset_within :
+      (index offset : ℕ) → slice_get offsets index ≡ Some offset → offset ≤ length bytes
+  offset_within index offset found =
+      ∥∥₁_elim entries_there le_prop
+      (λ there. (entry_at bytes table.types offsets index offset there.at_offsets found).2.within)
+
+  -- what is decoded at an offset is the entry with its index
+  pub entry_found :
+      (index offset : ℕ) (entry : PortableType) (rest : List ℕ)
+      → slice_get offsets index ≡ Some offset
+      → HasPrefix (EncodesPortableType entry) (drop offset bytes) rest
+      → Some entry ≡ slice_get table.types index
+  entry_found index offset entry rest found prefix =
+      ∥∥₁_elim entries_there (Coded-set (coded_option entries.the_row.coded) _ _) (λ there.
+      let at = entry_at bytes table.types offsets index offset there.at_offsets found in
+      let same =
+      (same_prefix portable_type_law entry at.0 (drop offset bytes) rest at.2.rest prefix at.2.prefix).0 in
+      ap Some same ∙ sym at.1)
+
+  -- at an offset an entry begins
+  pub entry_begins :
+      (index offset : ℕ) → slice_get offsets index ≡ Some offset
+      → HasNoPrefix EncodesPortableType (drop offset bytes) → ⊥
+  entry_begins index offset found none =
+      ∥∥₁_elim entries_there (λ x y. absurd x) (λ there.
+      let at = entry_at bytes table.types offsets index offset there.at_offsets found in
+      none.none at.0 at.2.rest at.2.prefix)
+
+  -- the bytes begin with the table
+  pub table_begins : HasNoPrefix EncodesRegistry bytes → ⊥
+  table_begins none =
+      ∥∥₁_elim entries_there (λ x y. absurd x) (λ there.
+      none.none table [] (record { encoding = bytes; encodes = there.encodes; parts = sym (append-nil bytes) }))
+
+  -- what is decoded from the bytes is the table
+  pub table_found :
+      (other : PortableRegistry) (rest : List ℕ) → HasPrefix (EncodesRegistry other) bytes rest
+      → other ≡ table
+  table_found other rest prefix =
+      ∥∥₁_elim entries_there (Coded-set tables.the_row.coded _ _) (λ there.
+      (registry_law.prefix_free other table prefix.encoding bytes rest [] prefix.encodes there.encodes
+      (sym prefix.parts ∙ sym (append-nil bytes))).1)
+
+  -- it has no entry exactly where there is no offset
+  pub view_empty :
+      (answer : Bool) → answer ≡ (length offsets == 0) → IsTrue answer ↔ (table.types ≡ [])
+  view_empty answer says = (
+    λ yes. nil_from_length table.types (sym view_long ∙ eqb-true (length offsets) 0 (sym says ∙ yes)),
+    λ none. says ∙ ap (λ n. n == 0) (view_long ∙ ap length none),
+  )
+
+  -- each offset is within the bytes
+  pub offsets_within : All (λ offset. offset ≤ length bytes) offsets
+  offsets_within k d within =
+      offset_within k (get_or offsets k d) (slice_get-get_or offsets k d within)
+
+  -- an answer that holds of whatever entries begin at the offsets holds of the table
+  pub closed_by_entries :
+      (answer : Bool)
+      → ((types : List PortableType) → AllZip (IsEntryAt bytes) types offsets
+      → (IsTrue answer ↔ (HasIndicesAsIds types × HasReferencesBelow (length types) types)))
+      → (IsTrue answer ↔ IsClosed table)
+  closed_by_entries answer says =
+      ∥∥₁_elim entries_there
+      (×_prop (→_prop (closed_prop table)) (→_prop (Coded-set coded_bool _ _)))
+      (λ there. says table.types there.at_offsets)
+
+-- the bytes before the rest are those of the table with which the input begins
+pub bytes_before :
+    (input rest bytes before : List ℕ)
+    → input ≡ before ++ rest → bytes ≡ take (length input - length rest) input → bytes ≡ before
+bytes_before input rest bytes before parts is =
+    let long : length input - length rest ≡ length before =
+    omega (arith, ap length parts, length-append before rest) in
+    is
+    ∙ ap (λ n. take n input) long
+    ∙ ap (take (length before)) parts
+    ∙ take-append_seam before rest
+
+-- the bytes before the rest, with the offsets, are a view
+abbrev pub viewed :
+    (input rest bytes offsets : List ℕ) → BeginsWithTable input rest offsets
+    → bytes ≡ take (length input - length rest) input → IsTableView bytes offsets
+viewed input rest bytes offsets begins is = (
+  begins.table,
+  ∣ subst (λ b. HasEntriesAt b offsets begins.table)
+      (sym (bytes_before input rest bytes begins.bytes begins.parts is)) begins.entries ∣₁,
+)
+
+-- the table of a view of the bytes before the rest is the one with which the input begins
+pub decoded :
+    (input rest bytes offsets : List ℕ) (view : IsTableView bytes offsets)
+    → BeginsWithTable input rest offsets → bytes ≡ take (length input - length rest) input
+    → HasPrefix (EncodesRegistry view.0) input rest
+decoded input rest bytes offsets view begins is =
+    let same : begins.table ≡ view.0 =
+    ap (λ v. v.0) (view_prop bytes offsets (viewed input rest bytes offsets begins is) view) in
+    subst (λ t. HasPrefix (EncodesRegistry t) input rest) same
+    (record { encoding = begins.bytes; encodes = begins.entries.encodes; parts = begins.parts })
