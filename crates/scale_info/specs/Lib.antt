@@ -60,6 +60,7 @@ pub use Rattle.scale_info_tables.specs.ClosedTables
 pub use Rattle.scale_info_tables.specs.BuiltTables
 pub use Rattle.scale_info_tables.specs.Pruned
 pub use Rattle.scale_info_tables.specs.IndexedEntries
+pub use Rattle.scale_info_view.specs.Views
 pub use Rattle.scale_info_tables.specs.TableExamples
 pub use Rattle.scale_info_export.specs.Exports
 pub use Rattle.scale_info_export.specs.Headline

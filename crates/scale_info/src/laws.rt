@@ -46,5 +46,6 @@ pub use scale_info_value::laws::{
     counts_as_in_tables, equal_failures, equal_value_errors, equal_values, reads_alike,
     texts_as_in_tables, unfolding_decides,
 };
+pub use scale_info_view::laws::viewed_is_decoded;
 pub use scale_info_visit::laws::events_one_by_one;
 pub use scale_info_walk::laws::{equal_numberings, equal_retain_errors};

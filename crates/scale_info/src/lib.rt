@@ -40,4 +40,5 @@ pub use scale_info_types::ty::{
 pub use scale_info_types::{form, ty};
 pub use scale_info_value::value;
 pub use scale_info_value_text::value_text;
+pub use scale_info_view::view;
 pub use scale_info_walk::walk::RetainError;
