@@ -1,3 +1,4 @@
+pub mod ViewReferences
 pub mod Viewed
 pub mod EntriesFound
 pub mod ClosedEntries

@@ -25,7 +25,7 @@ use Rattle.scale_info_types.specs.References.{references}
 use Rattle.scale_info_types.specs.contracts.ty.PortableType as entries
 use Rattle.scale_info_types.specs.declared.ty.PortableType.{PortableType}
 use Rattle.scale_info_view.specs.ViewLaws.{view_prop}
-use Rattle.scale_info_view.specs.Views.{BeginsWithTable, HasEntriesAt, IsEntryAt, IsTableView}
+use Rattle.scale_info_view.specs.Views.{BeginsWithEntry, BeginsWithTable, HasEntriesAt, IsEntryAt, IsTableView}
 
 -- the part of the bytes from an offset on is what is left without the bytes before it
 pub part_from :
@@ -84,8 +84,8 @@ module _ (bytes offsets : List ℕ) (view : IsTableView bytes offsets) (table : 
       (λ there. AllZip-long (IsEntryAt bytes) table.types offsets there.at_offsets)
 
   -- past the last offset there is no entry
-  pub no_entry : (index : ℕ) → length offsets ≤ index → None ≡ slice_get table.types index
-  no_entry index past = sym (slice_get_past table.types index (omega (arith, view_long)))
+  pub no_entry : (index : ℕ) → length offsets ≤ index → slice_get table.types index ≡ None
+  no_entry index past = slice_get_past table.types index (omega (arith, view_long))
 
   -- an offset that is found is within the bytes
   pub offset_within :
@@ -94,27 +94,26 @@ module _ (bytes offsets : List ℕ) (view : IsTableView bytes offsets) (table : 
       ∥∥₁_elim entries_there le_prop
       (λ there. (entry_at bytes table.types offsets index offset there.at_offsets found).2.within)
 
-  -- what is decoded at an offset is the entry with its index
-  pub entry_found :
-      (index offset : ℕ) (entry : PortableType) (rest : List ℕ)
-      → slice_get offsets index ≡ Some offset
-      → HasPrefix (EncodesPortableType entry) (drop offset bytes) rest
-      → Some entry ≡ slice_get table.types index
-  entry_found index offset entry rest found prefix =
-      ∥∥₁_elim entries_there (Coded-set (coded_option entries.the_row.coded) _ _) (λ there.
-      let at = entry_at bytes table.types offsets index offset there.at_offsets found in
-      let same =
-      (same_prefix portable_type_law entry at.0 (drop offset bytes) rest at.2.rest prefix at.2.prefix).0 in
-      ap Some same ∙ sym at.1)
-
-  -- at an offset an entry begins
-  pub entry_begins :
-      (index offset : ℕ) → slice_get offsets index ≡ Some offset
-      → HasNoPrefix EncodesPortableType (drop offset bytes) → ⊥
-  entry_begins index offset found none =
-      ∥∥₁_elim entries_there (λ x y. absurd x) (λ there.
-      let at = entry_at bytes table.types offsets index offset there.at_offsets found in
-      none.none at.0 at.2.rest at.2.prefix)
+  -- from an offset on, the bytes begin with the entry with its index
+  pub begins_there :
+      (index offset : ℕ) (part : List ℕ) → slice_get offsets index ≡ Some offset
+      → part ≡ take (length bytes - offset) (drop offset bytes)
+      → BeginsWithEntry table.types index part
+  begins_there index offset part found is =
+      let there = is ∙ part_from bytes offset in
+      record {
+        some = λ none. ∥∥₁_elim entries_there (λ x y. absurd x) (λ view_has.
+            let at = entry_at bytes table.types offsets index offset view_has.at_offsets found in
+            none.none at.0 at.2.rest
+            (subst (λ t. HasPrefix (EncodesPortableType at.0) t at.2.rest) (sym there) at.2.prefix));
+        same = λ entry rest prefix.
+            ∥∥₁_elim entries_there (Coded-set (coded_option entries.the_row.coded) _ _) (λ view_has.
+            let at = entry_at bytes table.types offsets index offset view_has.at_offsets found in
+            let same =
+            (same_prefix portable_type_law at.0 entry (drop offset bytes) at.2.rest rest at.2.prefix
+            (subst (λ t. HasPrefix (EncodesPortableType entry) t rest) there prefix)).0 in
+            at.1 ∙ ap Some same);
+      }
 
   -- the bytes begin with the table
   pub table_begins : HasNoPrefix EncodesRegistry bytes → ⊥

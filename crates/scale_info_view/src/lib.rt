@@ -7,5 +7,6 @@
 
 mod closed;
 pub mod laws;
+mod numbering;
 mod offsets;
 pub mod view;
