@@ -10,6 +10,7 @@ use Rattle.scale_info_types.specs.References.{references}
 use Rattle.scale_info_types.specs.Shapes.{Shape}
 use Rattle.scale_info_types.specs.declared.ty.PortableType.{PortableType}
 use Rattle.scale_info_walk.specs.TypeSystems.{entry_of, types_system}
+use Rattle.scale_info_view.proofs.Viewed.{same_entry}
 use Rattle.scale_info_view.specs.Views.{BeginsWithEntry}
 
 -- what is gathered of the entry at an index are its references
@@ -21,7 +22,7 @@ pub references_found :
 references_found types index bytes rest none ids begins is gathered =
     ap Some (gathered.appends ∙ ap (λ before. before ++ ids_of (references gathered.value.ty)) is)
     ∙ ap (option_map (λ entry. ids_in entry.ty))
-    (sym (begins.same gathered.value rest gathered.prefix))
+    (same_entry types index bytes rest gathered.value begins gathered.prefix)
 
 -- where there are references, there is an entry whose references they are
 of_entry :

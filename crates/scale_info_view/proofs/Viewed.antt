@@ -2,12 +2,13 @@
 use Rattle.std.proofs.Common.{◌≡◌, ◌<◌, ◌≤◌, ◌==◌, ◌↔◌, ◌-◌, ℕ, zero, suc, List, [], ◌∷◌, ◌++◌, length, drop}
 use Rattle.std.proofs.Common.{length-append, length-drop}
 use Rattle.std.proofs.Common.{take, get_or, Some, None, Bool, IsTrue, All, refl, sym, ap, subst, ◌∙◌, arith}
-use Rattle.std.proofs.Math.Logic.{∥∥₁_elim}
+use Rattle.std.proofs.Math.Logic.{∥∥₁_elim, ∥∥₁_map}
 use Rattle.std.proofs.Math.Seq.{take-append_seam}
 use Rattle.std.proofs.lemmas.Slice.Zip.{AllZip-long}
 use Rattle.std.proofs.lemmas.Bool.{eqb-true}
 use Rattle.std.proofs.lemmas.List.{append-nil, nil_from_length, take_all}
-use Rattle.std.proofs.lemmas.Option.{slice_get_past, slice_get_read, slice_get-get_or}
+use Rattle.std.proofs.lemmas.Option.{same_Some, slice_get_past, slice_get_read, slice_get-get_or}
+use Rattle.std.proofs.lemmas.Option.{slice_get_within}
 use Rattle.std.specs.Coded.{Coded-set, coded_bool, coded_ℕ, coded_option}
 use Rattle.std.specs.Coded.{le_prop, ×_prop, Π_prop, →_prop}
 use Rattle.std.specs.List.{AllZip, enumerate_from, slice_get}
@@ -70,6 +71,14 @@ closed_prop table =
     (λ entry. all_prop (λ symbol. symbol.id < length table.types) (λ symbol. le_prop) (references entry.ty))
     table.types)
 
+-- at an index that a list has it has an element
+element_at :
+    {X : Type 0} (xs : List X) (index : ℕ) → index < length xs
+    → (x : X) × (slice_get xs index ≡ Some x)
+element_at [] index inside = absurd (omega arith)
+element_at (x ∷ xs) zero inside = (x, refl)
+element_at (x ∷ xs) (suc index) inside = element_at xs index (omega arith)
+
 -- the table of a view
 module _ (bytes offsets : List ℕ) (view : IsTableView bytes offsets) (table : PortableRegistry)
     (is : view.0 ≡ table) where
@@ -100,19 +109,19 @@ module _ (bytes offsets : List ℕ) (view : IsTableView bytes offsets) (table : 
       → part ≡ take (length bytes - offset) (drop offset bytes)
       → BeginsWithEntry table.types index part
   begins_there index offset part found is =
-      let there = is ∙ part_from bytes offset in
+      let inside = slice_get_within offsets index offset found in
+      let here = element_at table.types index (omega (arith, view_long)) in
       record {
-        some = λ none. ∥∥₁_elim entries_there (λ x y. absurd x) (λ view_has.
-            let at = entry_at bytes table.types offsets index offset view_has.at_offsets found in
-            none.none at.0 at.2.rest
-            (subst (λ t. HasPrefix (EncodesPortableType at.0) t at.2.rest) (sym there) at.2.prefix));
-        same = λ entry rest prefix.
-            ∥∥₁_elim entries_there (Coded-set (coded_option entries.the_row.coded) _ _) (λ view_has.
-            let at = entry_at bytes table.types offsets index offset view_has.at_offsets found in
-            let same =
-            (same_prefix portable_type_law at.0 entry (drop offset bytes) at.2.rest rest at.2.prefix
-            (subst (λ t. HasPrefix (EncodesPortableType entry) t rest) there prefix)).0 in
-            at.1 ∙ ap Some same);
+        entry = here.0;
+        found = here.1;
+        begins = ∥∥₁_map entries_there (λ there.
+            let at = entry_at bytes table.types offsets index offset there.at_offsets found in
+            let same : at.0 ≡ here.0 = same_Some at.0 here.0 (sym at.1 ∙ here.1) in (
+              at.2.rest,
+              subst (λ e. HasPrefix (EncodesPortableType e) part at.2.rest) same
+                  (subst (λ t. HasPrefix (EncodesPortableType at.0) t at.2.rest)
+                  (sym (is ∙ part_from bytes offset)) at.2.prefix),
+            ));
       }
 
   -- the bytes begin with the table
@@ -186,3 +195,21 @@ decoded input rest bytes offsets view begins is =
     ap (λ v. v.0) (view_prop bytes offsets (viewed input rest bytes offsets begins is) view) in
     subst (λ t. HasPrefix (EncodesRegistry t) input rest) same
     (record { encoding = begins.bytes; encodes = begins.entries.encodes; parts = begins.parts })
+
+-- bytes that begin with an entry are not without one
+pub some_entry :
+    (types : List PortableType) (index : ℕ) (bytes : List ℕ)
+    → BeginsWithEntry types index bytes → HasNoPrefix EncodesPortableType bytes → ⊥
+some_entry types index bytes there none =
+    ∥∥₁_elim there.begins (λ x y. absurd x) (λ begins. none.none there.entry begins.0 begins.1)
+
+-- what is read of bytes that begin with the entry at an index is that entry
+pub same_entry :
+    (types : List PortableType) (index : ℕ) (bytes rest : List ℕ) (entry : PortableType)
+    → BeginsWithEntry types index bytes → HasPrefix (EncodesPortableType entry) bytes rest
+    → Some entry ≡ slice_get types index
+same_entry types index bytes rest entry there prefix =
+    ∥∥₁_elim there.begins (Coded-set (coded_option entries.the_row.coded) _ _) (λ begins.
+    let same =
+    (same_prefix portable_type_law entry there.entry bytes rest begins.0 prefix begins.1).0 in
+    ap Some same ∙ sym there.found)

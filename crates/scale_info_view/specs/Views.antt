@@ -1,7 +1,7 @@
 -- Tables that stay bytes.
 use Rattle.std.specs.Prelude.{◌≡◌, ℕ, ◌≤◌, List, ◌++◌, Some, length, drop, slice_get}
 use Rattle.std.specs.List.{AllZip}
-use Rattle.scale_info_bytes.specs.Encodings.{HasNoPrefix, HasPrefix}
+use Rattle.scale_info_bytes.specs.Encodings.{HasPrefix}
 use Rattle.scale_info_grammar.specs.Ty.{EncodesPortableType}
 use Rattle.scale_info_tables.specs.TableEncoding.{EncodesRegistry}
 use Rattle.scale_info_tables.specs.declared.portable.PortableRegistry.{PortableRegistry}
@@ -22,12 +22,11 @@ pub record HasEntriesAt (bytes offsets : List ℕ) (table : PortableRegistry) : 
 abbrev pub IsTableView : List ℕ → List ℕ → Type 0
 IsTableView bytes offsets = (table : PortableRegistry) × ∥ HasEntriesAt bytes offsets table ∥₁
 
--- the bytes begin with an entry, and it is the one at the index
+-- the bytes begin with an encoding of the entry at the index
 pub record BeginsWithEntry (types : List PortableType) (index : ℕ) (bytes : List ℕ) : Type 0 where
-  pub some : ¬ (HasNoPrefix EncodesPortableType bytes)
-  pub same :
-      (entry : PortableType) (rest : List ℕ) → HasPrefix (EncodesPortableType entry) bytes rest
-      → slice_get types index ≡ Some entry
+  pub entry : PortableType
+  pub found : slice_get types index ≡ Some entry
+  pub begins : ∥ ((rest : List ℕ) × HasPrefix (EncodesPortableType entry) bytes rest) ∥₁
 
 -- the input begins with an encoding of a table, whose entries begin at these offsets
 pub record BeginsWithTable (input rest offsets : List ℕ) : Type 0 where
