@@ -1,3 +1,4 @@
+pub mod PathsFound
 pub mod ViewReferences
 pub mod Viewed
 pub mod EntriesFound

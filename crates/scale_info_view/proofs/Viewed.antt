@@ -8,12 +8,13 @@ use Rattle.std.proofs.lemmas.Slice.Zip.{AllZip-long}
 use Rattle.std.proofs.lemmas.Bool.{eqb-true}
 use Rattle.std.proofs.lemmas.List.{append-nil, nil_from_length, take_all}
 use Rattle.std.proofs.lemmas.Option.{same_Some, slice_get_past, slice_get_read, slice_get-get_or}
-use Rattle.std.proofs.lemmas.Option.{slice_get_within}
+use Rattle.std.proofs.lemmas.Option.{none-some, slice_get_within}
 use Rattle.std.specs.Coded.{Coded-set, coded_bool, coded_ℕ, coded_option}
 use Rattle.std.specs.Coded.{le_prop, ×_prop, Π_prop, →_prop}
 use Rattle.std.specs.List.{AllZip, enumerate_from, slice_get}
 use Rattle.scale_info_bytes.proofs.Steps.{same_prefix}
 use Rattle.scale_info_bytes.specs.Encodings.{HasNoPrefix, HasPrefix}
+use Rattle.scale_info_bytes.specs.Integers.{EncodesCompact, in_one, in_two, in_four, in_five}
 use Rattle.scale_info_grammar.specs.Ty.{EncodesPortableType}
 use Rattle.scale_info_grammar.specs.TyLaws.{portable_type_law}
 use Rattle.scale_info_tables.specs.ClosedTables.{AreBelow, HasIndicesAsIds, HasReferencesBelow}
@@ -79,6 +80,13 @@ element_at [] index inside = absurd (omega arith)
 element_at (x ∷ xs) zero inside = (x, refl)
 element_at (x ∷ xs) (suc index) inside = element_at xs index (omega arith)
 
+-- what is counted is below 2 ^ 32
+compact_fits : (n : ℕ) (b : List ℕ) → EncodesCompact n b → n < 4294967296
+compact_fits n b (in_one below is) = omega arith
+compact_fits n b (in_two above below is) = omega arith
+compact_fits n b (in_four above below is) = omega arith
+compact_fits n b (in_five above below is) = below
+
 -- the table of a view
 module _ (bytes offsets : List ℕ) (view : IsTableView bytes offsets) (table : PortableRegistry)
     (is : view.0 ≡ table) where
@@ -91,6 +99,14 @@ module _ (bytes offsets : List ℕ) (view : IsTableView bytes offsets) (table : 
   view_long =
       ∥∥₁_elim entries_there (Coded-set coded_ℕ _ _)
       (λ there. AllZip-long (IsEntryAt bytes) table.types offsets there.at_offsets)
+
+  -- indices are numbers of 32 bits
+  pub view_few : length offsets < 4294967296
+  view_few =
+      ∥∥₁_elim entries_there le_prop (λ there.
+      let fits =
+      compact_fits (length table.types) there.encodes.first there.encodes.encodes_first in
+      omega (arith, fits, view_long))
 
   -- past the last offset there is no entry
   pub no_entry : (index : ℕ) → length offsets ≤ index → slice_get table.types index ≡ None
@@ -213,3 +229,9 @@ same_entry types index bytes rest entry there prefix =
     let same =
     (same_prefix portable_type_law entry there.entry bytes rest begins.0 prefix begins.1).0 in
     ap Some same ∙ sym there.found)
+
+-- at an index that a list has it is not without an element
+pub not_past :
+    {X : Type 0} (xs : List X) (index : ℕ) → index < length xs → slice_get xs index ≡ None → ⊥
+not_past xs index inside none =
+    let there = element_at xs index inside in none-some there.0 (sym none ∙ there.1)

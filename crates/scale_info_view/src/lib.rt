@@ -9,4 +9,5 @@ mod closed;
 pub mod laws;
 mod numbering;
 mod offsets;
+mod path;
 pub mod view;

@@ -3,13 +3,16 @@ ghost use Rattle.std.specs.Prelude.{◌≡◌, ◌↔◌, [], IfErr, IfNone, IfO
 ghost use Rattle.std.specs.Prelude.{None, ℕ, length, option_map, slice_get};
 ghost use Rattle.scale_info_bytes.specs.Encodings.{HasNoPrefix, HasPrefix, IfMalformed};
 ghost use Rattle.scale_info_references.specs.Conversions.{ids_in};
+ghost use Rattle.scale_info_segments.specs.TypePaths.{texts};
 ghost use Rattle.scale_info_tables.specs.ClosedTables.{IsClosed};
 ghost use Rattle.scale_info_tables.specs.TableEncoding.{EncodesRegistry};
 ghost use Rattle.scale_info_view.specs.ViewLaws.{view_prop};
-ghost use Rattle.scale_info_view.specs.Views.{BeginsWithEntry, IsTableView};
+ghost use Rattle.scale_info_view.specs.Views.{BeginsWithEntry, HasPathAtNone, IsFirstWithPath};
+ghost use Rattle.scale_info_view.specs.Views.{IsTableView};
 
 use crate::closed::are_closed_entries;
 use crate::offsets::find_entries;
+use crate::path::has_path;
 use scale_info_codec::{DecodeError, Scale};
 use scale_info_passes::visitors::gather;
 use scale_info_tables::portable::PortableRegistry;
@@ -141,6 +144,29 @@ impl<'i> TableView<'i> {
             Some((ids, _)) => Ok(Some(ids)),
             None => unreachable!(),
         }
+    }
+
+    /// The index of the first entry whose path has these segments; None, if no entry has. No
+    /// description is made, and nothing is allocated.
+    ///
+    /// ```text
+    /// view.find_by_path(&["sp_core", "crypto", "AccountId32"])  // Some(0) in many a chain's table
+    /// ```
+    pub fn find_by_path(&self, path: &[&str]) -> Option<u32>
+        ensures some { IfSome result
+            (λ index. IsFirstWithPath self.now.types (texts path.now) index) }
+        ensures none { IfNone result
+            (HasPathAtNone (length self.now.types) self.now.types (texts path.now)) }
+    {
+        for index in 0..self.offsets.len() {
+            let Some(bytes) = self.bytes_from(index) else {
+                unreachable!()
+            };
+            if has_path(bytes, path) {
+                return Some(index as u32);
+            }
+        }
+        None
     }
 
     /// Whether the table is whole: the `id` of each entry is its index, and each reference of each
