@@ -1,3 +1,5 @@
+pub mod PathsFound
+pub mod ViewReferences
 pub mod Viewed
 pub mod EntriesFound
 pub mod ClosedEntries

@@ -2,17 +2,19 @@
 use Rattle.std.proofs.Common.{◌≡◌, ◌<◌, ◌≤◌, ◌==◌, ◌↔◌, ◌-◌, ℕ, zero, suc, List, [], ◌∷◌, ◌++◌, length, drop}
 use Rattle.std.proofs.Common.{length-append, length-drop}
 use Rattle.std.proofs.Common.{take, get_or, Some, None, Bool, IsTrue, All, refl, sym, ap, subst, ◌∙◌, arith}
-use Rattle.std.proofs.Math.Logic.{∥∥₁_elim}
+use Rattle.std.proofs.Math.Logic.{∥∥₁_elim, ∥∥₁_map}
 use Rattle.std.proofs.Math.Seq.{take-append_seam}
 use Rattle.std.proofs.lemmas.Slice.Zip.{AllZip-long}
 use Rattle.std.proofs.lemmas.Bool.{eqb-true}
 use Rattle.std.proofs.lemmas.List.{append-nil, nil_from_length, take_all}
-use Rattle.std.proofs.lemmas.Option.{slice_get_past, slice_get_read, slice_get-get_or}
+use Rattle.std.proofs.lemmas.Option.{same_Some, slice_get_past, slice_get_read, slice_get-get_or}
+use Rattle.std.proofs.lemmas.Option.{none-some, slice_get_within}
 use Rattle.std.specs.Coded.{Coded-set, coded_bool, coded_ℕ, coded_option}
 use Rattle.std.specs.Coded.{le_prop, ×_prop, Π_prop, →_prop}
 use Rattle.std.specs.List.{AllZip, enumerate_from, slice_get}
 use Rattle.scale_info_bytes.proofs.Steps.{same_prefix}
 use Rattle.scale_info_bytes.specs.Encodings.{HasNoPrefix, HasPrefix}
+use Rattle.scale_info_bytes.specs.Integers.{EncodesCompact, in_one, in_two, in_four, in_five}
 use Rattle.scale_info_grammar.specs.Ty.{EncodesPortableType}
 use Rattle.scale_info_grammar.specs.TyLaws.{portable_type_law}
 use Rattle.scale_info_tables.specs.ClosedTables.{AreBelow, HasIndicesAsIds, HasReferencesBelow}
@@ -25,7 +27,7 @@ use Rattle.scale_info_types.specs.References.{references}
 use Rattle.scale_info_types.specs.contracts.ty.PortableType as entries
 use Rattle.scale_info_types.specs.declared.ty.PortableType.{PortableType}
 use Rattle.scale_info_view.specs.ViewLaws.{view_prop}
-use Rattle.scale_info_view.specs.Views.{BeginsWithTable, HasEntriesAt, IsEntryAt, IsTableView}
+use Rattle.scale_info_view.specs.Views.{BeginsWithEntry, BeginsWithTable, HasEntriesAt, IsEntryAt, IsTableView}
 
 -- the part of the bytes from an offset on is what is left without the bytes before it
 pub part_from :
@@ -70,6 +72,21 @@ closed_prop table =
     (λ entry. all_prop (λ symbol. symbol.id < length table.types) (λ symbol. le_prop) (references entry.ty))
     table.types)
 
+-- at an index that a list has it has an element
+element_at :
+    {X : Type 0} (xs : List X) (index : ℕ) → index < length xs
+    → (x : X) × (slice_get xs index ≡ Some x)
+element_at [] index inside = absurd (omega arith)
+element_at (x ∷ xs) zero inside = (x, refl)
+element_at (x ∷ xs) (suc index) inside = element_at xs index (omega arith)
+
+-- what is counted is below 2 ^ 32
+compact_fits : (n : ℕ) (b : List ℕ) → EncodesCompact n b → n < 4294967296
+compact_fits n b (in_one below is) = omega arith
+compact_fits n b (in_two above below is) = omega arith
+compact_fits n b (in_four above below is) = omega arith
+compact_fits n b (in_five above below is) = below
+
 -- the table of a view
 module _ (bytes offsets : List ℕ) (view : IsTableView bytes offsets) (table : PortableRegistry)
     (is : view.0 ≡ table) where
@@ -83,9 +100,17 @@ module _ (bytes offsets : List ℕ) (view : IsTableView bytes offsets) (table : 
       ∥∥₁_elim entries_there (Coded-set coded_ℕ _ _)
       (λ there. AllZip-long (IsEntryAt bytes) table.types offsets there.at_offsets)
 
+  -- indices are numbers of 32 bits
+  pub view_few : length offsets < 4294967296
+  view_few =
+      ∥∥₁_elim entries_there le_prop (λ there.
+      let fits =
+      compact_fits (length table.types) there.encodes.first there.encodes.encodes_first in
+      omega (arith, fits, view_long))
+
   -- past the last offset there is no entry
-  pub no_entry : (index : ℕ) → length offsets ≤ index → None ≡ slice_get table.types index
-  no_entry index past = sym (slice_get_past table.types index (omega (arith, view_long)))
+  pub no_entry : (index : ℕ) → length offsets ≤ index → slice_get table.types index ≡ None
+  no_entry index past = slice_get_past table.types index (omega (arith, view_long))
 
   -- an offset that is found is within the bytes
   pub offset_within :
@@ -94,27 +119,26 @@ module _ (bytes offsets : List ℕ) (view : IsTableView bytes offsets) (table : 
       ∥∥₁_elim entries_there le_prop
       (λ there. (entry_at bytes table.types offsets index offset there.at_offsets found).2.within)
 
-  -- what is decoded at an offset is the entry with its index
-  pub entry_found :
-      (index offset : ℕ) (entry : PortableType) (rest : List ℕ)
-      → slice_get offsets index ≡ Some offset
-      → HasPrefix (EncodesPortableType entry) (drop offset bytes) rest
-      → Some entry ≡ slice_get table.types index
-  entry_found index offset entry rest found prefix =
-      ∥∥₁_elim entries_there (Coded-set (coded_option entries.the_row.coded) _ _) (λ there.
-      let at = entry_at bytes table.types offsets index offset there.at_offsets found in
-      let same =
-      (same_prefix portable_type_law entry at.0 (drop offset bytes) rest at.2.rest prefix at.2.prefix).0 in
-      ap Some same ∙ sym at.1)
-
-  -- at an offset an entry begins
-  pub entry_begins :
-      (index offset : ℕ) → slice_get offsets index ≡ Some offset
-      → HasNoPrefix EncodesPortableType (drop offset bytes) → ⊥
-  entry_begins index offset found none =
-      ∥∥₁_elim entries_there (λ x y. absurd x) (λ there.
-      let at = entry_at bytes table.types offsets index offset there.at_offsets found in
-      none.none at.0 at.2.rest at.2.prefix)
+  -- from an offset on, the bytes begin with the entry with its index
+  pub begins_there :
+      (index offset : ℕ) (part : List ℕ) → slice_get offsets index ≡ Some offset
+      → part ≡ take (length bytes - offset) (drop offset bytes)
+      → BeginsWithEntry table.types index part
+  begins_there index offset part found is =
+      let inside = slice_get_within offsets index offset found in
+      let here = element_at table.types index (omega (arith, view_long)) in
+      record {
+        entry = here.0;
+        found = here.1;
+        begins = ∥∥₁_map entries_there (λ there.
+            let at = entry_at bytes table.types offsets index offset there.at_offsets found in
+            let same : at.0 ≡ here.0 = same_Some at.0 here.0 (sym at.1 ∙ here.1) in (
+              at.2.rest,
+              subst (λ e. HasPrefix (EncodesPortableType e) part at.2.rest) same
+                  (subst (λ t. HasPrefix (EncodesPortableType at.0) t at.2.rest)
+                  (sym (is ∙ part_from bytes offset)) at.2.prefix),
+            ));
+      }
 
   -- the bytes begin with the table
   pub table_begins : HasNoPrefix EncodesRegistry bytes → ⊥
@@ -187,3 +211,27 @@ decoded input rest bytes offsets view begins is =
     ap (λ v. v.0) (view_prop bytes offsets (viewed input rest bytes offsets begins is) view) in
     subst (λ t. HasPrefix (EncodesRegistry t) input rest) same
     (record { encoding = begins.bytes; encodes = begins.entries.encodes; parts = begins.parts })
+
+-- bytes that begin with an entry are not without one
+pub some_entry :
+    (types : List PortableType) (index : ℕ) (bytes : List ℕ)
+    → BeginsWithEntry types index bytes → HasNoPrefix EncodesPortableType bytes → ⊥
+some_entry types index bytes there none =
+    ∥∥₁_elim there.begins (λ x y. absurd x) (λ begins. none.none there.entry begins.0 begins.1)
+
+-- what is read of bytes that begin with the entry at an index is that entry
+pub same_entry :
+    (types : List PortableType) (index : ℕ) (bytes rest : List ℕ) (entry : PortableType)
+    → BeginsWithEntry types index bytes → HasPrefix (EncodesPortableType entry) bytes rest
+    → Some entry ≡ slice_get types index
+same_entry types index bytes rest entry there prefix =
+    ∥∥₁_elim there.begins (Coded-set (coded_option entries.the_row.coded) _ _) (λ begins.
+    let same =
+    (same_prefix portable_type_law entry there.entry bytes rest begins.0 prefix begins.1).0 in
+    ap Some same ∙ sym there.found)
+
+-- at an index that a list has it is not without an element
+pub not_past :
+    {X : Type 0} (xs : List X) (index : ℕ) → index < length xs → slice_get xs index ≡ None → ⊥
+not_past xs index inside none =
+    let there = element_at xs index inside in none-some there.0 (sym none ∙ there.1)

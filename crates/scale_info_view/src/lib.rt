@@ -7,5 +7,7 @@
 
 mod closed;
 pub mod laws;
+mod numbering;
 mod offsets;
+mod path;
 pub mod view;

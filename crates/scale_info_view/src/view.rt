@@ -1,15 +1,20 @@
 //! Views of tables.
-ghost use Rattle.std.specs.Prelude.{◌≡◌, ◌↔◌, [], IfOk, IfErr, IsTrue, List, ℕ, length};
-ghost use Rattle.std.specs.Prelude.{option_map, slice_get};
+ghost use Rattle.std.specs.Prelude.{◌≡◌, ◌↔◌, [], IfErr, IfNone, IfOk, IfSome, IsTrue, List};
+ghost use Rattle.std.specs.Prelude.{None, ℕ, length, option_map, slice_get};
 ghost use Rattle.scale_info_bytes.specs.Encodings.{HasNoPrefix, HasPrefix, IfMalformed};
+ghost use Rattle.scale_info_references.specs.Conversions.{ids_in};
+ghost use Rattle.scale_info_segments.specs.TypePaths.{texts};
 ghost use Rattle.scale_info_tables.specs.ClosedTables.{IsClosed};
 ghost use Rattle.scale_info_tables.specs.TableEncoding.{EncodesRegistry};
 ghost use Rattle.scale_info_view.specs.ViewLaws.{view_prop};
+ghost use Rattle.scale_info_view.specs.Views.{BeginsWithEntry, HasPathAtNone, IsFirstWithPath};
 ghost use Rattle.scale_info_view.specs.Views.{IsTableView};
 
 use crate::closed::are_closed_entries;
 use crate::offsets::find_entries;
+use crate::path::has_path;
 use scale_info_codec::{DecodeError, Scale};
+use scale_info_passes::visitors::gather;
 use scale_info_tables::portable::PortableRegistry;
 use scale_info_types::form::PortableForm;
 use scale_info_types::ty::{PortableType, Type};
@@ -100,10 +105,10 @@ impl<'i> TableView<'i> {
     pub fn entry(&self, alloc: Global, index: usize) -> Result<Option<PortableType>, AllocError>
         ensures { IfOk result (λ found. found ≡ slice_get self.now.types index) }
     {
-        let Some(offset) = self.offsets.get(index) else {
+        let Some(bytes) = self.bytes_from(index) else {
             return Ok(None);
         };
-        match PortableType::decode_from(alloc, &self.bytes[*offset..]) {
+        match PortableType::decode_from(alloc, bytes) {
             Ok((entry, _)) => Ok(Some(entry)),
             Err(DecodeError::Memory) => Err(AllocError),
             Err(DecodeError::Malformed) => unreachable!(),
@@ -122,6 +127,46 @@ impl<'i> TableView<'i> {
             ≡ option_map (λ entry. entry.ty) (slice_get self.now.types id)) }
     {
         Ok(self.entry(alloc, id as usize)?.map(|entry| entry.ty))
+    }
+
+    /// The ids to which the entry at index `id` refers, in order, as often as it does; None past
+    /// the end. No description is made.
+    ///
+    /// Errors: `AllocError`, where an allocation for the list failed.
+    pub fn references(&self, alloc: Global, id: u32) -> Result<Option<Vec<u32>>, AllocError>
+        ensures { IfOk result (λ found. option_map (λ ids. ids.items) found
+            ≡ option_map (λ entry. ids_in entry.ty) (slice_get self.now.types id)) }
+    {
+        let Some(bytes) = self.bytes_from(id as usize) else {
+            return Ok(None);
+        };
+        match gather::<PortableType>(bytes, Vec::new(alloc))? {
+            Some((ids, _)) => Ok(Some(ids)),
+            None => unreachable!(),
+        }
+    }
+
+    /// The index of the first entry whose path has these segments; None, if no entry has. No
+    /// description is made, and nothing is allocated.
+    ///
+    /// ```text
+    /// view.find_by_path(&["sp_core", "crypto", "AccountId32"])  // Some(0) in many a chain's table
+    /// ```
+    pub fn find_by_path(&self, path: &[&str]) -> Option<u32>
+        ensures some { IfSome result
+            (λ index. IsFirstWithPath self.now.types (texts path.now) index) }
+        ensures none { IfNone result
+            (HasPathAtNone (length self.now.types) self.now.types (texts path.now)) }
+    {
+        for index in 0..self.offsets.len() {
+            let Some(bytes) = self.bytes_from(index) else {
+                unreachable!()
+            };
+            if has_path(bytes, path) {
+                return Some(index as u32);
+            }
+        }
+        None
     }
 
     /// Whether the table is whole: the `id` of each entry is its index, and each reference of each
@@ -146,5 +191,16 @@ impl<'i> TableView<'i> {
             Err(DecodeError::Memory) => Err(AllocError),
             Err(DecodeError::Malformed) => unreachable!(),
         }
+    }
+
+    /// The bytes from the entry at this index on; None past the end.
+    fn bytes_from(&self, index: usize) -> Option<&'i [u8]>
+        ensures some { IfSome result (λ bytes. BeginsWithEntry self.now.types index bytes.now) }
+        ensures none { IfNone result (slice_get self.now.types index ≡ None) }
+    {
+        let Some(offset) = self.offsets.get(index) else {
+            return None;
+        };
+        Some(&self.bytes[*offset..])
     }
 }
