@@ -1,0 +1,5 @@
+pub mod Stops
+pub mod Converted
+pub mod Trees
+pub mod Leaves
+pub mod Lists

@@ -1,0 +1,11 @@
+//! Tables read straight from JSON text, with no tree of the text being made.
+#![tactic(auto)]
+
+mod integer;
+mod json_text;
+mod list;
+mod number;
+mod option;
+mod pass;
+mod stop;
+mod text;
