@@ -3,3 +3,4 @@ pub mod Converted
 pub mod Trees
 pub mod Leaves
 pub mod Lists
+pub mod Members

@@ -404,3 +404,9 @@ members_done depth all now r l over = record {
   begins = l.same ∙ members_over (value depth) l.found l.turns now r l.enough over;
   is = l.is;
 }
+
+-- what is said of members that are read may be weakened
+pub done_weaker :
+    {P Q : Members → Type 0} (depth : ℕ) (ts r : List Token) → ((ms : Members) → P ms → Q ms)
+    → ReadsMembers P depth ts r → ReadsMembers Q depth ts r
+done_weaker depth ts r f h = record { found = h.found; begins = h.begins; is = f h.found h.is }

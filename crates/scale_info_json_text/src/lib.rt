@@ -4,7 +4,9 @@
 mod integer;
 mod json_text;
 mod list;
+mod member;
 mod number;
+mod object;
 mod option;
 mod pass;
 mod stop;

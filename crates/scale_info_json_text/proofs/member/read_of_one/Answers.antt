@@ -1,0 +1,19 @@
+use Rattle.std.proofs.Common.{◌≡◌, sym, arith}
+use Rattle.std.proofs.lemmas.Result.{on_ok_weaker}
+use Rattle.scale_info_json_text.proofs.Trees.{reads_weaker}
+use Rattle.scale_info_json_text.proofs.Members.{put_here, put_elsewhere}
+use Rattle.scale_info_json_text.proofs.member.read_of_one.Goals as goal
+
+pub returns-then-eq-clause-ok : goal.returns-then-eq-clause-ok
+returns-then-eq-clause-ok g c =
+    let same : c.args.key.now ≡ c.args.wanted.now = grind arith in
+    on_ok_weaker c.read_under.result
+    (λ h. reads_weaker (λ tree p ms old. put_here g.A.JsonText.meant c.args.wanted.now c.args.key.now tree ms c.read_under.new.found same p) h)
+    c.read_under.ensures.ok
+
+pub returns-else-eq-clause-ok : goal.returns-else-eq-clause-ok
+returns-else-eq-clause-ok g c =
+    let other : c.args.wanted.now ≡ c.args.key.now → ⊥ = λ e. grind (arith, e) in
+    on_ok_weaker c.pass_value.result
+    (λ h. reads_weaker (λ tree p ms old. put_elsewhere g.A.JsonText.meant c.args.wanted.now c.args.key.now tree ms c.args.found.now other old) h)
+    c.pass_value.ensures.ok
