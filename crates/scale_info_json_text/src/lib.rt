@@ -1,6 +1,7 @@
 //! Tables read straight from JSON text, with no tree of the text being made.
 #![tactic(auto)]
 
+mod field;
 mod integer;
 mod json_text;
 mod list;

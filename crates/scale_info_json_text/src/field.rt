@@ -1,0 +1,106 @@
+//! Fields, parameters and variants of a text.
+ghost use Rattle.std.specs.Prelude.{◌^◌, codes};
+ghost use Rattle.scale_info_json_trees.specs.Meaning.{MeansList, MeansNumber, MeansOrNull, MeansText};
+ghost use Rattle.scale_info_json_trees.specs.PartTrees.{MeansField, MeansId, MeansParameter};
+ghost use Rattle.scale_info_json_trees.specs.PartTrees.{MeansVariant};
+ghost use Rattle.scale_info_json_text.specs.Fields.{HoldsField};
+ghost use Rattle.scale_info_json_text.specs.Members.{HoldsTwo};
+
+use crate::member::{list_or_empty, read_of_two, read_under, required, value_or_none, Member};
+use crate::object::ObjectText;
+use crate::pass::pass_value;
+use crate::stop::Stop;
+use json::Reader;
+use scale_info_collections::items::Items;
+use scale_info_collections::text::Text;
+use scale_info_identities::symbol::UntrackedSymbol;
+use scale_info_identities::type_id::TypeId;
+use scale_info_types::form::PortableForm;
+use scale_info_types::ty::fields::Field;
+use scale_info_types::ty::TypeParameter;
+use std::alloc::Global;
+
+impl ObjectText for TypeParameter<PortableForm> {
+    type Found = (Member<Text>, Member<Option<UntrackedSymbol<TypeId>>>);
+
+    ghost meant = { MeansParameter };
+
+    ghost holds = { HoldsTwo (codes "name") (codes "type") MeansText (MeansOrNull MeansId) };
+
+    fn nothing() -> (Member<Text>, Member<Option<UntrackedSymbol<TypeId>>>) {
+        (Member::Missing, Member::Missing)
+    }
+
+    fn read_member(
+        found: &mut (Member<Text>, Member<Option<UntrackedSymbol<TypeId>>>),
+        alloc: Global,
+        key: &str,
+        reader: &mut Reader<'_>,
+        depth: usize,
+    ) -> Result<(), Stop> {
+        read_of_two(found, "name", "type", alloc, key, reader, depth)
+    }
+
+    fn finish(
+        found: (Member<Text>, Member<Option<UntrackedSymbol<TypeId>>>),
+        _alloc: Global,
+    ) -> Option<TypeParameter<PortableForm>> {
+        let name = required(found.0)?;
+        let ty = value_or_none(found.1)?;
+        Some(TypeParameter { name, ty })
+    }
+
+    ghost only_objects = { λ tree v m. m.object };
+}
+
+/// What was read of a field.
+#[derive(Drop)]
+pub struct FoundField {
+    docs: Member<Items<Text>>,
+    name: Member<Option<Text>>,
+    ty: Member<UntrackedSymbol<TypeId>>,
+    type_name: Member<Option<Text>>,
+}
+
+impl ObjectText for Field<PortableForm> {
+    type Found = FoundField;
+
+    ghost meant = { MeansField };
+
+    ghost holds = { HoldsField };
+
+    fn nothing() -> FoundField {
+        FoundField {
+            docs: Member::Missing,
+            name: Member::Missing,
+            ty: Member::Missing,
+            type_name: Member::Missing,
+        }
+    }
+
+    fn read_member(
+        found: &mut FoundField,
+        alloc: Global,
+        key: &str,
+        reader: &mut Reader<'_>,
+        depth: usize,
+    ) -> Result<(), Stop> {
+        match key {
+            "docs" => read_under(&mut found.docs, alloc, reader, depth),
+            "name" => read_under(&mut found.name, alloc, reader, depth),
+            "type" => read_under(&mut found.ty, alloc, reader, depth),
+            "typeName" => read_under(&mut found.type_name, alloc, reader, depth),
+            _ => pass_value(reader, depth),
+        }
+    }
+
+    fn finish(found: FoundField, alloc: Global) -> Option<Field<PortableForm>> {
+        let docs = list_or_empty(alloc, found.docs)?;
+        let name = value_or_none(found.name)?;
+        let ty = required(found.ty)?;
+        let type_name = value_or_none(found.type_name)?;
+        Some(Field { name, ty, type_name, docs })
+    }
+
+    ghost only_objects = { λ tree v m. m.object };
+}
