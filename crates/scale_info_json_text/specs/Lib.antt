@@ -1,3 +1,4 @@
 pub mod Readings
 pub mod Members
 pub mod Fields
+pub mod Definitions

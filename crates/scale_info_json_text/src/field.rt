@@ -6,11 +6,12 @@ ghost use Rattle.scale_info_json_trees.specs.PartTrees.{MeansVariant};
 ghost use Rattle.scale_info_json_text.specs.Fields.{HoldsField};
 ghost use Rattle.scale_info_json_text.specs.Members.{HoldsTwo};
 
+use crate::json_text::JsonText;
 use crate::member::{list_or_empty, read_of_two, read_under, required, value_or_none, Member};
-use crate::object::ObjectText;
+use crate::object::{read_object, Found};
 use crate::pass::pass_value;
 use crate::stop::Stop;
-use json::Reader;
+use json::{Reader, Token};
 use scale_info_collections::items::Items;
 use scale_info_collections::text::Text;
 use scale_info_identities::symbol::UntrackedSymbol;
@@ -20,9 +21,7 @@ use scale_info_types::ty::fields::Field;
 use scale_info_types::ty::TypeParameter;
 use std::alloc::Global;
 
-impl ObjectText for TypeParameter<PortableForm> {
-    type Found = (Member<Text>, Member<Option<UntrackedSymbol<TypeId>>>);
-
+impl Found<TypeParameter<PortableForm>> for (Member<Text>, Member<Option<UntrackedSymbol<TypeId>>>) {
     ghost meant = { MeansParameter };
 
     ghost holds = { HoldsTwo (codes "name") (codes "type") MeansText (MeansOrNull MeansId) };
@@ -32,25 +31,35 @@ impl ObjectText for TypeParameter<PortableForm> {
     }
 
     fn read_member(
-        found: &mut (Member<Text>, Member<Option<UntrackedSymbol<TypeId>>>),
+        &mut self,
         alloc: Global,
         key: &str,
         reader: &mut Reader<'_>,
         depth: usize,
     ) -> Result<(), Stop> {
-        read_of_two(found, "name", "type", alloc, key, reader, depth)
+        read_of_two(self, "name", "type", alloc, key, reader, depth)
     }
 
-    fn finish(
-        found: (Member<Text>, Member<Option<UntrackedSymbol<TypeId>>>),
-        _alloc: Global,
-    ) -> Option<TypeParameter<PortableForm>> {
-        let name = required(found.0)?;
-        let ty = value_or_none(found.1)?;
+    fn finish(self, _alloc: Global) -> Option<TypeParameter<PortableForm>> {
+        let name = required(self.0)?;
+        let ty = value_or_none(self.1)?;
         Some(TypeParameter { name, ty })
     }
 
     ghost only_objects = { λ tree v m. m.object };
+}
+
+impl JsonText for TypeParameter<PortableForm> {
+    ghost meant = { MeansParameter };
+
+    fn from_token(
+        alloc: Global,
+        token: Token<'_>,
+        reader: &mut Reader<'_>,
+        depth: usize,
+    ) -> Result<Option<TypeParameter<PortableForm>>, Stop> {
+        read_object::<(Member<Text>, Member<Option<UntrackedSymbol<TypeId>>>), TypeParameter<PortableForm>>(alloc, token, reader, depth)
+    }
 }
 
 /// What was read of a field.
@@ -62,9 +71,7 @@ pub struct FoundField {
     type_name: Member<Option<Text>>,
 }
 
-impl ObjectText for Field<PortableForm> {
-    type Found = FoundField;
-
+impl Found<Field<PortableForm>> for FoundField {
     ghost meant = { MeansField };
 
     ghost holds = { HoldsField };
@@ -79,28 +86,41 @@ impl ObjectText for Field<PortableForm> {
     }
 
     fn read_member(
-        found: &mut FoundField,
+        &mut self,
         alloc: Global,
         key: &str,
         reader: &mut Reader<'_>,
         depth: usize,
     ) -> Result<(), Stop> {
         match key {
-            "docs" => read_under(&mut found.docs, alloc, reader, depth),
-            "name" => read_under(&mut found.name, alloc, reader, depth),
-            "type" => read_under(&mut found.ty, alloc, reader, depth),
-            "typeName" => read_under(&mut found.type_name, alloc, reader, depth),
+            "docs" => read_under(&mut self.docs, alloc, reader, depth),
+            "name" => read_under(&mut self.name, alloc, reader, depth),
+            "type" => read_under(&mut self.ty, alloc, reader, depth),
+            "typeName" => read_under(&mut self.type_name, alloc, reader, depth),
             _ => pass_value(reader, depth),
         }
     }
 
-    fn finish(found: FoundField, alloc: Global) -> Option<Field<PortableForm>> {
-        let docs = list_or_empty(alloc, found.docs)?;
-        let name = value_or_none(found.name)?;
-        let ty = required(found.ty)?;
-        let type_name = value_or_none(found.type_name)?;
+    fn finish(self, alloc: Global) -> Option<Field<PortableForm>> {
+        let docs = list_or_empty(alloc, self.docs)?;
+        let name = value_or_none(self.name)?;
+        let ty = required(self.ty)?;
+        let type_name = value_or_none(self.type_name)?;
         Some(Field { name, ty, type_name, docs })
     }
 
     ghost only_objects = { λ tree v m. m.object };
+}
+
+impl JsonText for Field<PortableForm> {
+    ghost meant = { MeansField };
+
+    fn from_token(
+        alloc: Global,
+        token: Token<'_>,
+        reader: &mut Reader<'_>,
+        depth: usize,
+    ) -> Result<Option<Field<PortableForm>>, Stop> {
+        read_object::<FoundField, Field<PortableForm>>(alloc, token, reader, depth)
+    }
 }

@@ -7,7 +7,7 @@ use Rattle.scale_info_json_text.proofs.Stops.{syntax_weaker}
 use Rattle.scale_info_json_text.proofs.Trees.{no_depth, no_object}
 use Rattle.scale_info_json_text.proofs.Leaves.{not_object}
 use Rattle.scale_info_json_text.proofs.Members.{members_read, none_meant}
-use Rattle.scale_info_json_text.proofs.object.AnyJsonText.from_token.Goals as goal
+use Rattle.scale_info_json_text.proofs.object.read_object.Goals as goal
 
 pub returns-then-depth-eq0-clause-syntax : goal.returns-then-depth-eq0-clause-syntax
 returns-then-depth-eq0-clause-syntax g c =
@@ -15,7 +15,7 @@ returns-then-depth-eq0-clause-syntax g c =
 
 pub returns-in-BeginObject-clause-ok : goal.returns-in-BeginObject-clause-ok
 returns-in-BeginObject-clause-ok g c =
-    IfOk-weaker c.read_members.result _ _ (λ v m. members_read g.T.ObjectText.meant c.args.depth c.args.token c.args.reader.now c.read_members.new.reader v c.in-BeginObject.is (omega arith) m) c.read_members.ensures.ok
+    IfOk-weaker c.read_members.result _ _ (λ v m. members_read g.F.Found.meant c.args.depth c.args.token c.args.reader.now c.read_members.new.reader v c.in-BeginObject.is (omega arith) m) c.read_members.ensures.ok
 
 pub returns-in-BeginObject-clause-syntax : goal.returns-in-BeginObject-clause-syntax
 returns-in-BeginObject-clause-syntax g c =
@@ -25,5 +25,5 @@ returns-in-BeginObject-clause-syntax g c =
 
 pub returns-clause-ok : goal.returns-clause-ok
 returns-clause-ok g c =
-    none_meant g.T.ObjectText.meant c.args.depth _ _ g.met.T.ObjectText.only_objects
+    none_meant g.F.Found.meant c.args.depth _ _ g.met.F.Found.only_objects
     (not_object c.args.depth c.args.token c.args.reader.now c.pass_rest.new.reader c.in_default.not-BeginObject c.in_ok-pass_rest.ensures.ok)

@@ -1,0 +1,159 @@
+//! Definitions of a text: an object with one key, which names the kind.
+ghost use Rattle.std.specs.Prelude.{◌≡◌, IfOk, IfErr, IfSome, IfNone, codes};
+ghost use Rattle.serde_json.specs.Data.{Data};
+ghost use Rattle.scale_info_json_trees.specs.DefinitionTrees.{MeansTypeDef, MeansUnder};
+ghost use Rattle.scale_info_json_text.specs.Definitions.{HoldsDefinition, IsUnknown};
+ghost use Rattle.scale_info_json_text.specs.Definitions.{only_object_is_definition};
+ghost use Rattle.scale_info_json_text.specs.Readings.{IfSyntax, IsMeant, Reads, HasNoTree};
+
+use crate::json_text::{read_value, JsonText};
+use crate::object::{read_object, Found};
+use crate::pass::pass_value;
+use crate::stop::Stop;
+use json::{Reader, Token};
+use scale_info_collections::items::Items;
+use scale_info_identities::symbol::UntrackedSymbol;
+use scale_info_identities::type_id::TypeId;
+use scale_info_types::form::PortableForm;
+use scale_info_types::ty::{TypeDef, TypeDefTuple};
+use std::alloc::Global;
+
+/// What was read of a definition.
+#[derive(Drop)]
+pub enum FoundDefinition {
+    /// No key came.
+    Nothing,
+    /// Only this key came, perhaps more than once, and what it means with its last tree.
+    One(&'static str, Option<TypeDef<PortableForm>>),
+    /// Keys came that no definition has together.
+    Refused,
+}
+
+/// The key, where it names a kind of definitions.
+fn known_key(key: &str) -> Option<&'static str>
+    ensures some { IfSome result (λ known. known.now ≡ key.now) }
+    ensures none { IfNone result (IsUnknown key.now) }
+{
+    match key {
+        "composite" => Some("composite"),
+        "variant" => Some("variant"),
+        "sequence" => Some("sequence"),
+        "array" => Some("array"),
+        "tuple" => Some("tuple"),
+        "primitive" => Some("primitive"),
+        "compact" => Some("compact"),
+        "bitsequence" => Some("bitsequence"),
+        "map" => Some("map"),
+        _ => None,
+    }
+}
+
+/// Reads the tuple that comes next; None where the tree means none.
+///
+/// Errors: `Syntax`, where no tree's text comes next; `Memory`, if an allocation failed.
+fn read_tuple(
+    alloc: Global,
+    reader: &mut Reader<'_>,
+    depth: usize,
+) -> Result<Option<TypeDef<PortableForm>>, Stop>
+    ensures ok { IfOk result (λ found. Reads (λ tree. IsMeant (MeansUnder (codes "tuple") tree) found)
+        depth reader.old reader.new) }
+    ensures syntax { IfErr result (IfSyntax (HasNoTree depth reader.old)) }
+{
+    let fields: Option<Items<UntrackedSymbol<TypeId>>> = read_value(alloc, reader, depth)?;
+    match fields {
+        Some(fields) => Ok(Some(TypeDef::Tuple(TypeDefTuple::from(fields)))),
+        None => Ok(None),
+    }
+}
+
+/// Reads the definition that a key and the tree which comes next mean; None where they mean none.
+///
+/// Errors: `Syntax`, where no tree's text comes next; `Memory`, if an allocation failed.
+fn read_definition(
+    key: &str,
+    alloc: Global,
+    reader: &mut Reader<'_>,
+    depth: usize,
+) -> Result<Option<TypeDef<PortableForm>>, Stop>
+    ensures ok { IfOk result (λ found. Reads (λ tree. IsMeant (MeansUnder key.now tree) found) depth
+        reader.old reader.new) }
+    ensures syntax { IfErr result (IfSyntax (HasNoTree depth reader.old)) }
+{
+    match key {
+        "composite" => Ok(read_value(alloc, reader, depth)?.map(|def| TypeDef::Composite(def))),
+        "variant" => Ok(read_value(alloc, reader, depth)?.map(|def| TypeDef::Variant(def))),
+        "sequence" => Ok(read_value(alloc, reader, depth)?.map(|def| TypeDef::Sequence(def))),
+        "array" => Ok(read_value(alloc, reader, depth)?.map(|def| TypeDef::Array(def))),
+        "tuple" => read_tuple(alloc, reader, depth),
+        "primitive" => Ok(read_value(alloc, reader, depth)?.map(|def| TypeDef::Primitive(def))),
+        "compact" => Ok(read_value(alloc, reader, depth)?.map(|def| TypeDef::Compact(def))),
+        "bitsequence" => Ok(read_value(alloc, reader, depth)?.map(|def| TypeDef::BitSequence(def))),
+        "map" => Ok(read_value(alloc, reader, depth)?.map(|def| TypeDef::Map(def))),
+        _ => {
+            pass_value(reader, depth)?;
+            Ok(None)
+        }
+    }
+}
+
+/// What was found, with one more member.
+fn with_member(
+    found: &FoundDefinition,
+    known: &'static str,
+    value: Option<TypeDef<PortableForm>>,
+) -> FoundDefinition {
+    match found {
+        FoundDefinition::Nothing => FoundDefinition::One(known, value),
+        FoundDefinition::One(first, _) if *first == known => FoundDefinition::One(known, value),
+        FoundDefinition::One(_, _) | FoundDefinition::Refused => FoundDefinition::Refused,
+    }
+}
+
+impl Found<TypeDef<PortableForm>> for FoundDefinition {
+    ghost meant = { MeansTypeDef };
+
+    ghost holds = { HoldsDefinition };
+
+    fn nothing() -> FoundDefinition {
+        FoundDefinition::Nothing
+    }
+
+    fn read_member(
+        &mut self,
+        alloc: Global,
+        key: &str,
+        reader: &mut Reader<'_>,
+        depth: usize,
+    ) -> Result<(), Stop> {
+        let Some(known) = known_key(key) else {
+            *self = FoundDefinition::Refused;
+            return pass_value(reader, depth);
+        };
+        let value = read_definition(known, alloc, reader, depth)?;
+        *self = with_member(self, known, value);
+        Ok(())
+    }
+
+    fn finish(self, _alloc: Global) -> Option<TypeDef<PortableForm>> {
+        match self {
+            FoundDefinition::One(_, value) => value,
+            FoundDefinition::Nothing | FoundDefinition::Refused => None,
+        }
+    }
+
+    ghost only_objects = { only_object_is_definition };
+}
+
+impl JsonText for TypeDef<PortableForm> {
+    ghost meant = { MeansTypeDef };
+
+    fn from_token(
+        alloc: Global,
+        token: Token<'_>,
+        reader: &mut Reader<'_>,
+        depth: usize,
+    ) -> Result<Option<TypeDef<PortableForm>>, Stop> {
+        read_object::<FoundDefinition, TypeDef<PortableForm>>(alloc, token, reader, depth)
+    }
+}
