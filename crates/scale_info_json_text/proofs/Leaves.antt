@@ -1,6 +1,6 @@
 -- Values that the first token tells.
 use Rattle.std.proofs.Common.{◌≡◌, ℕ, ◌<◌, List, [], ◌∷◌, Bool, false, Option, Some, None, refl, sym, ap, ◌∙◌, subst, Bor, arith}
-use Rattle.std.specs.Prelude.{⊤, option_map}
+use Rattle.std.specs.Prelude.{⊤, option_map, IfSome, IfNone}
 use Rattle.json.specs.Token as spec
 use Rattle.json.specs.Reads.{token_of}
 use Rattle.json.specs.declared.token.Token.{Token}
@@ -9,6 +9,9 @@ use Rattle.serde_json.specs.Data.{Data, Num, null, boolean, number, string, arra
 use Rattle.serde_json.specs.Find.{as_u64}
 use Rattle.serde_json.specs.Read.{number_of}
 use Rattle.scale_info_json_trees.specs.Meaning.{IsMeaningless, IsObject, MeansNumber, MeansText, MeansList, MeansOrNull}
+use Rattle.scale_info_json_trees.specs.DefinitionTrees.{MeansPrimitive}
+use Rattle.scale_info_primitives.specs.Primitives.{primitive_name}
+use Rattle.scale_info_primitives.specs.declared.primitive.TypeDefPrimitive.{TypeDefPrimitive}
 use Rattle.scale_info_json_text.specs.Readings.{IsMeant, Reads}
 use Rattle.scale_info_json_text.proofs.Trees.{Fits, first_fits, alone_reads, some_number}
 
@@ -268,3 +271,35 @@ module _ (limit depth : ℕ) (k : Token) (s : Bor (List ℕ)) (ts : List spec.To
       option_map as_u64 (number_of s.now) ≡ Some None
       → Reads (λ tree. IsMeant (MeansNumber limit tree) None) depth (token_of k ∷ ts) ts
   number_other e = number_none None e (λ w same below. absurd cc)
+
+module _ (depth : ℕ) (k : Token) (ts r : List spec.Token) where
+  primitive_of :
+      (name : List ℕ) (found : Option TypeDefPrimitive) → IfSome found (λ p. name ≡ primitive_name p)
+      → IfNone found (IsMeaningless (λ p. name ≡ primitive_name p)) → IsMeant (MeansPrimitive (string name)) found
+  primitive_of name None some none = record {
+    none = λ v m.
+        let h : string name ≡ string (primitive_name v) = m.is in
+        let same : name ≡ primitive_name v = cc in
+        none.none v same;
+  }
+  primitive_of name (Some p) some none = record { is = ap string some }
+
+  -- a string is the primitive that it names, if there is one
+  pub primitive_read :
+      (s : Bor (List ℕ)) (found : Option TypeDefPrimitive) → k ≡ token.String s
+      → IfSome found (λ p. s.now ≡ primitive_name p) → IfNone found (IsMeaningless (λ p. s.now ≡ primitive_name p))
+      → Reads (λ tree. IsMeant (MeansPrimitive tree) found) depth (token_of k ∷ ts) ts
+  primitive_read s found e some none =
+      subst (λ t. Reads (λ tree. IsMeant (MeansPrimitive tree) found) depth (token_of t ∷ ts) ts) (sym e)
+      (alone_reads (λ tree. IsMeant (MeansPrimitive tree) found) depth (spec.string s.now) (string s.now) ts refl (primitive_of s.now found some none))
+
+  -- another value is no primitive
+  pub not_primitive :
+      ((x : Bor (List ℕ)) → k ≡ token.String x → ⊥) → Reads (λ _. ⊤) depth (token_of k ∷ ts) r
+      → Reads (λ tree. IsMeant (MeansPrimitive tree) None) depth (token_of k ∷ ts) r
+  not_primitive none h = reads_fitting depth k ts r
+      (λ tree f p. record {
+        none = λ v m.
+            let t = string_token k (fits_kind k tree f ∙ ap (λ d. Some (kind_of d)) m.is) in
+            none t.0 t.1;
+      }) h

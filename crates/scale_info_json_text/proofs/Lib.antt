@@ -4,3 +4,4 @@ pub mod Trees
 pub mod Leaves
 pub mod Lists
 pub mod Members
+pub mod Definitions

@@ -1,6 +1,6 @@
 //! Definitions of a text: an object with one key, which names the kind.
 ghost use Rattle.std.specs.Prelude.{◌≡◌, IfOk, IfErr, IfSome, IfNone, codes};
-ghost use Rattle.serde_json.specs.Data.{Data};
+ghost use Rattle.serde_json.specs.Data.{Data, Members, put};
 ghost use Rattle.scale_info_json_trees.specs.DefinitionTrees.{MeansTypeDef, MeansUnder};
 ghost use Rattle.scale_info_json_text.specs.Definitions.{HoldsDefinition, IsUnknown};
 ghost use Rattle.scale_info_json_text.specs.Definitions.{only_object_is_definition};
@@ -97,12 +97,15 @@ fn read_definition(
     }
 }
 
-/// What was found, with one more member.
+/// What was found, with one more member: its key, and what it means with its tree.
 fn with_member(
     found: &FoundDefinition,
     known: &'static str,
     value: Option<TypeDef<PortableForm>>,
-) -> FoundDefinition {
+) -> FoundDefinition
+    ensures { (tree : Data) (ms : Members) → IsMeant (MeansUnder known.now tree) value
+        → HoldsDefinition found.now ms → HoldsDefinition result (put known.now tree ms) }
+{
     match found {
         FoundDefinition::Nothing => FoundDefinition::One(known, value),
         FoundDefinition::One(first, _) if *first == known => FoundDefinition::One(known, value),
