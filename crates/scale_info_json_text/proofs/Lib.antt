@@ -5,3 +5,4 @@ pub mod Leaves
 pub mod Lists
 pub mod Members
 pub mod Definitions
+pub mod Wholes

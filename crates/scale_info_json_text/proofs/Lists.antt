@@ -1,5 +1,5 @@
 -- Lists whose items are read one by one.
-use Rattle.std.proofs.Common.{◌≡◌, ℕ, ◌<◌, List, [], ◌∷◌, ◌++◌, Option, Some, None, refl, sym, ap, ap₂, ◌∙◌, subst}
+use Rattle.std.proofs.Common.{◌≡◌, ℕ, ◌<◌, List, [], ◌∷◌, ◌++◌, Option, Some, None, refl, sym, ap, ◌∙◌, subst}
 use Rattle.std.proofs.Common.{◌-◌}
 use Rattle.json.specs.Token as spec
 use Rattle.json.specs.Reads.{token_of}
@@ -8,17 +8,9 @@ use Rattle.json.specs.declared.token.Token.TheVariants as token
 use Rattle.serde_json.specs.Data.{Data, array}
 use Rattle.serde_json.specs.View.{items_of}
 use Rattle.scale_info_json_trees.specs.Meaning.{IsMeaningless, MeansEach, MeansList}
+use Rattle.scale_info_json.specs.Laws.{same_items}
 use Rattle.scale_info_json_text.specs.Readings.{IsMeant, Reads, ReadsItems, with_last}
 use Rattle.scale_info_json_text.proofs.Trees.{array_reads}
-
-same_items : (ds es : List Data) → items_of ds ≡ items_of es → ds ≡ es
-same_items [] [] e = refl
-same_items [] (d ∷ es) e = absurd cc
-same_items (d ∷ ds) [] e = absurd cc
-same_items (d ∷ ds) (c ∷ es) e =
-    let rest : items_of ds ≡ items_of es = cc in
-    let first : d ≡ c = cc in
-    ap₂ ◌∷◌ first (same_items ds es rest)
 
 module _ {A : Type 0} (M : Data → A → Type 0) where
   -- no trees mean the empty list

@@ -1,5 +1,5 @@
 //! Definitions of a text: an object with one key, which names the kind.
-ghost use Rattle.std.specs.Prelude.{◌≡◌, IfOk, IfErr, IfSome, IfNone, codes};
+ghost use Rattle.std.specs.Prelude.{◌≡◌, ◌≢◌, IfOk, IfErr, IfSome, IfNone, codes};
 ghost use Rattle.serde_json.specs.Data.{Data, Members, put};
 ghost use Rattle.scale_info_json_trees.specs.DefinitionTrees.{MeansTypeDef, MeansUnder};
 ghost use Rattle.scale_info_json_text.specs.Definitions.{HoldsDefinition, IsUnknown};
@@ -67,6 +67,52 @@ fn read_tuple(
     }
 }
 
+/// Reads the definition of a kind that is ids, and perhaps a number, alone; None where the key is
+/// none of these kinds or the tree means none.
+///
+/// Errors: `Syntax`, where no tree's text comes next; `Memory`, if an allocation failed.
+fn read_by_ids(
+    key: &str,
+    alloc: Global,
+    reader: &mut Reader<'_>,
+    depth: usize,
+) -> Result<Option<TypeDef<PortableForm>>, Stop>
+    requires composite { key.now ≢ codes "composite" }
+    requires variant { key.now ≢ codes "variant" }
+    requires tuple { key.now ≢ codes "tuple" }
+    requires primitive { key.now ≢ codes "primitive" }
+    ensures ok { IfOk result (λ found. Reads (λ tree. IsMeant (MeansUnder key.now tree) found) depth
+        reader.old reader.new) }
+    ensures syntax { IfErr result (IfSyntax (HasNoTree depth reader.old)) }
+{
+    match key {
+        "sequence" => match read_value(alloc, reader, depth)? {
+            Some(def) => Ok(Some(TypeDef::Sequence(def))),
+            None => Ok(None),
+        },
+        "array" => match read_value(alloc, reader, depth)? {
+            Some(def) => Ok(Some(TypeDef::Array(def))),
+            None => Ok(None),
+        },
+        "compact" => match read_value(alloc, reader, depth)? {
+            Some(def) => Ok(Some(TypeDef::Compact(def))),
+            None => Ok(None),
+        },
+        "bitsequence" => match read_value(alloc, reader, depth)? {
+            Some(def) => Ok(Some(TypeDef::BitSequence(def))),
+            None => Ok(None),
+        },
+        "map" => match read_value(alloc, reader, depth)? {
+            Some(def) => Ok(Some(TypeDef::Map(def))),
+            None => Ok(None),
+        },
+        _ => {
+            pass_value(reader, depth)?;
+            Ok(None)
+        }
+    }
+}
+
 /// Reads the definition that a key and the tree which comes next mean; None where they mean none.
 ///
 /// Errors: `Syntax`, where no tree's text comes next; `Memory`, if an allocation failed.
@@ -81,19 +127,20 @@ fn read_definition(
     ensures syntax { IfErr result (IfSyntax (HasNoTree depth reader.old)) }
 {
     match key {
-        "composite" => Ok(read_value(alloc, reader, depth)?.map(|def| TypeDef::Composite(def))),
-        "variant" => Ok(read_value(alloc, reader, depth)?.map(|def| TypeDef::Variant(def))),
-        "sequence" => Ok(read_value(alloc, reader, depth)?.map(|def| TypeDef::Sequence(def))),
-        "array" => Ok(read_value(alloc, reader, depth)?.map(|def| TypeDef::Array(def))),
+        "composite" => match read_value(alloc, reader, depth)? {
+            Some(def) => Ok(Some(TypeDef::Composite(def))),
+            None => Ok(None),
+        },
+        "variant" => match read_value(alloc, reader, depth)? {
+            Some(def) => Ok(Some(TypeDef::Variant(def))),
+            None => Ok(None),
+        },
         "tuple" => read_tuple(alloc, reader, depth),
-        "primitive" => Ok(read_value(alloc, reader, depth)?.map(|def| TypeDef::Primitive(def))),
-        "compact" => Ok(read_value(alloc, reader, depth)?.map(|def| TypeDef::Compact(def))),
-        "bitsequence" => Ok(read_value(alloc, reader, depth)?.map(|def| TypeDef::BitSequence(def))),
-        "map" => Ok(read_value(alloc, reader, depth)?.map(|def| TypeDef::Map(def))),
-        _ => {
-            pass_value(reader, depth)?;
-            Ok(None)
-        }
+        "primitive" => match read_value(alloc, reader, depth)? {
+            Some(def) => Ok(Some(TypeDef::Primitive(def))),
+            None => Ok(None),
+        },
+        _ => read_by_ids(key, alloc, reader, depth),
     }
 }
 
@@ -108,8 +155,12 @@ fn with_member(
 {
     match found {
         FoundDefinition::Nothing => FoundDefinition::One(known, value),
-        FoundDefinition::One(first, _) if *first == known => FoundDefinition::One(known, value),
-        FoundDefinition::One(_, _) | FoundDefinition::Refused => FoundDefinition::Refused,
+        FoundDefinition::One(first, _) => if *first == known {
+            FoundDefinition::One(known, value)
+        } else {
+            FoundDefinition::Refused
+        },
+        FoundDefinition::Refused => FoundDefinition::Refused,
     }
 }
 
@@ -129,13 +180,17 @@ impl Found<TypeDef<PortableForm>> for FoundDefinition {
         reader: &mut Reader<'_>,
         depth: usize,
     ) -> Result<(), Stop> {
-        let Some(known) = known_key(key) else {
-            *self = FoundDefinition::Refused;
-            return pass_value(reader, depth);
-        };
-        let value = read_definition(known, alloc, reader, depth)?;
-        *self = with_member(self, known, value);
-        Ok(())
+        match known_key(key) {
+            Some(known) => {
+                let value = read_definition(known, alloc, reader, depth)?;
+                *self = with_member(self, known, value);
+                Ok(())
+            }
+            None => {
+                *self = FoundDefinition::Refused;
+                pass_value(reader, depth)
+            }
+        }
     }
 
     fn finish(self, _alloc: Global) -> Option<TypeDef<PortableForm>> {

@@ -3,6 +3,7 @@
 
 mod definition;
 mod entry;
+mod error;
 mod field;
 mod integer;
 mod json_text;
@@ -13,7 +14,11 @@ mod object;
 mod option;
 mod part;
 mod pass;
+mod portable;
 mod primitive;
 mod stop;
 mod text;
 mod variant;
+
+pub use error::JsonTextError;
+pub use portable::from_json_text;
