@@ -1,5 +1,5 @@
 -- Values that the first token tells.
-use Rattle.std.proofs.Common.{◌≡◌, ℕ, ◌<◌, List, [], ◌∷◌, Bool, false, Option, Some, None, refl, sym, ap, ◌∙◌, subst, Bor, arith}
+use Rattle.std.proofs.Common.{◌≡◌, ℕ, ◌<◌, List, ◌∷◌, Option, Some, None, refl, sym, ap, ◌∙◌, subst, Bor}
 use Rattle.std.specs.Prelude.{⊤, option_map, IfSome, IfNone}
 use Rattle.json.specs.Token as spec
 use Rattle.json.specs.Reads.{token_of}

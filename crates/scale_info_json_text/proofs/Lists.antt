@@ -1,5 +1,5 @@
 -- Lists whose items are read one by one.
-use Rattle.std.proofs.Common.{◌≡◌, ℕ, ◌<◌, List, [], ◌∷◌, ◌++◌, Option, Some, None, refl, sym, ap, ◌∙◌, subst}
+use Rattle.std.proofs.Common.{◌≡◌, ℕ, ◌<◌, List, [], ◌∷◌, ◌++◌, Option, Some, None, refl, sym, subst}
 use Rattle.std.proofs.Common.{◌-◌}
 use Rattle.json.specs.Token as spec
 use Rattle.json.specs.Reads.{token_of}
@@ -7,7 +7,7 @@ use Rattle.json.specs.declared.token.Token.{Token}
 use Rattle.json.specs.declared.token.Token.TheVariants as token
 use Rattle.serde_json.specs.Data.{Data, array}
 use Rattle.serde_json.specs.View.{items_of}
-use Rattle.scale_info_json_trees.specs.Meaning.{IsMeaningless, MeansEach, MeansList}
+use Rattle.scale_info_json_trees.specs.Meaning.{MeansEach, MeansList}
 use Rattle.scale_info_json.specs.Laws.{same_items}
 use Rattle.scale_info_json_text.specs.Readings.{IsMeant, Reads, ReadsItems, with_last}
 use Rattle.scale_info_json_text.proofs.Trees.{array_reads}

@@ -1,13 +1,12 @@
 -- What is read under the keys of an object.
-use Rattle.std.proofs.Common.{◌≡◌, ◌≢◌, ℕ, ◌<◌, ◌-◌, List, ◌∷◌, Option, Some, None, refl, sym, ap, ◌∙◌, subst}
+use Rattle.std.proofs.Common.{◌≡◌, ℕ, ◌<◌, ◌-◌, List, ◌∷◌, Option, Some, None, sym, subst}
 use Rattle.json.specs.Token as spec
 use Rattle.json.specs.Reads.{token_of}
 use Rattle.json.specs.declared.token.Token.{Token}
 use Rattle.json.specs.declared.token.Token.TheVariants as token
 use Rattle.serde_json.specs.Data.{Data, Members, put, object}
-use Rattle.serde_json.specs.Find.{get_member}
 use Rattle.serde_json.proofs.Views.{get_member-put, get_member-put_other}
-use Rattle.scale_info_json_trees.specs.Meaning.{IsMeaningless, IsObject}
+use Rattle.scale_info_json_trees.specs.Meaning.{IsObject}
 use Rattle.scale_info_json_text.specs.declared.member.Member.{Member}
 use Rattle.scale_info_json_text.specs.Readings.{IsMeant, Reads, ReadsMembers}
 use Rattle.scale_info_json_text.specs.Members.{HoldsAt, HoldsOne}

@@ -1,6 +1,6 @@
 -- What is read of definitions.
 use Rattle.std.specs.Prelude.{◌≡◌, ℕ, List, Option}
-use Rattle.serde_json.specs.Data.{Data, Members, no_members, member, object}
+use Rattle.serde_json.specs.Data.{Data, Members, no_members, member}
 use Rattle.scale_info_json_trees.specs.Meaning.{IsMeaningless, IsObject}
 use Rattle.scale_info_json_trees.specs.DefinitionTrees.{MeansTypeDef, MeansUnder}
 use Rattle.scale_info_types.specs.Portable as portable

@@ -6,8 +6,8 @@ ghost use Rattle.scale_info_json_text.specs.Definitions.{HoldsDefinition, IsUnkn
 ghost use Rattle.scale_info_json_text.specs.Definitions.{only_object_is_definition};
 ghost use Rattle.scale_info_json_text.specs.Readings.{IfSyntax, IsMeant, Reads, HasNoTree};
 
-use crate::json_text::{read_value, JsonText};
-use crate::object::{read_object, Found};
+use crate::json_text::{JsonText, read_value};
+use crate::object::{Found, read_object};
 use crate::pass::pass_value;
 use crate::stop::Stop;
 use json::{Reader, Token};

@@ -6,8 +6,8 @@ ghost use Rattle.scale_info_json_text.specs.Fields.{HoldsDescription};
 ghost use Rattle.scale_info_json_text.specs.Members.{HoldsTwo};
 
 use crate::json_text::JsonText;
-use crate::member::{list_or_empty, read_of_two, read_under, required, Member};
-use crate::object::{read_object, Found};
+use crate::member::{Member, list_or_empty, read_of_two, read_under, required};
+use crate::object::{Found, read_object};
 use crate::pass::pass_value;
 use crate::stop::Stop;
 use json::{Reader, Token};
@@ -123,6 +123,8 @@ impl JsonText for PortableType {
         reader: &mut Reader<'_>,
         depth: usize,
     ) -> Result<Option<PortableType>, Stop> {
-        read_object::<(Member<u32>, Member<Description<PortableForm>>), PortableType>(alloc, token, reader, depth)
+        read_object::<(Member<u32>, Member<Description<PortableForm>>), PortableType>(
+            alloc, token, reader, depth,
+        )
     }
 }

@@ -7,8 +7,8 @@ ghost use Rattle.scale_info_json_text.specs.Fields.{HoldsField};
 ghost use Rattle.scale_info_json_text.specs.Members.{HoldsTwo};
 
 use crate::json_text::JsonText;
-use crate::member::{list_or_empty, read_of_two, read_under, required, value_or_none, Member};
-use crate::object::{read_object, Found};
+use crate::member::{Member, list_or_empty, read_of_two, read_under, required, value_or_none};
+use crate::object::{Found, read_object};
 use crate::pass::pass_value;
 use crate::stop::Stop;
 use json::{Reader, Token};
@@ -17,11 +17,12 @@ use scale_info_collections::text::Text;
 use scale_info_identities::symbol::UntrackedSymbol;
 use scale_info_identities::type_id::TypeId;
 use scale_info_types::form::PortableForm;
-use scale_info_types::ty::fields::Field;
 use scale_info_types::ty::TypeParameter;
+use scale_info_types::ty::fields::Field;
 use std::alloc::Global;
 
-impl Found<TypeParameter<PortableForm>> for (Member<Text>, Member<Option<UntrackedSymbol<TypeId>>>) {
+impl Found<TypeParameter<PortableForm>>
+    for (Member<Text>, Member<Option<UntrackedSymbol<TypeId>>>) {
     ghost meant = { MeansParameter };
 
     ghost holds = { HoldsTwo (codes "name") (codes "type") MeansText (MeansOrNull MeansId) };
@@ -58,7 +59,10 @@ impl JsonText for TypeParameter<PortableForm> {
         reader: &mut Reader<'_>,
         depth: usize,
     ) -> Result<Option<TypeParameter<PortableForm>>, Stop> {
-        read_object::<(Member<Text>, Member<Option<UntrackedSymbol<TypeId>>>), TypeParameter<PortableForm>>(alloc, token, reader, depth)
+        read_object::<
+            (Member<Text>, Member<Option<UntrackedSymbol<TypeId>>>),
+            TypeParameter<PortableForm>,
+        >(alloc, token, reader, depth)
     }
 }
 
@@ -106,7 +110,12 @@ impl Found<Field<PortableForm>> for FoundField {
         let name = value_or_none(self.name)?;
         let ty = required(self.ty)?;
         let type_name = value_or_none(self.type_name)?;
-        Some(Field { name, ty, type_name, docs })
+        Some(Field {
+            name,
+            ty,
+            type_name,
+            docs,
+        })
     }
 
     ghost only_objects = { λ tree v m. m.object };

@@ -4,7 +4,7 @@ ghost use Rattle.scale_info_json_trees.specs.Meaning.{MeansEach, MeansList};
 ghost use Rattle.scale_info_json_text.specs.Readings.{IfSyntax, IsMeant, ReadsItems, HasNoItems};
 ghost use Rattle.scale_info_json_text.specs.Readings.{with_last};
 
-use crate::json_text::{read_value, JsonText};
+use crate::json_text::{JsonText, read_value};
 use crate::pass::pass_rest;
 use crate::stop::Stop;
 use json::{Reader, Token};
@@ -35,7 +35,10 @@ fn read_items<T: JsonText>(
 /// The list with one more value at its end; None where the list or the value is none.
 ///
 /// Errors: `AllocError`, if an allocation failed.
-fn with_item<T: Drop>(values: Option<Items<T>>, found: Option<T>) -> Result<Option<Items<T>>, AllocError>
+fn with_item<T: Drop>(
+    values: Option<Items<T>>,
+    found: Option<T>,
+) -> Result<Option<Items<T>>, AllocError>
     ensures { IfOk result (λ list. list ≡ with_last values found) }
 {
     match (values, found) {

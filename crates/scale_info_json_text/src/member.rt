@@ -6,7 +6,7 @@ ghost use Rattle.scale_info_json_trees.specs.Meaning.{MeansOrNull, MeansRequired
 ghost use Rattle.scale_info_json_text.specs.Readings.{IfSyntax, IsMeant, Reads, HasNoTree};
 ghost use Rattle.scale_info_json_text.specs.Members.{HoldsAt, HoldsOne, HoldsTwo, HoldsFour};
 
-use crate::json_text::{read_value, JsonText};
+use crate::json_text::{JsonText, read_value};
 use crate::pass::pass_value;
 use crate::stop::Stop;
 use json::Reader;

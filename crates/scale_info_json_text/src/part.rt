@@ -9,8 +9,8 @@ ghost use Rattle.scale_info_json_trees.specs.DefinitionTrees.{MeansVariantType};
 ghost use Rattle.scale_info_json_text.specs.Members.{HoldsOne, HoldsTwo};
 
 use crate::json_text::JsonText;
-use crate::member::{list_or_empty, read_of_one, read_of_two, required, Member};
-use crate::object::{read_object, Found};
+use crate::member::{Member, list_or_empty, read_of_one, read_of_two, required};
+use crate::object::{Found, read_object};
 use crate::stop::Stop;
 use json::{Reader, Token};
 use scale_info_collections::items::Items;
@@ -61,7 +61,9 @@ impl JsonText for TypeDefComposite<PortableForm> {
         reader: &mut Reader<'_>,
         depth: usize,
     ) -> Result<Option<TypeDefComposite<PortableForm>>, Stop> {
-        read_object::<Member<Items<Field<PortableForm>>>, TypeDefComposite<PortableForm>>(alloc, token, reader, depth)
+        read_object::<Member<Items<Field<PortableForm>>>, TypeDefComposite<PortableForm>>(
+            alloc, token, reader, depth,
+        )
     }
 }
 
@@ -101,7 +103,9 @@ impl JsonText for TypeDefVariant<PortableForm> {
         reader: &mut Reader<'_>,
         depth: usize,
     ) -> Result<Option<TypeDefVariant<PortableForm>>, Stop> {
-        read_object::<Member<Items<Variant<PortableForm>>>, TypeDefVariant<PortableForm>>(alloc, token, reader, depth)
+        read_object::<Member<Items<Variant<PortableForm>>>, TypeDefVariant<PortableForm>>(
+            alloc, token, reader, depth,
+        )
     }
 }
 
@@ -140,7 +144,9 @@ impl JsonText for TypeDefSequence<PortableForm> {
         reader: &mut Reader<'_>,
         depth: usize,
     ) -> Result<Option<TypeDefSequence<PortableForm>>, Stop> {
-        read_object::<Member<UntrackedSymbol<TypeId>>, TypeDefSequence<PortableForm>>(alloc, token, reader, depth)
+        read_object::<Member<UntrackedSymbol<TypeId>>, TypeDefSequence<PortableForm>>(
+            alloc, token, reader, depth,
+        )
     }
 }
 
@@ -181,7 +187,9 @@ impl JsonText for TypeDefArray<PortableForm> {
         reader: &mut Reader<'_>,
         depth: usize,
     ) -> Result<Option<TypeDefArray<PortableForm>>, Stop> {
-        read_object::<(Member<u32>, Member<UntrackedSymbol<TypeId>>), TypeDefArray<PortableForm>>(alloc, token, reader, depth)
+        read_object::<(Member<u32>, Member<UntrackedSymbol<TypeId>>), TypeDefArray<PortableForm>>(
+            alloc, token, reader, depth,
+        )
     }
 }
 
@@ -220,16 +228,25 @@ impl JsonText for TypeDefCompact<PortableForm> {
         reader: &mut Reader<'_>,
         depth: usize,
     ) -> Result<Option<TypeDefCompact<PortableForm>>, Stop> {
-        read_object::<Member<UntrackedSymbol<TypeId>>, TypeDefCompact<PortableForm>>(alloc, token, reader, depth)
+        read_object::<Member<UntrackedSymbol<TypeId>>, TypeDefCompact<PortableForm>>(
+            alloc, token, reader, depth,
+        )
     }
 }
 
-impl Found<TypeDefBitSequence<PortableForm>> for (Member<UntrackedSymbol<TypeId>>, Member<UntrackedSymbol<TypeId>>) {
+impl Found<TypeDefBitSequence<PortableForm>>
+    for (
+        Member<UntrackedSymbol<TypeId>>,
+        Member<UntrackedSymbol<TypeId>>,
+    ) {
     ghost meant = { MeansBitSequence };
 
     ghost holds = { HoldsTwo (codes "bit_store_type") (codes "bit_order_type") MeansId MeansId };
 
-    fn nothing() -> (Member<UntrackedSymbol<TypeId>>, Member<UntrackedSymbol<TypeId>>) {
+    fn nothing() -> (
+        Member<UntrackedSymbol<TypeId>>,
+        Member<UntrackedSymbol<TypeId>>,
+    ) {
         (Member::Missing, Member::Missing)
     }
 
@@ -240,7 +257,15 @@ impl Found<TypeDefBitSequence<PortableForm>> for (Member<UntrackedSymbol<TypeId>
         reader: &mut Reader<'_>,
         depth: usize,
     ) -> Result<(), Stop> {
-        read_of_two(self, "bit_store_type", "bit_order_type", alloc, key, reader, depth)
+        read_of_two(
+            self,
+            "bit_store_type",
+            "bit_order_type",
+            alloc,
+            key,
+            reader,
+            depth,
+        )
     }
 
     fn finish(self, _alloc: Global) -> Option<TypeDefBitSequence<PortableForm>> {
@@ -261,16 +286,29 @@ impl JsonText for TypeDefBitSequence<PortableForm> {
         reader: &mut Reader<'_>,
         depth: usize,
     ) -> Result<Option<TypeDefBitSequence<PortableForm>>, Stop> {
-        read_object::<(Member<UntrackedSymbol<TypeId>>, Member<UntrackedSymbol<TypeId>>), TypeDefBitSequence<PortableForm>>(alloc, token, reader, depth)
+        read_object::<
+            (
+                Member<UntrackedSymbol<TypeId>>,
+                Member<UntrackedSymbol<TypeId>>,
+            ),
+            TypeDefBitSequence<PortableForm>,
+        >(alloc, token, reader, depth)
     }
 }
 
-impl Found<TypeDefMap<PortableForm>> for (Member<UntrackedSymbol<TypeId>>, Member<UntrackedSymbol<TypeId>>) {
+impl Found<TypeDefMap<PortableForm>>
+    for (
+        Member<UntrackedSymbol<TypeId>>,
+        Member<UntrackedSymbol<TypeId>>,
+    ) {
     ghost meant = { MeansMap };
 
     ghost holds = { HoldsTwo (codes "key") (codes "value") MeansId MeansId };
 
-    fn nothing() -> (Member<UntrackedSymbol<TypeId>>, Member<UntrackedSymbol<TypeId>>) {
+    fn nothing() -> (
+        Member<UntrackedSymbol<TypeId>>,
+        Member<UntrackedSymbol<TypeId>>,
+    ) {
         (Member::Missing, Member::Missing)
     }
 
@@ -302,6 +340,12 @@ impl JsonText for TypeDefMap<PortableForm> {
         reader: &mut Reader<'_>,
         depth: usize,
     ) -> Result<Option<TypeDefMap<PortableForm>>, Stop> {
-        read_object::<(Member<UntrackedSymbol<TypeId>>, Member<UntrackedSymbol<TypeId>>), TypeDefMap<PortableForm>>(alloc, token, reader, depth)
+        read_object::<
+            (
+                Member<UntrackedSymbol<TypeId>>,
+                Member<UntrackedSymbol<TypeId>>,
+            ),
+            TypeDefMap<PortableForm>,
+        >(alloc, token, reader, depth)
     }
 }

@@ -10,9 +10,9 @@ ghost use Rattle.scale_info_json_text.specs.Readings.{IfSyntax, IsMeant};
 ghost use Rattle.scale_info_json_text.specs.TextTables.{TextMeans, IsErrorOf};
 
 use crate::error::JsonTextError;
-use crate::json_text::{read_value, JsonText};
-use crate::member::{read_of_one, required, Member};
-use crate::object::{read_object, Found};
+use crate::json_text::{JsonText, read_value};
+use crate::member::{Member, read_of_one, required};
+use crate::object::{Found, read_object};
 use crate::stop::Stop;
 use json::{Reader, Scratch, Token};
 use scale_info_collections::items::Items;

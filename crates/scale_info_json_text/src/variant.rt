@@ -3,8 +3,8 @@ ghost use Rattle.scale_info_json_trees.specs.PartTrees.{MeansVariant};
 ghost use Rattle.scale_info_json_text.specs.Fields.{HoldsVariant};
 
 use crate::json_text::JsonText;
-use crate::member::{list_or_empty, read_under, required, Member};
-use crate::object::{read_object, Found};
+use crate::member::{Member, list_or_empty, read_under, required};
+use crate::object::{Found, read_object};
 use crate::pass::pass_value;
 use crate::stop::Stop;
 use json::{Reader, Token};
@@ -59,7 +59,12 @@ impl Found<Variant<PortableForm>> for FoundVariant {
         let fields = list_or_empty(alloc, self.fields)?;
         let index = required(self.index)?;
         let docs = list_or_empty(alloc, self.docs)?;
-        Some(Variant { name, fields, index, docs })
+        Some(Variant {
+            name,
+            fields,
+            index,
+            docs,
+        })
     }
 
     ghost only_objects = { λ tree v m. m.object };

@@ -1,4 +1,4 @@
-use Rattle.std.proofs.Common.{subst, ap}
+use Rattle.std.proofs.Common.{subst}
 use Rattle.std.specs.Cmp.Lexicographic.{same_text, other_text}
 use Rattle.scale_info_json_text.specs.Definitions.{HoldsDefinition}
 use Rattle.scale_info_json_text.proofs.Definitions.{put_again, put_second, put_refused}

@@ -1,4 +1,4 @@
-use Rattle.std.proofs.Common.{◌≡◌, sym, subst, arith}
+use Rattle.std.proofs.Common.{sym, subst, arith}
 use Rattle.json.specs.Token as spec
 use Rattle.json.specs.Reads.{token_of}
 use Rattle.std.proofs.Common.{◌∷◌}

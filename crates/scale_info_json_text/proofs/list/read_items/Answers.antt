@@ -1,7 +1,6 @@
-use Rattle.std.proofs.Common.{◌≡◌, Some, None, arith, ◌∷◌, List}
+use Rattle.std.proofs.Common.{◌≡◌, None, arith}
 use Rattle.json.specs.Json.{after_end_array}
-use Rattle.scale_info_json_text.specs.Readings.{HasNoItems}
-use Rattle.scale_info_json_text.proofs.Stops.{passed_syntax, syntax_anyway}
+use Rattle.scale_info_json_text.proofs.Stops.{passed_syntax}
 use Rattle.scale_info_json_text.proofs.Trees.{reads_shorter, items_start, items_next, items_stop, items_done}
 use Rattle.scale_info_json_text.proofs.Lists.{no_trees, one_more_meant}
 use Rattle.scale_info_json_text.proofs.list.read_items.Goals as goal

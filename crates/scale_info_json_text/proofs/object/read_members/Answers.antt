@@ -1,8 +1,8 @@
-use Rattle.std.proofs.Common.{◌≡◌, ◌<◌, length, Some, None, arith}
+use Rattle.std.proofs.Common.{◌≡◌, Some, arith}
 use Rattle.json.specs.Json.{read_key}
 use Rattle.json.proofs.Grammar.{read_key-shorter}
 use Rattle.scale_info_json_text.proofs.Stops.{passed_syntax, syntax_anyway}
-use Rattle.scale_info_json_text.proofs.Trees.{reads_shorter, members_start, members_next, members_no_key, members_stop, members_done, done_weaker}
+use Rattle.scale_info_json_text.proofs.Trees.{reads_shorter, members_next, members_no_key, members_stop, members_done, done_weaker}
 use Rattle.scale_info_json_text.proofs.object.read_members.Goals as goal
 
 pub returns-in_err-key-clause-syntax : goal.returns-in_err-key-clause-syntax

@@ -1,4 +1,4 @@
-use Rattle.std.proofs.Common.{◌≡◌, ◌<◌, refl, inl, inr, [], ◌∷◌, length, Some, None, sym, ap, ◌∙◌, arith, rules, subst, option_map}
+use Rattle.std.proofs.Common.{◌≡◌, refl, inl, inr, [], ◌∷◌, Some, None, sym, ap, arith, subst, option_map}
 use Rattle.std.proofs.lemmas.Result.{on_ok_weaker}
 use Rattle.std.specs.Prelude.{⊤}
 use Rattle.json.specs.Token.{Token}
@@ -86,10 +86,10 @@ pass_rest-returns-in-String-clause-ok t c =
     let reads : (k : Token) (tree : Data) → token_of c.args.token ≡ k → alone k ≡ Some tree → Reads (λ _. ⊤) c.args.depth (token_of c.args.token ∷ c.args.reader.now) c.args.reader.now =
     λ k tree e a. subst (λ h. Reads (λ _. ⊤) c.args.depth (h ∷ c.args.reader.now) c.args.reader.now) (sym e) (alone_reads (λ _. ⊤) c.args.depth k tree c.args.reader.now a tt) in
     elim c.in-String.is [
-      inl s ↦ reads (Token.string s.0.now) (string s.0.now) (ap token_of s.1) refl
-    | inr rest ↦ elim rest [
-        inl b ↦ reads (Token.boolean b.0) (boolean b.0) (ap token_of b.1) refl
-      | inr n ↦ reads Token.null null (ap token_of n) refl
+      | inl s ↦ reads (Token.string s.0.now) (string s.0.now) (ap token_of s.1) refl
+      | inr rest ↦ elim rest [
+        | inl b ↦ reads (Token.boolean b.0) (boolean b.0) (ap token_of b.1) refl
+        | inr n ↦ reads Token.null null (ap token_of n) refl
       ]
     ]
 
@@ -104,12 +104,12 @@ pass_rest-returns-in-EndObject-clause-syntax t c =
     let none : (k : Token) → token_of c.args.token ≡ k → begins_none k → HasNoTree c.args.depth (token_of c.args.token ∷ c.args.reader.now) =
     λ k e a. subst (λ h. HasNoTree c.args.depth (h ∷ c.args.reader.now)) (sym e) (none_begins c.args.depth k c.args.reader.now a) in
     elim c.in-EndObject.is [
-      inl o ↦ none Token.end_object (ap token_of o) tt
-    | inr rest ↦ elim rest [
-        inl a ↦ none Token.end_array (ap token_of a) tt
-      | inr more ↦ elim more [
-          inl k ↦ none (Token.key k.0.now) (ap token_of k.1) tt
-        | inr b ↦ none Token.bad (ap token_of b) tt
+      | inl o ↦ none Token.end_object (ap token_of o) tt
+      | inr rest ↦ elim rest [
+        | inl a ↦ none Token.end_array (ap token_of a) tt
+        | inr more ↦ elim more [
+          | inl k ↦ none (Token.key k.0.now) (ap token_of k.1) tt
+          | inr b ↦ none Token.bad (ap token_of b) tt
         ]
       ]
     ]

@@ -1,4 +1,4 @@
-use Rattle.std.proofs.Common.{ℕ, ◌+◌, ◌*◌, length}
+use Rattle.std.proofs.Common.{◌+◌, ◌*◌, length}
 use Rattle.std.specs.Prelude.{⊤}
 use Rattle.scale_info_json_text.proofs.Trees.{ItemsTurn, MembersTurn}
 use Rattle.scale_info_json_text.proofs.pass.+pass.Given as goal

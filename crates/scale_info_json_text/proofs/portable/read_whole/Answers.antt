@@ -1,9 +1,4 @@
-use Rattle.std.proofs.Common.{◌≡◌, [], ◌∷◌, Some, None, ap, subst, sym, ◌∙◌}
-use Rattle.json.specs.Json.{value}
-use Rattle.json.specs.Lex.{tokens}
-use Rattle.json.specs.Reads.{token_of}
-use Rattle.scale_info_json_text.specs.Readings.{HasNoTree}
-use Rattle.scale_info_json_text.proofs.Stops.{passed_syntax, syntax_anyway}
+use Rattle.scale_info_json_text.proofs.Stops.{passed_syntax}
 use Rattle.scale_info_json_text.proofs.Wholes.{text_read, text_and_more, text_refused}
 use Rattle.scale_info_json_text.proofs.portable.read_whole.Goals as goal
 

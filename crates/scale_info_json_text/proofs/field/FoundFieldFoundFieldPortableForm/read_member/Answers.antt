@@ -1,7 +1,7 @@
 use Rattle.std.proofs.Common.{sym, ◌∙◌, refl}
 use Rattle.std.proofs.lemmas.Result.{on_ok_weaker}
 use Rattle.std.specs.Cmp.Lexicographic.{other_text}
-use Rattle.std.specs.Prelude.{◌^◌, codes}
+use Rattle.std.specs.Prelude.{codes}
 use Rattle.scale_info_json_trees.specs.Meaning.{MeansList, MeansOrNull, MeansText}
 use Rattle.scale_info_json_trees.specs.PartTrees.{MeansId}
 use Rattle.scale_info_json_text.proofs.Trees.{reads_weaker}

@@ -1,4 +1,4 @@
-use Rattle.scale_info_json_text.proofs.Leaves.{null_read, not_null_read, not_null_none}
+use Rattle.scale_info_json_text.proofs.Leaves.{null_read, not_null_none}
 use Rattle.scale_info_json_text.proofs.option.OptionJsonText.from_token.Goals as goal
 
 pub returns-in-Null-clause-ok : goal.returns-in-Null-clause-ok
