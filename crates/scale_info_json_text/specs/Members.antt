@@ -1,0 +1,33 @@
+-- What is read under the keys of an object.
+use Rattle.std.specs.Prelude.{◌≡◌, ℕ, List, Option, Some, None}
+use Rattle.serde_json.specs.Data.{Data, Members}
+use Rattle.serde_json.specs.Find.{get_member}
+use Rattle.scale_info_json_trees.specs.Meaning.{IsMeaningless}
+use Rattle.scale_info_json_text.specs.declared.member.Member.{Member}
+use Rattle.scale_info_json_text.specs.declared.member.Member.TheVariants as found
+
+-- what was read is what the tree of a key means, or the key is missing
+abbrev pub HoldsAt : {A : Type 0} → (Data → A → Type 0) → Member A → Option Data → Type 0
+HoldsAt M found.Missing o = o ≡ None
+HoldsAt M found.Meaningless o = (tree : Data) × (o ≡ Some tree) × IsMeaningless (M tree)
+HoldsAt M (found.Value v) o = (tree : Data) × (o ≡ Some tree) × M tree v
+
+-- what was read of the members is what the key has
+abbrev pub HoldsOne : {A : Type 0} → List ℕ → (Data → A → Type 0) → Member A → Members → Type 0
+HoldsOne key M found members = HoldsAt M found (get_member key members)
+
+-- what was read of the members is what the two keys have
+abbrev pub HoldsTwo :
+    {A B : Type 0} → List ℕ → List ℕ → (Data → A → Type 0) → (Data → B → Type 0)
+    → Member A × Member B → Members → Type 0
+HoldsTwo key other M N found members =
+    HoldsOne key M found.0 members × HoldsOne other N found.1 members
+
+-- what was read of the members is what the four keys have
+abbrev pub HoldsFour :
+    {A B C D : Type 0} → List ℕ → List ℕ → List ℕ → List ℕ → (Data → A → Type 0)
+    → (Data → B → Type 0) → (Data → C → Type 0) → (Data → D → Type 0)
+    → Member A × Member B × Member C × Member D → Members → Type 0
+HoldsFour key other third fourth M N P Q found members =
+    HoldsOne key M found.0 members × HoldsOne other N found.1 members
+    × HoldsOne third P found.2 members × HoldsOne fourth Q found.3 members

@@ -1,0 +1,24 @@
+//! Tables read straight from JSON text, with no tree of the text being made.
+#![tactic(auto)]
+
+mod definition;
+mod entry;
+mod error;
+mod field;
+mod integer;
+mod json_text;
+mod list;
+mod member;
+mod number;
+mod object;
+mod option;
+mod part;
+mod pass;
+mod portable;
+mod primitive;
+mod stop;
+mod text;
+mod variant;
+
+pub use error::JsonTextError;
+pub use portable::from_json_text;

@@ -1,0 +1,71 @@
+//! Lists of a text.
+ghost use Rattle.std.specs.Prelude.{◌≡◌, ◌∷◌, IfOk, IfErr};
+ghost use Rattle.scale_info_json_trees.specs.Meaning.{MeansEach, MeansList};
+ghost use Rattle.scale_info_json_text.specs.Readings.{IfSyntax, IsMeant, ReadsItems, HasNoItems};
+ghost use Rattle.scale_info_json_text.specs.Readings.{with_last};
+
+use crate::json_text::{JsonText, read_value};
+use crate::pass::pass_rest;
+use crate::stop::Stop;
+use json::{Reader, Token};
+use scale_info_collections::items::Items;
+use std::alloc::{AllocError, Global};
+
+/// Reads the values that the items of an array mean, and its closing bracket; None where an item
+/// means none.
+///
+/// Errors: `Syntax`, where something else comes next; `Memory`, if an allocation failed.
+fn read_items<T: JsonText>(
+    alloc: Global,
+    reader: &mut Reader<'_>,
+    depth: usize,
+) -> Result<Option<Items<T>>, Stop>
+    ensures ok { IfOk result (λ found. ReadsItems
+        (λ trees. IsMeant (MeansEach T.meant trees) found) depth reader.old reader.new) }
+    ensures syntax { IfErr result (IfSyntax (HasNoItems depth reader.old)) }
+{
+    let mut values = Some(Items::new(alloc));
+    'items: while !reader.take_end_array() {
+        let found = read_value(alloc, reader, depth)?;
+        values = with_item(values, found)?;
+    }
+    Ok(values)
+}
+
+/// The list with one more value at its end; None where the list or the value is none.
+///
+/// Errors: `AllocError`, if an allocation failed.
+fn with_item<T: Drop>(
+    values: Option<Items<T>>,
+    found: Option<T>,
+) -> Result<Option<Items<T>>, AllocError>
+    ensures { IfOk result (λ list. list ≡ with_last values found) }
+{
+    match (values, found) {
+        (Some(mut values), Some(value)) => {
+            values.push(value)?;
+            Ok(Some(values))
+        }
+        _ => Ok(None),
+    }
+}
+
+impl<T: JsonText> JsonText for Items<T> {
+    ghost meant = { MeansList T.meant };
+
+    fn from_token(
+        alloc: Global,
+        token: Token<'_>,
+        reader: &mut Reader<'_>,
+        depth: usize,
+    ) -> Result<Option<Items<T>>, Stop> {
+        if let Token::BeginArray = token {
+            if depth == 0 {
+                return Err(Stop::Syntax);
+            }
+            return read_items(alloc, reader, depth - 1);
+        }
+        pass_rest(token, reader, depth)?;
+        Ok(None)
+    }
+}

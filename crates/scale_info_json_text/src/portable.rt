@@ -1,0 +1,108 @@
+//! Tables of a text.
+ghost use Rattle.std.specs.Prelude.{◌≡◌, codes, Some, None, IfOk, IfErr};
+ghost use Rattle.serde_json.specs.Data.{Data};
+ghost use Rattle.serde_json.specs.Read.{read};
+ghost use Rattle.scale_info_json.specs.JsonTables.{MeansTable};
+ghost use Rattle.scale_info_json_trees.specs.EntryTrees.{MeansEntry};
+ghost use Rattle.scale_info_json_trees.specs.Meaning.{MeansList};
+ghost use Rattle.scale_info_json_text.specs.Members.{HoldsOne};
+ghost use Rattle.scale_info_json_text.specs.Readings.{IfSyntax, IsMeant};
+ghost use Rattle.scale_info_json_text.specs.TextTables.{TextMeans, IsErrorOf};
+
+use crate::error::JsonTextError;
+use crate::json_text::{JsonText, read_value};
+use crate::member::{Member, read_of_one, required};
+use crate::object::{Found, read_object};
+use crate::stop::Stop;
+use json::{Reader, Scratch, Token};
+use scale_info_collections::items::Items;
+use scale_info_tables::portable::PortableRegistry;
+use scale_info_types::ty::PortableType;
+use std::alloc::Global;
+
+/// How deep arrays and objects may nest in a text, as in one that `serde_json` reads.
+const MAX_DEPTH: usize = 127;
+
+impl Found<PortableRegistry> for Member<Items<PortableType>> {
+    ghost meant = { MeansTable };
+
+    ghost holds = { HoldsOne (codes "types") (MeansList MeansEntry) };
+
+    fn nothing() -> Member<Items<PortableType>> {
+        Member::Missing
+    }
+
+    fn read_member(
+        &mut self,
+        alloc: Global,
+        key: &str,
+        reader: &mut Reader<'_>,
+        depth: usize,
+    ) -> Result<(), Stop> {
+        read_of_one(self, "types", alloc, key, reader, depth)
+    }
+
+    fn finish(self, _alloc: Global) -> Option<PortableRegistry> {
+        let types = required(self)?;
+        Some(PortableRegistry { types })
+    }
+
+    ghost only_objects = { λ tree v m. m.object };
+}
+
+impl JsonText for PortableRegistry {
+    ghost meant = { MeansTable };
+
+    fn from_token(
+        alloc: Global,
+        token: Token<'_>,
+        reader: &mut Reader<'_>,
+        depth: usize,
+    ) -> Result<Option<PortableRegistry>, Stop> {
+        read_object::<Member<Items<PortableType>>, PortableRegistry>(alloc, token, reader, depth)
+    }
+}
+
+/// Reads the table that a whole text means; None where its tree means none.
+///
+/// Errors: `Syntax`, where the text is no JSON; `Memory`, if an allocation failed.
+fn read_whole(
+    alloc: Global,
+    text: &str,
+    scratch: &mut Scratch,
+) -> Result<Option<PortableRegistry>, Stop>
+    ensures ok { IfOk result (λ found. (tree : Data) × (read text.now ≡ Some tree)
+        × IsMeant (MeansTable tree) found) }
+    ensures syntax { IfErr result (IfSyntax (read text.now ≡ None)) }
+{
+    let mut reader = Reader::new(text, scratch)?;
+    let found = read_value(alloc, &mut reader, MAX_DEPTH)?;
+    match reader.next() {
+        Some(_) => Err(Stop::Syntax),
+        None => Ok(found),
+    }
+}
+
+/// The table that a JSON text means: what `from_json` says of the tree that `serde_json` makes of
+/// the text, and no tree is made.
+///
+/// Members may come in any order. Where a key comes twice, its last value counts. Keys that a value
+/// doesn't have are passed over, except in `def`, which has one key.
+///
+/// Errors: `Syntax`, where `serde_json` refuses the text: it is no JSON, nests deeper than 127 or
+/// has a number that is too large for a float. `Shape`, where the text means no table. `Memory`, if
+/// an allocation failed.
+///
+/// ```text
+/// let table = from_json_text(alloc, "{\"types\":[]}")?; // the empty table
+/// ```
+pub fn from_json_text(alloc: Global, text: &str) -> Result<PortableRegistry, JsonTextError>
+    ensures ok { IfOk result (TextMeans text.now) }
+    ensures err { IfErr result (IsErrorOf text.now) }
+{
+    let mut scratch = Scratch::new(alloc);
+    match read_whole(alloc, text, &mut scratch)? {
+        Some(table) => Ok(table),
+        None => Err(JsonTextError::Shape),
+    }
+}
