@@ -1,3 +1,4 @@
+mod ByTypes
 pub mod Bounds
 pub mod Counts
 pub mod Decoded

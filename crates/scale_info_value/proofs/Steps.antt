@@ -16,8 +16,9 @@ use Rattle.scale_info_value.specs.ValueDefinitions.{Part, fields_of, primitive, 
 use Rattle.scale_info_primitives.specs.declared.primitive.TypeDefPrimitive.{TypeDefPrimitive}
 use Rattle.scale_info_value.specs.Readings.{type_at, value_within, compact_within}
 use Rattle.scale_info_value.specs.Readings.{definition_within, fields_within}
-use Rattle.scale_info_value.specs.Readings.{compact_definition_within, by_type, compact_by_type}
+use Rattle.scale_info_value.specs.Readings.{compact_definition_within, compact_by_type}
 use Rattle.scale_info_value.specs.Readings.{value_by_type, part_within, variant_within}
+use Rattle.scale_info_value.proofs.ByTypes.{by_type, values_by_type, compacts_by_type}
 
 -- where no level is left, a value is too deep, and so is a compact integer
 pub nothing_left :
@@ -106,8 +107,9 @@ pub type_known :
     → (value_within left table id input ≡ definition_within left table d input)
     × (compact_within left table id input ≡ compact_definition_within left table d input)
 type_known left table id input d h e = (
-  value_level left table id input h ∙ by_definition value_by (part_of left table) (type_at table id) d input e,
-  compact_level left table id input h
+  value_level left table id input h ∙ values_by_type (part_of left table) (type_at table id) input
+      ∙ by_definition value_by (part_of left table) (type_at table id) d input e,
+  compact_level left table id input h ∙ compacts_by_type (compact_within (left - 1) table) (type_at table id) input
       ∙ by_definition compact_by (compact_within (left - 1) table) (type_at table id) d input e,
 )
 

@@ -1,8 +1,7 @@
 -- What comes of decoding a value by a table.
 use Rattle.std.specs.Prelude.{ℕ, zero, suc, ◌-◌, List, Option, Some, None, option_map, slice_get}
 use Rattle.std.specs.Prelude.{map}
-use Rattle.scale_info_types.specs.Portable.{Id, Text, Field, Variant, TypeDef, Description}
-use Rattle.scale_info_types.specs.declared.ty.TypeDef.{TypeDef as AnyTypeDef}
+use Rattle.scale_info_types.specs.Portable.{Id, Field, Variant, TypeDef, Description}
 use Rattle.scale_info_types.specs.Shapes.{map_definition, map_field, map_variant}
 use Rattle.scale_info_tables.specs.declared.portable.PortableRegistry.{PortableRegistry}
 use Rattle.scale_info_value.specs.declared.value.Dyn.{Dyn}
@@ -15,17 +14,11 @@ use Rattle.scale_info_value.specs.ValueDefinitions.{value_by, compact_by}
 abbrev pub type_at : PortableRegistry → ℕ → Option Description
 type_at table id = option_map (λ entry. entry.ty) (slice_get table.types id)
 
--- what comes of the description of a type, where `part` is what an id in it stands for, and
--- `decode` goes by its definition
-abbrev pub by_type : {A X : Type 0}
-    → (AnyTypeDef (Unit {0}) X Text → Decoder A) → (ℕ → X) → Option Description → Decoder A
-by_type decode part None input = failed no_such_type
-by_type decode part (Some d) input =
-    decode (map_definition {G = Unit {0}} (λ r. part r.id) (λ t. t) d.type_def) input
-
 -- a compact integer by the description of a type, where `read` decodes one by an id
 abbrev pub compact_by_type : (ℕ → Decoder ℕ) → Option Description → Decoder ℕ
-compact_by_type read type input = by_type compact_by read type input
+compact_by_type read None input = failed no_such_type
+compact_by_type read (Some d) input =
+    compact_by (map_definition {G = Unit {0}} (λ r. read r.id) (λ t. t) d.type_def) input
 
 -- a compact integer by an id, where that many levels are left
 unfoldable pub compact_within : ℕ → PortableRegistry → ℕ → Decoder ℕ
@@ -35,7 +28,9 @@ compact_within (suc left) table id input =
 
 -- a value by the description of its type, where `part` decodes by an id
 abbrev pub value_by_type : (ℕ → Part) → Option Description → Decoder Dyn
-value_by_type part type input = by_type value_by part type input
+value_by_type part None input = failed no_such_type
+value_by_type part (Some d) input =
+    value_by (map_definition {G = Unit {0}} (λ r. part r.id) (λ t. t) d.type_def) input
 
 -- A value by an id, where that many levels are left. Its parts are one level deeper; the type of a
 -- compact integer is as deep as the integer itself.
