@@ -1,5 +1,5 @@
-//! The calls by their names: those of a line as it stands, and those of a word, which take the rest of
-//! the line.
+//! The calls by their names: those of a line as it stands, and those of its first word, which take
+//! the rest of the line.
 //!
 //! A table for each library: the proof of a search takes long where a table is long.
 use crate::{passes, runs, values};
