@@ -40,16 +40,19 @@ tutorial_description name definition =
       docs = [];
     })
 
+-- a struct of the module `tutorial` with this name and fields
+abbrev pub struct_description :
+    List ℕ → List (Field (Unit {0}) Term (List ℕ)) → Option MetaContent
+struct_description name fields =
+    tutorial_description name (def.Composite (record { fields = fields }))
+
 -- `struct Point { x: u32, y: u32 }`
 abbrev pub point_description : Option MetaContent
 point_description =
-    tutorial_description (codes "Point")
-    (def.Composite (record {
-      fields =
-          source_field (codes "x") (primitive_term (codes "u32")) (codes "u32")
-          ∷ source_field (codes "y") (primitive_term (codes "u32")) (codes "u32")
-          ∷ [];
-    }))
+    struct_description (codes "Point")
+    (source_field (codes "x") (primitive_term (codes "u32")) (codes "u32")
+    ∷ source_field (codes "y") (primitive_term (codes "u32")) (codes "u32")
+    ∷ [])
 
 -- `enum Shape { Empty, Circle { center: Point, radius: u32 } }`
 abbrev pub shape_description : Option MetaContent
@@ -68,10 +71,7 @@ shape_description =
 -- `struct Tree { shape: Shape, branches: Vec<Tree> }`
 abbrev pub tree_description : Option MetaContent
 tree_description =
-    tutorial_description (codes "Tree")
-    (def.Composite (record {
-      fields =
-          source_field (codes "shape") shape_term (codes "Shape")
-          ∷ source_field (codes "branches") (slice_term tree_term) (codes "Vec<Tree>")
-          ∷ [];
-    }))
+    struct_description (codes "Tree")
+    (source_field (codes "shape") shape_term (codes "Shape")
+    ∷ source_field (codes "branches") (slice_term tree_term) (codes "Vec<Tree>")
+    ∷ [])
