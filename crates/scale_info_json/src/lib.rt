@@ -19,3 +19,4 @@ mod ty;
 pub use error::JsonError;
 pub use portable::{append_json, from_json, to_json};
 pub use tree::Json;
+pub use ty::primitive_named;

@@ -279,8 +279,8 @@ impl Object for TypeDefMap<PortableForm> {
     ghost law = { map_law };
 }
 
-/// The primitive with a name; None where no primitive has it.
-fn primitive_named(name: &str) -> Option<TypeDefPrimitive>
+/// The primitive with a name, as `u8`; None where no primitive has it.
+pub fn primitive_named(name: &str) -> Option<TypeDefPrimitive>
     ensures some { IfSome result (λ p. name.now ≡ primitive_name p) }
     ensures none { IfNone result (IsMeaningless (λ p. name.now ≡ primitive_name p)) }
 {

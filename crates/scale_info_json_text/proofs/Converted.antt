@@ -14,6 +14,7 @@ abbrev pub held : {A : Type 0} → A → Option A → A
 held d None = d
 held d (Some a) = a
 
+-- where an option is converted, the rest stays
 found :
     {B : Type 0} (r s : List Token) (x : Option B) (b : B)
     → option_map {U = B × List Token} (λ y. (y, r)) x ≡ Some (b, s) → (r ≡ s) × (x ≡ Some b)
@@ -29,12 +30,14 @@ converted_some f None b r e = absurd cc
 converted_some f (Some p) b r e =
     let both = found p.1 r (f p.0) b e in (p.0, ap (λ s. Some (p.0, s)) both.0, both.1)
 
+-- where an option is not converted, it holds nothing
 refused :
     {B : Type 0} (r : List Token) (x : Option B)
     → option_map {U = B × List Token} (λ y. (y, r)) x ≡ None → x ≡ None
 refused r None e = refl
 refused r (Some y) e = absurd cc
 
+-- converting and then wrapping is wrapping and then converting
 twice :
     {A B : Type 0} (g : A → B) (r : List Token) (x : Option A)
     → option_map (λ b. (b, r)) (option_map g x) ≡ parse_map g (option_map (λ a. (a, r)) x)
@@ -56,18 +59,21 @@ pub converted-object :
 converted-object None = refl
 converted-object (Some p) = twice object p.1 (of_members p.0 no_members)
 
+-- an item that is converted stands in front of the converted others
 with_item :
     (j : json.Json) (d : Data) → of_json j ≡ Some d → (o : Option (json.Items × List Token))
     → converted of_items (parse_map (json.item j) o) ≡ parse_map (item d) (converted of_items o)
 with_item j d e None = refl
 with_item j d e (Some p) = rw e (twice (item d) p.1 (of_items p.0))
 
+-- where an item is not converted, the items are not
 without_item :
     (j : json.Json) → of_json j ≡ None → (o : Option (json.Items × List Token))
     → converted of_items (parse_map (json.item j) o) ≡ None
 without_item j e None = refl
 without_item j e (Some p) = rw e
 
+-- a member that is converted is put into the map
 with_member :
     (k : List ℕ) (j : json.Json) (d : Data) (old : Members) → of_json j ≡ Some d
     → (o : Option (json.Members × List Token))
@@ -76,6 +82,7 @@ with_member :
 with_member k j d old e None = refl
 with_member k j d old e (Some p) = rw e
 
+-- where a member is not converted, the members are not
 without_member :
     (k : List ℕ) (j : json.Json) (old : Members) → of_json j ≡ None
     → (o : Option (json.Members × List Token))
@@ -94,6 +101,7 @@ module _ (p : Parse json.Json) where
       let j = converted_some of_json (p ts) d r e in
       ap (converted of_items) (items_more p n ts r j.0 some going j.1) ∙ with_item j.0 d j.2 _
 
+  -- where no item is converted, the items are not
   no_item :
       (more : Parse json.Items) (o : Option (json.Json × List Token)) → converted of_json o ≡ None
       → converted of_items (option_and_then (λ q. parse_map (json.item q.0) (more q.1)) o) ≡ None
@@ -128,6 +136,7 @@ module _ (p : Parse json.Json) where
         ap (converted (λ ms. of_members ms old)) (members_more p n k ts s r j.0 some key j.1)
         ∙ with_member k j.0 d old j.2 _
 
+    -- where no member is converted, the members are not
     no_member :
         (k : List ℕ) (more : Parse json.Members) (o : Option (json.Json × List Token))
         → converted of_json o ≡ None

@@ -17,9 +17,11 @@ use Rattle.scale_info_json_text.specs.declared.definition.FoundDefinition.TheVar
 use Rattle.scale_info_json_text.specs.Definitions.{IsUnknown, IsOne, AreRefused, HoldsDefinition}
 use Rattle.scale_info_json_text.specs.Readings.{IsMeant}
 
+-- keys that compare as equal are equal
 equal_keys : (k l : List ℕ) → slice_cmp nat_cmp k l ≡ Equal → k ≡ l
 equal_keys k l e = (bytes_eq-Decides k l).0 (sym (is_eq-slice_cmp k l) ∙ ap is_eq e)
 
+-- a map with one more member is not empty, by how the keys compare
 some_at :
     (o : Ordering) (k l : List ℕ) (d e : Data) (rest : Members)
     → match_ordering o (member k d (member l e rest)) (member l d rest) (member l e (put k d rest)) ≡ no_members → ⊥
@@ -27,10 +29,12 @@ some_at Less k l d e rest h = absurd cc
 some_at Equal k l d e rest h = absurd cc
 some_at Greater k l d e rest h = absurd cc
 
+-- a map with one more member is not empty
 put_some : (k : List ℕ) (d : Data) (ms : Members) → put k d ms ≡ no_members → ⊥
 put_some k d no_members h = absurd cc
 put_some k d (member l e rest) h = some_at (slice_cmp nat_cmp k l) k l d e rest h
 
+-- a map with one more member is refused, by how the keys compare
 refused_at :
     (o : Ordering) (k l : List ℕ) (d e : Data) (rest : Members) → slice_cmp nat_cmp k l ≡ o
     → (rest ≡ no_members → k ≡ l → IsUnknown l)
@@ -81,6 +85,7 @@ pub put_first :
 put_first k d def ms none m =
     subst (λ x. IsOne k def (put k d x)) (sym none) (record { tree = d; only = refl; means = m })
 
+-- a key put again takes the new tree
 put_itself :
     (k : List ℕ) (d e : Data) → put k d (member k e no_members) ≡ member k d no_members
 put_itself k d e = rw (tied_itself nat_list_cmp_total k)
@@ -95,6 +100,7 @@ put_again k l d old def ms h same m = record {
   means = m;
 }
 
+-- an object with one key means what the key and its tree mean
 one_meant :
     (k : List ℕ) (d : Data) (v : Option portable.TypeDef) → IsMeant (MeansUnder k d) v
     → IsMeant (MeansTypeDef (object (member k d no_members))) v
@@ -114,6 +120,7 @@ pub one_is_meant :
 one_is_meant k v ms h =
     subst (λ x. IsMeant (MeansTypeDef (object x)) v) (sym h.only) (one_meant k h.tree v h.means)
 
+-- an object with no key means no definition
 no_key : (ms : Members) → ms ≡ no_members → IsMeaningless (MeansTypeDef (object ms))
 no_key ms e = record {
   none = λ v t.
@@ -122,6 +129,7 @@ no_key ms e = record {
       absurd cc;
 }
 
+-- an object whose members are refused means no definition
 refused_keys : (ms : Members) → AreRefused ms → IsMeaningless (MeansTypeDef (object ms))
 refused_keys ms r = record {
   none = λ v t.
@@ -139,6 +147,7 @@ none_is_meant (found.One k v) ms (inl e) h = absurd cc
 none_is_meant (found.One k v) ms (inr e) h = absurd cc
 none_is_meant found.Refused ms e h = refused_keys ms h
 
+-- under its key only a list of ids is a tuple
 tuple_under : (t : Data) (v : portable.TypeDef) → IsMeaningless (MeansList MeansId t) → MeansUnder (codes "tuple") t v → ⊥
 tuple_under t v n (MeansUnder.tuple m) = n.none _ m
 

@@ -56,6 +56,7 @@ fits_number s tree f =
     let same : tree ≡ number n.0 = cc in
     (n.0, same, n.1)
 
+-- a tree is of the kind that its first token begins
 fits_kind : (k : Token) (tree : Data) → Fits (token_of k) tree → begins_kind k ≡ Some (kind_of tree)
 fits_kind token.BeginObject tree f = ap (λ d. Some (kind_of d)) (sym f.1)
 fits_kind token.EndObject tree f = absurd f
@@ -68,6 +69,7 @@ fits_kind (token.Bool b) tree f = ap (λ d. Some (kind_of d)) (sym f)
 fits_kind token.Null tree f = ap (λ d. Some (kind_of d)) (sym f)
 fits_kind token.Bad tree f = absurd f
 
+-- a token that begins a string is one
 string_token : (k : Token) → begins_kind k ≡ Some string_kind → (x : Bor (List ℕ)) × (k ≡ token.String x)
 string_token token.BeginObject e = absurd cc
 string_token token.EndObject e = absurd cc
@@ -80,6 +82,7 @@ string_token (token.Bool b) e = absurd cc
 string_token token.Null e = absurd cc
 string_token token.Bad e = absurd cc
 
+-- a token that begins a number is one
 number_token : (k : Token) → begins_kind k ≡ Some number_kind → (x : Bor (List ℕ)) × (k ≡ token.Number x)
 number_token token.BeginObject e = absurd cc
 number_token token.EndObject e = absurd cc
@@ -92,6 +95,7 @@ number_token (token.Bool b) e = absurd cc
 number_token token.Null e = absurd cc
 number_token token.Bad e = absurd cc
 
+-- a token that begins null is null
 null_token : (k : Token) → begins_kind k ≡ Some null_kind → k ≡ token.Null
 null_token token.BeginObject e = absurd cc
 null_token token.EndObject e = absurd cc
@@ -104,6 +108,7 @@ null_token (token.Bool b) e = absurd cc
 null_token token.Null e = refl
 null_token token.Bad e = absurd cc
 
+-- a token that begins an array is its bracket
 array_token : (k : Token) → begins_kind k ≡ Some array_kind → k ≡ token.BeginArray
 array_token token.BeginObject e = absurd cc
 array_token token.EndObject e = absurd cc
@@ -116,6 +121,7 @@ array_token (token.Bool b) e = absurd cc
 array_token token.Null e = absurd cc
 array_token token.Bad e = absurd cc
 
+-- a token that begins an object is its brace
 object_token : (k : Token) → begins_kind k ≡ Some object_kind → k ≡ token.BeginObject
 object_token token.BeginObject e = refl
 object_token token.EndObject e = absurd cc
@@ -202,6 +208,7 @@ module _ (depth : ℕ) (k : Token) (ts r : List spec.Token) where
       → Reads (λ tree. IsMeant (MeansOrNull M tree) (Some (Some v))) depth (token_of k ∷ ts) r
   not_null_read M v h = record { tree = h.tree; begins = h.begins; is = h.is }
 
+  -- a tree that is not null and means nothing means no option
   or_null : {A : Type 0} (M : Data → A → Type 0) (tree : Data) (v : Option A) → (tree ≡ null → ⊥) → IsMeaningless (M tree) → MeansOrNull M tree v → ⊥
   or_null M tree None none n m = none m
   or_null M tree (Some v) none n m = n.none v m
@@ -217,6 +224,7 @@ module _ (depth : ℕ) (k : Token) (ts r : List spec.Token) where
             or_null M tree v (λ e. none (null_token k (fits_kind k tree f ∙ ap (λ d. Some (kind_of d)) e))) p m;
       }) h
 
+-- a number that is seen as an integer is that integer
 as_unsigned : (n : Num) (v : ℕ) → as_u64 n ≡ Some v → n ≡ unsigned v
 as_unsigned (unsigned m) v e = let same : m ≡ v = cc in ap unsigned same
 as_unsigned (negative z) v e = absurd cc
@@ -273,6 +281,7 @@ module _ (limit depth : ℕ) (k : Token) (s : Bor (List ℕ)) (ts : List spec.To
   number_other e = number_none None e (λ w same below. absurd cc)
 
 module _ (depth : ℕ) (k : Token) (ts r : List spec.Token) where
+  -- a string means the primitive that it names, if there is one
   primitive_of :
       (name : List ℕ) (found : Option TypeDefPrimitive) → IfSome found (λ p. name ≡ primitive_name p)
       → IfNone found (IsMeaningless (λ p. name ≡ primitive_name p)) → IsMeant (MeansPrimitive (string name)) found

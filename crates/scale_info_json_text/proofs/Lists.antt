@@ -17,6 +17,7 @@ module _ {A : Type 0} (M : Data → A → Type 0) where
   pub no_trees : (vs : List A) → vs ≡ [] → IsMeant (MeansEach M []) (Some vs)
   no_trees vs e = subst (λ x. MeansEach M [] x) (sym e) tt
 
+  -- one more tree that means one more value
   each_last :
       (ds : List Data) (d : Data) (vs : List A) (v : A) → MeansEach M ds vs → M d v
       → MeansEach M (ds ++ d ∷ []) (vs ++ v ∷ [])
@@ -25,6 +26,7 @@ module _ {A : Type 0} (M : Data → A → Type 0) where
   each_last (e ∷ ds) d [] v p q = absurd p
   each_last (e ∷ ds) d (w ∷ vs) v p q = (p.0, each_last ds d vs v p.1 q)
 
+  -- without the last tree the others mean the values before
   each_front :
       (ds : List Data) (d : Data) (vs : List A) → MeansEach M (ds ++ d ∷ []) vs
       → (ws : List A) × (w : A) × MeansEach M ds ws × M d w
@@ -34,6 +36,7 @@ module _ {A : Type 0} (M : Data → A → Type 0) where
   each_front (e ∷ ds) d (v ∷ vs) p =
       let r = each_front ds d vs p.1 in (v ∷ r.0, r.1, (p.0, r.2), r.3)
 
+  -- one more tree means one more value, if both mean one
   with_last_meant :
       (ds : List Data) (d : Data) (values : Option (List A)) (found : Option A)
       → IsMeant (MeansEach M ds) values → IsMeant (M d) found
@@ -50,6 +53,7 @@ module _ {A : Type 0} (M : Data → A → Type 0) where
   one_more_meant ds d values found new p q e =
       subst (λ x. IsMeant (MeansEach M (ds ++ d ∷ [])) x) (sym e) (with_last_meant ds d values found p q)
 
+  -- an array means the values of its trees
   list_meant : (ds : List Data) (found : Option (List A)) → IsMeant (MeansEach M ds) found → IsMeant (MeansList M (array (items_of ds))) found
   list_meant ds None p = record {
     none = λ vs m.

@@ -145,12 +145,14 @@ pub same_first :
     → ◌≡◌ {A = Option (A × List Token)} (Some (x, s)) (Some (y, r)) → y ≡ x
 same_first x y s r e = sym (ap (λ p. p.0) (ap (held (x, s)) e))
 
+-- what was wrapped is a wrapped value
 mapped :
     {A : Type 0} (f : A → Data) (o : Option (A × List Token)) (d : Data) (r : List Token)
     → parse_map f o ≡ Some (d, r) → (x : A) × (d ≡ f x)
 mapped f None d r e = absurd cc
 mapped f (Some p) d r e = (p.0, same_first (f p.0) d p.1 r e)
 
+-- the text of a number gives the number
 number_first :
     (s : List ℕ) (ts r : List Token) (d : Data)
     → converted of_json (Some (json.number s, ts)) ≡ Some (d, r)
@@ -160,6 +162,7 @@ number_first s ts r d h =
     let same : j.0 ≡ json.number s = same_first (json.number s) j.0 ts r j.1 in
     subst (λ a. of_json a ≡ Some d) same j.2
 
+-- an array begins with its bracket
 array_first :
     (depth : ℕ) (ts r : List Token) (d : Data)
     → converted of_json (value depth (Token.begin_array ∷ ts)) ≡ Some (d, r)
@@ -170,6 +173,7 @@ array_first (suc n) ts r d h =
     let all = items (value n) (length ts) ts in
     mapped array (converted of_items all) d r (sym (converted-array all) ∙ h)
 
+-- an object begins with its brace
 object_first :
     (depth : ℕ) (ts r : List Token) (d : Data)
     → converted of_json (value depth (Token.begin_object ∷ ts)) ≡ Some (d, r)
@@ -242,21 +246,25 @@ abbrev pub before : List Data → Items → Items
 before [] rest = rest
 before (d ∷ ds) rest = item d (before ds rest)
 
+-- one more tree behind the trees in front
 before_last :
     (ds : List Data) (d : Data) (rest : Items) → before ds (item d rest) ≡ before (ds ++ d ∷ []) rest
 before_last [] d rest = refl
 before_last (e ∷ ds) d rest = ap (item e) (before_last ds d rest)
 
+-- trees in front of none are the list
 before_nothing : (ds : List Data) → before ds no_items ≡ items_of ds
 before_nothing [] = refl
 before_nothing (d ∷ ds) = ap (item d) (before_nothing ds)
 
+-- one more tree behind the trees in front, where the rest is read
 one_more :
     (ds : List Data) (d : Data) (o : Option (Items × List Token))
     → parse_map (before ds) (parse_map (item d) o) ≡ parse_map (before (ds ++ d ∷ [])) o
 one_more ds d None = refl
 one_more ds d (Some p) = ap (λ x. Some (x, p.1)) (before_last ds d p.0)
 
+-- no trees in front change nothing
 none_before : (o : Option (Items × List Token)) → o ≡ parse_map (before []) o
 none_before None = refl
 none_before (Some p) = refl
