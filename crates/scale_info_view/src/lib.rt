@@ -1,8 +1,8 @@
 //! Tables of types that stay bytes.
 //!
-//! A table of a chain has some hundred descriptions, and a program that reads three values by it
-//! needs some ten of them. [`view::TableView`] finds where the entries are in one pass over the
-//! bytes, and decodes an entry when it is asked for.
+//! A program that reads a few values by a table needs few of its descriptions. [`view::TableView`]
+//! finds where the entries are in one pass over the bytes, and decodes an entry when it is asked
+//! for.
 #![tactic(auto)]
 
 mod closed;

@@ -150,7 +150,7 @@ impl<'i> TableView<'i> {
     /// description is made, and nothing is allocated.
     ///
     /// ```text
-    /// view.find_by_path(&["sp_core", "crypto", "AccountId32"])  // Some(0) in many a chain's table
+    /// view.find_by_path(&["core", "AccountId"])  // the first entry that is a `core::AccountId`
     /// ```
     pub fn find_by_path(&self, path: &[&str]) -> Option<u32>
         ensures some { IfSome result
