@@ -1,0 +1,3 @@
+pub mod IntegerBytes
+pub mod Inverse
+pub mod ValueKinds
