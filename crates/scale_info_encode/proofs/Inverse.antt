@@ -29,6 +29,11 @@ pub rest_bytes : (b c : List ℕ) → AllByRecursion IsByte (b ++ c) → AllByRe
 rest_bytes [] c all = all
 rest_bytes (n ∷ b) c all = rest_bytes b c all.1
 
+-- bytes are made of bytes
+pub first_bytes : (b c : List ℕ) → AllByRecursion IsByte (b ++ c) → AllByRecursion IsByte b
+first_bytes [] c all = tt
+first_bytes (n ∷ b) c all = (all.0, first_bytes b c all.1)
+
 -- nothing is read, and nothing is written
 pub nothing : {A : Type 0} (fails : Failure) (why : Refusal) → IsInverse {A = A} (λ input. failed fails) (λ value. refused why)
 nothing fails why = record {
@@ -36,8 +41,21 @@ nothing fails why = record {
   forth = λ input value rest all e. cc;
 }
 
+-- where a decoder reads as another does, it has the same inverse
+pub read_alike :
+    {A : Type 0} (read other : Decoder A) (write : Writer A) → ((input : List ℕ) → read input ≡ other input)
+    → IsInverse read write → IsInverse other write
+read_alike read other write same inverse = subst (λ r. IsInverse r write) (λ i input. same input i) inverse
+
+-- an outcome that is mapped twice
+pub twice :
+    {A B C : Type 0} (f : A → B) (g : B → C) (o : Outcome A)
+    → outcome_map g (outcome_map f o) ≡ outcome_map (λ x. g (f x)) o
+twice f g (decoded x rest) = refl
+twice f g (failed why) = refl
+
 -- what a mapped outcome came from
-unmapped :
+pub unmapped :
     {A B : Type 0} (f : A → B) (o : Outcome A) (value : B) (rest : List ℕ) → outcome_map f o ≡ decoded value rest
     → (x : A) × (o ≡ decoded x rest) × (f x ≡ value)
 unmapped f (decoded x r) value rest e =
@@ -46,29 +64,52 @@ unmapped f (decoded x r) value rest e =
     (x, ap (decoded x) left, same)
 unmapped f (failed why) value rest e = cc
 
--- values of one kind, by what they hold
-pub of_kind :
-    {A : Type 0} (make : A → Dyn) (kind : Dyn-F Dyn → Option A) (read : Decoder A) (write : Writer A)
-    → IsKind make kind → IsInverse read write → IsInverse (λ input. outcome_map make (read input)) (held kind write)
-of_kind {A = A} make kind read write k inverse = record {
+-- Values of one kind, by what they hold: all that is read is of the kind, and reading and writing are
+-- inverse to one another at what the values hold.
+pub by_kind :
+    {A : Type 0} (make : A → Dyn) (kind : Dyn-F Dyn → Option A) (read : Decoder Dyn) (write : Writer A)
+    → IsKind make kind
+    → ((input : List ℕ) (value : Dyn) (rest : List ℕ) → read input ≡ decoded value rest → (x : A) × (value ≡ make x))
+    → ((x : A) (bytes rest : List ℕ) → write x ≡ written bytes → read (bytes ++ rest) ≡ decoded (make x) rest)
+    → ((input : List ℕ) (x : A) (rest : List ℕ) → AllByRecursion IsByte input → read input ≡ decoded (make x) rest
+    → HasPrefix (λ bytes. write x ≡ written bytes) input rest)
+    → IsInverse read (held kind write)
+by_kind {A = A} make kind read write k gives back forth = record {
   back = λ value bytes rest e. by_found value bytes rest (kind (out-Dyn value)) refl e;
   forth = λ input value rest all e.
-      let p = unmapped make (read input) value rest e in
-      let q = inverse.forth input p.0 rest all p.1 in
+      let p = gives input value rest e in
+      let q = forth input p.0 rest all (e ∙ ap (λ v. decoded v rest) p.1) in
       let whole : held kind write value ≡ written q.encoding =
-      ap (λ v. held kind write v) (sym p.2) ∙ ap (if_found write) (k.found p.0) ∙ q.encodes in
+      ap (held kind write) p.1 ∙ ap (if_found write) (k.found p.0) ∙ q.encodes in
       record { encoding = q.encoding; encodes = whole; parts = q.parts };
 }
   where
     by_found :
         (value : Dyn) (bytes rest : List ℕ) (o : Option A) → kind (out-Dyn value) ≡ o → if_found write o ≡ written bytes
-        → outcome_map make (read (bytes ++ rest)) ≡ decoded value rest
+        → read (bytes ++ rest) ≡ decoded value rest
     by_found value bytes rest None is e = cc
     by_found value bytes rest (Some x) is e =
-        ap (outcome_map make) (inverse.back x bytes rest e) ∙ ap (λ v. decoded v rest) (sym (k.made value x is))
+        back x bytes rest e ∙ ap (λ v. decoded v rest) (sym (k.made value x is))
+
+-- values of one kind that are made of what is read
+pub of_kind :
+    {A : Type 0} (make : A → Dyn) (kind : Dyn-F Dyn → Option A) (read : Decoder A) (write : Writer A)
+    → IsKind make kind → IsInverse read write → IsInverse (λ input. outcome_map make (read input)) (held kind write)
+of_kind {A = A} make kind read write k inverse =
+    by_kind make kind (λ input. outcome_map make (read input)) write k
+    (λ input value rest e. let p = unmapped make (read input) value rest e in (p.0, sym p.2))
+    (λ x bytes rest e. ap (outcome_map make) (inverse.back x bytes rest e))
+    (λ input x rest all e.
+    let p = unmapped make (read input) (make x) rest e in
+    let same : p.0 ≡ x = injective p.0 x p.2 in
+    inverse.forth input x rest all (p.1 ∙ ap (λ y. decoded y rest) same))
+  where
+    injective : (x y : A) → make x ≡ make y → x ≡ y
+    injective x y e =
+        let h : Some x ≡ Some y = sym (k.found x) ∙ ap (λ v. kind (out-Dyn v)) e ∙ k.found y in cc
 
 -- what two values, one after the other, are made of
-parted :
+pub parted :
     (first second : Written) (bytes : List ℕ) → followed_by first second ≡ written bytes
     → (b : List ℕ) × (c : List ℕ) × (first ≡ written b) × (second ≡ written c) × (bytes ≡ b ++ c)
 parted (written b) (written c) bytes e = (b, c, refl, refl, cc)
@@ -76,7 +117,7 @@ parted (written b) (refused why) bytes e = cc
 parted (refused why) second bytes e = cc
 
 -- what decoders one after the other gave
-sequenced :
+pub sequenced :
     {A B : Type 0} (o : Outcome A) (next : A → Decoder B) (value : B) (rest : List ℕ)
     → and_then o next ≡ decoded value rest
     → (x : A) × (r : List ℕ) × (o ≡ decoded x r) × (next x r ≡ decoded value rest)
