@@ -1,6 +1,8 @@
 pub mod Compacts
+pub mod Definitions
 pub mod IntegerBytes
 pub mod Inverse
+pub mod Levels
 pub mod NamedParts
 pub mod Primitives
 pub mod Texts
