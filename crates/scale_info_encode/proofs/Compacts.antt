@@ -125,7 +125,7 @@ width_is (suc more) least n width low high fits needs =
         let large = more refl in absurd (omega arith)
 
 -- the test for less fails from the limit on
-more_is : (n m : ℕ) → m ≤ n → nat_lt n m ≡ false
+pub more_is : (n m : ℕ) → m ≤ n → nat_lt n m ≡ false
 more_is n m h = grind (arith, common_steps)
 
 -- one byte
@@ -292,7 +292,7 @@ many_forth high n tail rest all e =
     by_test false e = cc
 
 -- powers of 256 rise
-power_rises : (j k : ℕ) → j ≤ k → 256 ^ j ≤ 256 ^ k
+pub power_rises : (j k : ℕ) → j ≤ k → 256 ^ j ≤ 256 ^ k
 power_rises j k h = pow-le-pow_right (omega arith) h
 
 -- a compact integer was read from its bytes

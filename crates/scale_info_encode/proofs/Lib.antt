@@ -1,10 +1,13 @@
+pub mod Appending
 pub mod Compacts
 pub mod Definitions
 pub mod IntegerBytes
 pub mod Inverse
 pub mod Levels
+pub mod LowBytes
 pub mod NamedParts
 pub mod Primitives
+pub mod Steps
 pub mod Texts
 pub mod ValueKinds
 pub mod Widths

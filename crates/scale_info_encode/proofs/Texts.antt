@@ -60,6 +60,11 @@ encodes_count n b (in_two h k e) = count_of n b (omega arith) (compacts.in_two n
 encodes_count n b (in_four h k e) = count_of n b (omega arith) (compacts.in_four n h k ∙ sym e)
 encodes_count n b (in_five h k e) = count_of n b k (in_five_bytes n h k ∙ sym e)
 
+-- and so the bytes of the integer
+pub encodes_compact : (n : ℕ) (b : List ℕ) → EncodesCompact n b → written (compact_bytes n) ≡ written b
+encodes_compact n b e =
+    let f = fitting (nat_lt n (2 ^ 32)) (compact_bytes n) b (encodes_count n b e) in ap written f.1
+
 -- a text is a string of the grammar of tables
 pub text_encodes : (t b : List ℕ) → text t ≡ written b → EncodesText t b
 text_encodes t b e =

@@ -108,7 +108,7 @@ converted f g read write other inverse forth back = record {
 }
 
 -- the bytes of a width have its bits
-bytes_are_bits : (w : Width) → 256 ^ byte_len w ≡ 2 ^ bits w
+pub bytes_are_bits : (w : Width) → 256 ^ byte_len w ≡ 2 ^ bits w
 bytes_are_bits w8 = refl
 bytes_are_bits w16 = refl
 bytes_are_bits w32 = refl
@@ -116,7 +116,7 @@ bytes_are_bits w64 = refl
 bytes_are_bits w128 = refl
 
 -- half of them are for integers below 0
-half_below : (w : Width) → 2 * 2 ^ hbits w ≡ 256 ^ byte_len w
+pub half_below : (w : Width) → 2 * 2 ^ hbits w ≡ 256 ^ byte_len w
 half_below w8 = refl
 half_below w16 = refl
 half_below w32 = refl
@@ -129,7 +129,7 @@ unsigned_read_back w =
     of_kind dyn.Unsigned unsigned_in (integer (byte_len w)) (unsigned w) unsigned_integers (integers (byte_len w))
 
 -- the test for integers of a width
-fits_of : (w : Width) (z : ℤ) → is_signed_of w z ≡ true → FitsSigned w z
+pub fits_of : (w : Width) (z : ℤ) → is_signed_of w z ≡ true → FitsSigned w z
 fits_of w (pos n) e =
     let half = half_below w in
     let less : 2 * n < 256 ^ byte_len w = less_of (2 * n) (256 ^ byte_len w) e in
@@ -154,12 +154,12 @@ fits_by w n false less more h =
     less_is (2 * (2 ^ bits w - suc n)) (256 ^ byte_len w) (omega arith)
 
 -- passes for those that it has
-fits_is : (w : Width) (n : ℕ) → n < 256 ^ byte_len w → is_signed_of w (cast_signed w n) ≡ true
+pub fits_is : (w : Width) (n : ℕ) → n < 256 ^ byte_len w → is_signed_of w (cast_signed w n) ≡ true
 fits_is w n h =
     fits_by w n (nat_lt n (2 ^ hbits w)) (less_of n (2 ^ hbits w)) (not_less n (2 ^ hbits w)) h
 
 -- an integer of a width in two's complement fits its bytes
-unsigned_fits : (w : Width) (z : ℤ) → FitsSigned w z → cast_unsigned w z < 256 ^ byte_len w
+pub unsigned_fits : (w : Width) (z : ℤ) → FitsSigned w z → cast_unsigned w z < 256 ^ byte_len w
 unsigned_fits w (pos n) f = let half = half_below w in let less : n < 2 ^ hbits w = f.sfits in omega arith
 unsigned_fits w (negsuc n) f =
     let half = half_below w in

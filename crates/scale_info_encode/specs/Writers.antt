@@ -1,6 +1,7 @@
 -- What comes of encoding a value.
 use Rattle.std.specs.Prelude.{◌≡◌, ℕ, List, [], ◌∷◌, ◌++◌}
 use Rattle.std.specs.Prelude.{Bool, if◌then◌else◌}
+use Rattle.scale_info_bytes.specs.Encodings.{AppendsEncoding}
 use Rattle.scale_info_encode.specs.declared.error.Refusal.{Refusal}
 use Rattle.scale_info_encode.specs.declared.error.Refusal.TheVariants as refusal
 use Rattle.scale_info_encode.specs.declared.error.EncodeValueError.{EncodeValueError}
@@ -48,6 +49,10 @@ in_turn [] [] = written []
 in_turn [] (value ∷ values) = refused mismatch
 in_turn (first ∷ more) [] = refused mismatch
 in_turn (first ∷ more) (value ∷ values) = followed_by (first value) (in_turn more values)
+
+-- what was written was appended
+abbrev pub Appends : Written → List ℕ → List ℕ → Type 0
+Appends outcome old new = AppendsEncoding (λ bytes. outcome ≡ written bytes) old new
 
 -- the error is the refusal of the value; a failed allocation says nothing of the value
 abbrev pub IsErrorOf : Written → EncodeValueError → Type 0

@@ -1,12 +1,13 @@
 -- What comes of encoding a value by a table.
 use Rattle.std.specs.Prelude.{◌≡◌, ℕ, zero, suc, ◌-◌, List, Option, Some, None, map}
-use Rattle.scale_info_types.specs.Portable.{Id, Field, Variant, TypeDef, Description}
-use Rattle.scale_info_types.specs.Shapes.{map_definition, map_field, map_variant}
+use Rattle.scale_info_types.specs.Portable.{Id, Field, TypeDef, Description}
+use Rattle.scale_info_types.specs.Shapes.{map_definition, map_field}
 use Rattle.scale_info_tables.specs.declared.portable.PortableRegistry.{PortableRegistry}
 use Rattle.scale_info_value.specs.declared.value.Dyn.{Dyn}
 use Rattle.scale_info_value.specs.Readings.{type_at}
 use Rattle.scale_info_encode.specs.Writers.{Written, Writer, refused, no_such_type, too_deep}
-use Rattle.scale_info_encode.specs.DefinitionWriters.{Writers, value_by, compact_by}
+use Rattle.scale_info_encode.specs.DefinitionWriters.{Writers, value_by, compact_by, items}
+use Rattle.scale_info_encode.specs.DefinitionWriters.{members, fields, pair, pairs}
 
 -- a compact integer by the description of a type, where `write` encodes one by an id
 abbrev pub compact_by_type : (ℕ → Writer Dyn) → Option Description → Writer Dyn
@@ -66,3 +67,27 @@ abbrev pub compact_definition_within : ℕ → PortableRegistry → TypeDef → 
 compact_definition_within left table d value =
     compact_by
     (map_definition {G = Unit {0}} (λ r. compact_within (left - 1) table r.id) (λ t. t) d) value
+
+-- the values of fields
+abbrev pub fields_within :
+    ℕ → PortableRegistry → List Field → Writer (List (Option (List ℕ) × Dyn))
+fields_within left table all values =
+    fields (map (map_field {G = Unit {0}} (part_within left table) (λ t. t)) all) values
+
+-- so many values of one type
+abbrev pub items_within : ℕ → PortableRegistry → Id → ℕ → Writer (List Dyn)
+items_within left table ty n values = items n (part_within left table ty) values
+
+-- a value of each type in order
+abbrev pub members_within : ℕ → PortableRegistry → List Id → Writer (List Dyn)
+members_within left table types values = members (map (part_within left table) types) values
+
+-- a key and a value
+abbrev pub pair_within : ℕ → PortableRegistry → Id → Id → Writer Dyn
+pair_within left table key value entry =
+    pair (part_within left table key) (part_within left table value) entry
+
+-- so many keys and values
+abbrev pub pairs_within : ℕ → PortableRegistry → Id → Id → ℕ → Writer (List Dyn)
+pairs_within left table key value n entries =
+    pairs n (part_within left table key) (part_within left table value) entries

@@ -3,7 +3,7 @@ ghost use Rattle.std.specs.Prelude.{◌≡◌};
 ghost use Rattle.scale_info_encode.specs.declared.error.EncodeValueError.TheVariants as error;
 ghost use Rattle.scale_info_encode.specs.Writers.{error_of};
 
-use std::alloc::AllocError;
+use std::alloc::{AllocError, AllocFailed};
 use thiserror::Error;
 
 /// Why a value has no encoding by a type.
@@ -62,6 +62,14 @@ impl From<AllocError> for EncodeValueError {
     ghost from_gives = { λ _ e. e ≡ error.Memory };
 
     fn from(_e: AllocError) -> EncodeValueError {
+        EncodeValueError::Memory
+    }
+}
+
+impl<T: Drop> From<AllocFailed<T>> for EncodeValueError {
+    ghost from_gives = { λ _ e. e ≡ error.Memory };
+
+    fn from(_e: AllocFailed<T>) -> EncodeValueError {
         EncodeValueError::Memory
     }
 }

@@ -1,0 +1,1 @@
+//! Values encoded by the definitions of their types.
