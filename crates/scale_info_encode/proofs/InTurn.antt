@@ -1,6 +1,7 @@
 -- Writers in a row, of one kind.
-use Rattle.std.proofs.Common.{◌≡◌, ℕ, zero, suc, ◌+◌, ◌-◌, ◌<◌, ◌≤◌, List, [], ◌∷◌, length, drop, get_or, replicate}
+use Rattle.std.proofs.Common.{◌≡◌, ℕ, zero, suc, ◌+◌, ◌-◌, ◌<◌, ◌≤◌, List, [], ◌∷◌, length, take, drop, get_or, replicate}
 use Rattle.std.proofs.Common.{refl, ap, ◌∙◌, sym, arith}
+use Rattle.std.proofs.lemmas.Grind.{common_steps}
 use Rattle.scale_info_encode.specs.declared.error.Refusal.{Refusal}
 use Rattle.scale_info_encode.specs.Writers.{Written, Writer, written, refused, mismatch, followed_by, in_turn}
 
@@ -18,6 +19,14 @@ next_value n k write [] value h long is = absurd (omega arith)
 next_value n k write (v ∷ vs) value h long is =
     ap (λ ws. in_turn ws (v ∷ vs)) (take_next n k write h)
     ∙ ap (λ x. followed_by (write x) (in_turn (replicate (n - (k + 1)) write) vs)) (sym is)
+
+-- all but the first are all after the first
+pub tail_whole : {A : Type 0} (xs : List A) → take (length xs - 1) (drop 1 xs) ≡ drop 1 xs
+tail_whole [] = refl
+tail_whole (x ∷ xs) = take_whole xs (suc (length xs) - 1) (omega arith)
+  where
+    take_whole : {A : Type 0} (ys : List A) (n : ℕ) → length ys ≡ n → take n ys ≡ ys
+    take_whole ys n e = grind (arith, common_steps)
 
 -- there is no next value
 pub no_next_value :

@@ -87,6 +87,10 @@ keeps whole left old mid new s p = record {
   parts = p.parts ∙ ap (λ b. b ++ p.rest) s.parts ∙ append_assoc old s.done p.rest;
 }
 
+-- one byte was appended
+pub appended : (byte : ℕ) (old new : List ℕ) → new ≡ old ++ byte ∷ [] → Appends (written (byte ∷ [])) old new
+appended byte old new e = record { encoding = byte ∷ []; encodes = refl; parts = e }
+
 -- ---- results of calls
 
 -- what holds of what was there holds where a call failed

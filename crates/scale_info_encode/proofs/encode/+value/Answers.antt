@@ -1,13 +1,14 @@
-use Rattle.std.proofs.Common.{◌≡◌, ◌-◌, ◌+◌, ◌<◌, ◌≤◌, ◌==◌, Some, None, find, length, drop, replicate, arith, ap, sym, ◌∙◌, subst}
+use Rattle.std.proofs.Common.{◌≡◌, ◌-◌, ◌+◌, ◌<◌, ◌≤◌, ◌==◌, true, false, Some, None, find, length, drop, replicate, arith, ap, sym, ◌∙◌, subst}
 use Rattle.std.proofs.lemmas.Grind.{common_steps}
+use Rattle.std.specs.Str.{bytes_eq}
 use Rattle.std.specs.Prelude.{IfErr, OnOk, OnErr}
 use Rattle.scale_info_types.specs.declared.ty.TypeDef.TheVariants as def
 use Rattle.scale_info_encode.specs.declared.error.EncodeValueError.TheVariants as error
 use Rattle.scale_info_encode.specs.Writers.{in_turn, Appends, IsErrorOf}
 use Rattle.scale_info_encode.specs.IntegerWriters.{count}
 use Rattle.scale_info_encode.specs.Writings.{value_within, definition_within, items_within, members_within, pairs_within, fields_within}
-use Rattle.scale_info_encode.proofs.InTurn.{next_value, no_next_value, all_refused, alike}
-use Rattle.scale_info_encode.proofs.SoFar.{on_err, passed, passed_as, both_ok, both_err, both_kept, keeps, fails, goes_on, first_fails}
+use Rattle.scale_info_encode.proofs.InTurn.{next_value, no_next_value, all_refused, alike, tail_whole}
+use Rattle.scale_info_encode.proofs.SoFar.{SoFar, appended, on_err, passed, passed_as, both_ok, both_err, both_kept, keeps, fails, goes_on, first_fails}
 use Rattle.scale_info_encode.proofs.Steps.{composite_is, tuple_is, sequence_is, map_is, variant_missing, variant_misnamed, variant_named}
 use Rattle.scale_info_encode.proofs.encode.+value.Goals as goal
 
@@ -87,7 +88,10 @@ items_by-loop-preserved t c =
     next_value c.args.count c.loop.counter write c.loop.rest.now c.value-item.result (omega arith)
     c.in-len1-up.len_at_least c.value-item.is in
     let s = goes_on _ _ _ _ _ _ _ c.loop.invariant next c.in_ok-value_by.ensures.ok in
-    ?
+    subst (λ rest.
+    SoFar (in_turn (replicate c.args.count write) c.args.values.now)
+    (in_turn (replicate (c.args.count - (c.loop.counter + 1)) write) rest) c.args.out.now.items c.value_by.new.out.items)
+    (sym (tail_whole c.loop.rest.now)) s
 
 pub sequence_value-returns-in_ok-count-in-List-clause-ok : goal.sequence_value-returns-in_ok-count-in-List-clause-ok
 sequence_value-returns-in_ok-count-in-List-clause-ok t c =
@@ -125,13 +129,37 @@ map_value-returns-in_ok-count-in-List-clause-kept t c =
     c.in_ok-count-in-List.ensures.ok c.pairs.ensures.kept
 
 pub variant_value-returns-in_ok-push-in-Some-clause-ok : goal.variant_value-returns-in_ok-push-in-Some-clause-ok
-variant_value-returns-in_ok-push-in-Some-clause-ok t c = ?
+variant_value-returns-in_ok-push-in-Some-clause-ok t c =
+    let some : find (λ v. v.index == c.in-Variant.index) c.args.choice.now.variants ≡ Some c.in-Some.variant.now =
+    grind (arith, common_steps) in
+    let same : bytes_eq c.in-Some.variant.now.name c.in-Variant.name ≡ true = sym c.eq.ensures ∙ c.if-eq.true in
+    both_ok c.fields.result _ _ _ _ _ _
+    (variant_named c.args.left c.args.table.now c.args.choice.now c.args.value.now c.in-Variant.name c.in-Variant.index
+    c.in-Variant.values c.as_slice-in-Some-2.result.now c.in-Some.variant.now c.as_slice-in-Some.result.now
+    c.in-Variant.is some same c.as_slice-in-Some.ensures c.as_slice-in-Some-2.ensures)
+    (appended c.in-Variant.index _ _ c.in_ok-push-in-Some.ensures.items) c.fields.ensures.ok
 
 pub variant_value-returns-in_ok-push-in-Some-clause-err : goal.variant_value-returns-in_ok-push-in-Some-clause-err
-variant_value-returns-in_ok-push-in-Some-clause-err t c = ?
+variant_value-returns-in_ok-push-in-Some-clause-err t c =
+    let some : find (λ v. v.index == c.in-Variant.index) c.args.choice.now.variants ≡ Some c.in-Some.variant.now =
+    grind (arith, common_steps) in
+    let same : bytes_eq c.in-Some.variant.now.name c.in-Variant.name ≡ true = sym c.eq.ensures ∙ c.if-eq.true in
+    both_err c.fields.result _ _ _ _ _ c.fields.new.out.items
+    (variant_named c.args.left c.args.table.now c.args.choice.now c.args.value.now c.in-Variant.name c.in-Variant.index
+    c.in-Variant.values c.as_slice-in-Some-2.result.now c.in-Some.variant.now c.as_slice-in-Some.result.now
+    c.in-Variant.is some same c.as_slice-in-Some.ensures c.as_slice-in-Some-2.ensures)
+    (appended c.in-Variant.index _ _ c.in_ok-push-in-Some.ensures.items) c.fields.ensures.err
 
 pub variant_value-returns-in_default-variant_with_index-clause-err : goal.variant_value-returns-in_default-variant_with_index-clause-err
-variant_value-returns-in_default-variant_with_index-clause-err t c = ?
+variant_value-returns-in_default-variant_with_index-clause-err t c =
+    let some : find (λ v. v.index == c.in-Variant.index) c.args.choice.now.variants ≡ Some c.in-Some.variant.now =
+    grind (arith, common_steps) in
+    let differs : bytes_eq c.in-Some.variant.now.name c.in-Variant.name ≡ false = sym c.eq.ensures ∙ c.if-eq.false in
+    variant_misnamed c.args.left c.args.table.now c.args.choice.now c.args.value.now c.in-Variant.name c.in-Variant.index
+    c.in-Variant.values c.in-Some.variant.now c.in-Variant.is some differs
 
 pub variant_value-returns-in_default-variant_with_index-2-clause-err : goal.variant_value-returns-in_default-variant_with_index-2-clause-err
-variant_value-returns-in_default-variant_with_index-2-clause-err t c = ?
+variant_value-returns-in_default-variant_with_index-2-clause-err t c =
+    let none : find (λ v. v.index == c.in-Variant.index) c.args.choice.now.variants ≡ None = grind (arith, common_steps) in
+    variant_missing c.args.left c.args.table.now c.args.choice.now c.args.value.now c.in-Variant.name c.in-Variant.index
+    c.in-Variant.values c.in-Variant.is none
