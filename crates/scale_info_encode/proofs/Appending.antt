@@ -1,20 +1,14 @@
 -- Values appended to a list of bytes.
-use Rattle.std.proofs.Common.{◌≡◌, ℕ, Bool, true, false, List, [], ◌∷◌, ◌++◌, Option, Some, None, refl, ap, sym, ◌∙◌}
-use Rattle.std.proofs.Common.{append_assoc, Result, Ok, Err, subst, length}
-use Rattle.std.specs.Prelude.{IfErr, nat_lt, ◌^◌}
-use Rattle.std.specs.Result.{IsErrAnd}
+use Rattle.std.proofs.Common.{◌≡◌, ℕ, Bool, true, false, List, Option, Some, None, refl, ap, ◌∙◌}
+use Rattle.std.proofs.Common.{length}
+use Rattle.std.specs.Prelude.{nat_lt, ◌^◌}
 use Rattle.std.specs.Str.{is_utf8}
-use Rattle.scale_info_bytes.specs.Encodings.{AppendsEncoding, IsPrefix, HasNoEncoding}
+use Rattle.scale_info_bytes.specs.Encodings.{AppendsEncoding, HasNoEncoding}
 use Rattle.scale_info_bytes.specs.Strings.{EncodesText}
 use Rattle.scale_info_value.specs.declared.value.Dyn.{Dyn, out-Dyn}
 use Rattle.scale_info_value.specs.declared.value.Dyn.TheOpen.{Dyn-F}
-use Rattle.scale_info_encode.specs.declared.error.Refusal.{Refusal}
-use Rattle.scale_info_encode.specs.declared.error.Refusal.TheVariants as refusal
-use Rattle.scale_info_encode.specs.declared.error.EncodeValueError.{EncodeValueError}
-use Rattle.scale_info_encode.specs.declared.error.EncodeValueError.TheVariants as error
-use Rattle.scale_info_encode.specs.Writers.{Written, Writer, written, refused, mismatch, if_fits, followed_by, in_turn}
-use Rattle.scale_info_encode.specs.Writers.{Appends, IsErrorOf, error_of}
-use Rattle.scale_info_encode.specs.IntegerWriters.{count, compact_bytes}
+use Rattle.scale_info_encode.specs.Writers.{Writer, written, refused, mismatch, if_fits, followed_by}
+use Rattle.scale_info_encode.specs.IntegerWriters.{compact_bytes}
 use Rattle.scale_info_encode.specs.DefinitionWriters.{held, if_found, text}
 use Rattle.scale_info_encode.proofs.Texts.{text_encodes}
 use Rattle.scale_info_encode.proofs.ValueKinds.{IsKind}

@@ -1,16 +1,16 @@
 -- Compact integers.
-use Rattle.std.proofs.Common.{◌≡◌, ℕ, zero, suc, ◌+◌, ◌-◌, ◌*◌, ◌/◌, ◌%◌, ◌<◌, ◌≤◌, ◌^◌, ◌==◌, Bool, true, false}
-use Rattle.std.proofs.Common.{◌⊎◌, inl, inr, List, [], ◌∷◌, ◌++◌, length, refl, ap, sym, ◌∙◌, arith, subst, cond}
+use Rattle.std.proofs.Common.{◌≡◌, ℕ, zero, suc, ◌+◌, ◌-◌, ◌*◌, ◌/◌, ◌%◌, ◌<◌, ◌≤◌, ◌^◌, Bool, true, false}
+use Rattle.std.proofs.Common.{◌⊎◌, inl, inr, List, [], ◌∷◌, ◌++◌, length, refl, ap, sym, ◌∙◌, arith, subst}
 use Rattle.std.proofs.lemmas.Bool.{cases_lt}
 use Rattle.std.proofs.lemmas.Grind.{common_steps}
 use Rattle.std.proofs.Math.Nat.{pow-succ', pow-le-pow_right}
 use Rattle.std.specs.Prelude.{nat_lt, nat_le, max, if◌then◌else◌}
 use Rattle.std.specs.List.{AllByRecursion}
-use Rattle.scale_info_bytes.specs.Encodings.{HasPrefix, IsByte}
-use Rattle.scale_info_value.specs.Outcomes.{Decoder, Outcome, decoded, failed, malformed, and_then, outcome_map}
+use Rattle.scale_info_bytes.specs.Encodings.{IsByte}
+use Rattle.scale_info_value.specs.Outcomes.{decoded, failed, malformed, and_then, outcome_map}
 use Rattle.scale_info_value.specs.IntegerDecoders as read
 use Rattle.scale_info_value.specs.IntegerDecoders.{little_endian, integer, bytes, at_least, below, low_bits_first, compact_after, compact}
-use Rattle.scale_info_encode.specs.Writers.{Writer, written, if_fits}
+use Rattle.scale_info_encode.specs.Writers.{if_fits}
 use Rattle.scale_info_encode.specs.IntegerWriters.{integer_bytes, first_width, many_bytes, compact_bytes, compact_below}
 use Rattle.scale_info_encode.proofs.IntegerBytes.{lowest_first, length_is, back_again, forth_again, bound}
 use Rattle.scale_info_encode.proofs.Inverse.{IsInverse, first_bytes, unmapped, sequenced}
@@ -258,11 +258,12 @@ low_forth mode least width first n tail rest m byte all e =
     let value : little_endian q.front ≡ k = q.is in
     let whole : first + 256 * little_endian q.front ≡ 4 * n + mode = omega arith in
     let made : AllByRecursion IsByte (first ∷ q.front) = (byte, q.made) in
-    let fits : first + 256 * little_endian q.front < 256 ^ suc (length q.front) = bound (first ∷ q.front) made in
-    (omega arith,
-    subst (λ j. j < 256 ^ suc width) whole (subst (λ j. first + 256 * little_endian q.front < 256 ^ suc j) q.long fits),
-    (λ i. first ∷ q.parts i) ∙ (λ i. sym (forth_again (first ∷ q.front) made) i ++ p.1)
-    ∙ (λ i. integer_bytes (suc (q.long i)) (whole i) ++ r.2 i))
+    let fits : first + 256 * little_endian q.front < 256 ^ suc (length q.front) = bound (first ∷ q.front) made in (
+      omega arith,
+      subst (λ j. j < 256 ^ suc width) whole (subst (λ j. first + 256 * little_endian q.front < 256 ^ suc j) q.long fits),
+      (λ i. first ∷ q.parts i) ∙ (λ i. sym (forth_again (first ∷ q.front) made) i ++ p.1)
+          ∙ (λ i. integer_bytes (suc (q.long i)) (whole i) ++ r.2 i),
+    )
 
 -- an integer in many bytes was read from them
 many_forth :
@@ -276,11 +277,14 @@ many_forth high n tail rest all e =
     let r = at_least_of (max 1073741824 (256 ^ (high + 3))) k n p.1 rest p.3 in
     let low : max 1073741824 (256 ^ (high + 3)) ≤ k = r.0 in
     let is : k ≡ n = r.1 in
-    let fits : little_endian q.front < 256 ^ length q.front = bound q.front q.made in
-    (le_of high t.0, omega arith, omega arith,
-    subst (λ j. j < 256 ^ (high + 4)) (q.is ∙ is) (subst (λ j. little_endian q.front < 256 ^ j) q.long fits),
-    q.parts ∙ (λ i. sym (forth_again q.front q.made) i ++ p.1)
-    ∙ (λ i. integer_bytes (q.long i) ((q.is ∙ is) i) ++ r.2 i))
+    let fits : little_endian q.front < 256 ^ length q.front = bound q.front q.made in (
+      le_of high t.0,
+      omega arith,
+      omega arith,
+      subst (λ j. j < 256 ^ (high + 4)) (q.is ∙ is) (subst (λ j. little_endian q.front < 256 ^ j) q.long fits),
+      q.parts ∙ (λ i. sym (forth_again q.front q.made) i ++ p.1)
+          ∙ (λ i. integer_bytes (q.long i) ((q.is ∙ is) i) ++ r.2 i),
+    )
   where
     le_of : (high : ℕ) → nat_le high 12 ≡ true → high ≤ 12
     le_of high e = grind (arith, common_steps)
@@ -329,11 +333,12 @@ compact_forth n (first ∷ tail) rest all e = by_mode (first % 4) refl
         let width : first_width 12 4 n ≡ high + 4 =
         width_is 12 4 n (high + 4) (omega arith) (omega (arith, p.0)) p.3
         (λ k low less. let rises = power_rises k (high + 3) (omega arith) in omega (arith, p.2)) in
-        let whole : first ≡ 4 * (high + 4 - 4) + 3 = omega arith in
-        (omega (arith, p.3),
-        (λ i. whole i ∷ p.4 i)
-        ∙ ap (λ w. many_bytes w n ++ rest) (sym width)
-        ∙ ap (λ b. b ++ rest) (sym (in_many n p.1)))
+        let whole : first ≡ 4 * (high + 4 - 4) + 3 = omega arith in (
+          omega (arith, p.3),
+          (λ i. whole i ∷ p.4 i)
+              ∙ ap (λ w. many_bytes w n ++ rest) (sym width)
+              ∙ ap (λ b. b ++ rest) (sym (in_many n p.1)),
+        )
 
 -- compact integers below a limit are read and written
 pub compacts_below : (most : ℕ) → most ≤ limit → IsInverse (read.compact_below most) (compact_below most)

@@ -1,6 +1,6 @@
 -- Values by the definitions of their types.
-use Rattle.std.proofs.Common.{◌≡◌, ℕ, ◌≤◌, ◌^◌, List, [], ◌∷◌, map, replicate, length, arith}
-use Rattle.scale_info_types.specs.Portable.{Id, Text, Field, TypeDef}
+use Rattle.std.proofs.Common.{◌≡◌, ℕ, List, [], ◌∷◌, map, length}
+use Rattle.scale_info_types.specs.Portable.{Id, Field, TypeDef}
 use Rattle.scale_info_types.specs.declared.ty.TypeDef.TheVariants as def
 use Rattle.scale_info_types.specs.Shapes.{map_definition, map_field}
 use Rattle.scale_info_value.specs.declared.value.Dyn.{Dyn}

@@ -3,7 +3,7 @@ use Rattle.std.proofs.Common.{◌≡◌, ℕ, zero, suc, ◌+◌, ◌-◌, ◌<�
 use Rattle.std.proofs.Common.{refl, ap, ◌∙◌, sym, arith}
 use Rattle.std.proofs.lemmas.Grind.{common_steps}
 use Rattle.scale_info_encode.specs.declared.error.Refusal.{Refusal}
-use Rattle.scale_info_encode.specs.Writers.{Written, Writer, written, refused, mismatch, followed_by, in_turn}
+use Rattle.scale_info_encode.specs.Writers.{Writer, refused, mismatch, followed_by, in_turn}
 
 -- of n - k writers of one kind the first, and the others
 take_next : {A : Type 0} (n k : ℕ) (x : A) → k < n → replicate (n - k) x ≡ x ∷ replicate (n - (k + 1)) x

@@ -9,7 +9,7 @@ use Rattle.scale_info_value.specs.Outcomes as outcomes
 use Rattle.scale_info_value.specs.declared.value.Dyn.{Dyn, out-Dyn}
 use Rattle.scale_info_value.specs.declared.value.Dyn.TheOpen.{Dyn-F}
 use Rattle.scale_info_encode.specs.declared.error.Refusal.{Refusal}
-use Rattle.scale_info_encode.specs.Writers.{Written, Writer, written, refused, followed_by, in_turn, mismatch}
+use Rattle.scale_info_encode.specs.Writers.{Written, Writer, written, refused, followed_by, in_turn}
 use Rattle.scale_info_encode.specs.DefinitionWriters.{if_found, held}
 use Rattle.scale_info_encode.proofs.ValueKinds.{IsKind}
 

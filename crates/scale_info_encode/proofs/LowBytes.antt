@@ -1,11 +1,10 @@
 -- The low bytes of an integer.
 use Rattle.std.proofs.Common.{◌≡◌, ℕ, ℤ, zero, suc, ◌+◌, ◌-◌, ◌*◌, ◌/◌, ◌%◌, ◌<◌, ◌≤◌, ◌^◌, Bool, true, false}
-use Rattle.std.proofs.Common.{inl, inr, List, [], ◌∷◌, length, take, refl, ap, sym, ◌∙◌, arith, subst, cond}
+use Rattle.std.proofs.Common.{inl, inr, List, ◌∷◌, length, take, refl, ap, sym, ◌∙◌, arith, subst}
 use Rattle.std.proofs.lemmas.Bool.{cases_lt}
-use Rattle.std.proofs.lemmas.Grind.{common_steps}
 use Rattle.std.proofs.lemmas.Int.{to_z-of_z, of_z-to_z}
-use Rattle.std.proofs.Math.Nat.{pow-succ', pow-le-pow_right, div-div-eq-div-mul, div-eq_of_lt, lt-mul-div-succ}
-use Rattle.std.specs.Prelude.{nat_lt, FitsSigned, pos, negsuc, if◌then◌else◌}
+use Rattle.std.proofs.Math.Nat.{pow-succ', div-div-eq-div-mul, div-eq_of_lt, lt-mul-div-succ}
+use Rattle.std.specs.Prelude.{FitsSigned, pos, negsuc}
 use Rattle.std.specs.Int.{Width, w8, w16, w32, w64, w128, byte_len, bytes_low_first, byte_at, to_le_bytes}
 use Rattle.std.specs.Int.{cast_signed, cast_unsigned}
 use Rattle.std.specs.List.{AllByRecursion}
@@ -16,7 +15,7 @@ use Rattle.scale_info_encode.specs.IntegerWriters.{integer_bytes, first_width, i
 use Rattle.scale_info_encode.specs.DefinitionWriters.{unsigned, signed}
 use Rattle.scale_info_encode.proofs.Compacts.{width_is, more_is, power_rises}
 use Rattle.scale_info_encode.proofs.IntegerBytes.{lowest_first, length_is, back_again, forth_again, bound}
-use Rattle.scale_info_encode.proofs.Widths.{less_is, fits_of, fits_is, unsigned_fits, bytes_are_bits, half_below}
+use Rattle.scale_info_encode.proofs.Widths.{fits_of, fits_is, unsigned_fits, bytes_are_bits}
 use mir.Val.{bits, hbits}
 
 -- the first of the bytes from one on are fewer bytes from there on

@@ -1,6 +1,6 @@
 -- Fields and variants.
 use Rattle.std.proofs.Common.{◌≡◌, ℕ, ◌==◌, Bool, true, false, List, [], ◌∷◌, ◌++◌, map, find, cond}
-use Rattle.std.proofs.Common.{Option, Some, None, option_map, refl, ap, sym, ◌∙◌, subst}
+use Rattle.std.proofs.Common.{Option, Some, None, option_map, refl, ap, sym, ◌∙◌}
 use Rattle.std.proofs.lemmas.Slice.Eq.{bytes_eq-Decides}
 use Rattle.std.specs.Prelude.{if◌then◌else◌}
 use Rattle.std.specs.Option.{option_eq}
@@ -13,13 +13,12 @@ use Rattle.scale_info_types.specs.declared.ty.variant.Variant.{Variant as AnyVar
 use Rattle.scale_info_types.specs.Shapes.{map_field, map_variant}
 use Rattle.scale_info_value.specs.declared.value.Dyn.{Dyn, out-Dyn}
 use Rattle.scale_info_value.specs.declared.value.Dyn.TheVariants as dyn
-use Rattle.scale_info_value.specs.Outcomes.{Decoder, Outcome, decoded, failed, malformed, outcome_map, and_then}
-use Rattle.scale_info_value.specs.IntegerDecoders.{byte}
+use Rattle.scale_info_value.specs.Outcomes.{Decoder, decoded, outcome_map}
 use Rattle.scale_info_value.specs.ValueDefinitions as values
 use Rattle.scale_info_value.specs.ValueDefinitions.{Part}
 use Rattle.scale_info_encode.specs.Writers.{Writer, written, refused, mismatch, followed_by}
 use Rattle.scale_info_encode.specs.DefinitionWriters.{Writers, held, field, fields, fields_of, chosen_variant, variant_in}
-use Rattle.scale_info_encode.proofs.Inverse.{IsInverse, by_kind, unmapped, sequenced, parted, none_in_turn, one_in_turn}
+use Rattle.scale_info_encode.proofs.Inverse.{IsInverse, by_kind, unmapped, parted, none_in_turn, one_in_turn}
 use Rattle.scale_info_encode.proofs.ValueKinds.{Chosen, chosen, variants}
 
 -- The decoders and the writers that a reference stands for are inverse to one another. Those of
@@ -150,14 +149,16 @@ module _ (part : Id → Part) (writers : Id → Writers) (inverse : (r : Id) →
       sym (variants.found (v.name, index, u.0)) ∙ ap (λ d. variant_in (out-Dyn d)) u.2 ∙ variants.found x in
       let parts : (v.name, index, u.0) ≡ x = cc in
       let q = same.1.forth input u.0 rest all u.1 in
-      let name : w.name ≡ x.0 = sym same.0 ∙ ap (λ c. c.0) parts in
-      (ap (λ c. c.1) parts, record {
-        encoding = q.encoding;
-        encodes =
-            ap (λ t. if t then fields w.fields x.2 else refused mismatch) ((bytes_eq-Decides w.name x.0).1 name)
-            ∙ ap (fields w.fields) (sym (ap (λ c. c.2) parts)) ∙ q.encodes;
-        parts = q.parts;
-      })
+      let name : w.name ≡ x.0 = sym same.0 ∙ ap (λ c. c.0) parts in (
+        ap (λ c. c.1) parts,
+        record {
+          encoding = q.encoding;
+          encodes =
+              ap (λ t. if t then fields w.fields x.2 else refused mismatch) ((bytes_eq-Decides w.name x.0).1 name)
+              ∙ ap (fields w.fields) (sym (ap (λ c. c.2) parts)) ∙ q.encodes;
+          parts = q.parts;
+        },
+      )
 
   -- what is read as a variant is one
   is_variant :

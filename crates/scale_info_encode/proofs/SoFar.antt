@@ -4,7 +4,7 @@ use Rattle.std.proofs.Common.{Result, Ok, Err}
 use Rattle.std.specs.Prelude.{IfErr, OnOk, OnErr}
 use Rattle.std.specs.Result.{IsErrAnd}
 use Rattle.std.proofs.lemmas.List.{append-nil}
-use Rattle.scale_info_bytes.specs.Encodings.{AppendsEncoding, IsPrefix}
+use Rattle.scale_info_bytes.specs.Encodings.{IsPrefix}
 use Rattle.scale_info_encode.specs.declared.error.Refusal.{Refusal}
 use Rattle.scale_info_encode.specs.declared.error.Refusal.TheVariants as refusal
 use Rattle.scale_info_encode.specs.declared.error.EncodeValueError.{EncodeValueError}

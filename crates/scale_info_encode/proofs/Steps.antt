@@ -3,18 +3,18 @@ use Rattle.std.proofs.Common.{◌≡◌, ℕ, zero, suc, ◌-◌, ◌≤◌, ◌
 use Rattle.std.proofs.Common.{length, Option, Some, None, option_map, refl, ap, sym, ◌∙◌, arith}
 use Rattle.std.specs.Prelude.{if◌then◌else◌}
 use Rattle.std.specs.Str.{bytes_eq}
-use Rattle.scale_info_types.specs.Portable.{Id, Text, Field, Variant, TypeDef, Description, TypeDefComposite}
+use Rattle.scale_info_types.specs.Portable.{Id, Text, Field, Variant, Description, TypeDefComposite}
 use Rattle.scale_info_types.specs.Portable.{TypeDefTuple, TypeDefSequence, TypeDefMap, TypeDefVariant}
-use Rattle.scale_info_types.specs.Shapes.{map_definition, map_field, map_variant}
+use Rattle.scale_info_types.specs.Shapes.{map_field, map_variant}
 use Rattle.scale_info_types.specs.declared.ty.variant.Variant.{Variant as AnyVariant}
 use Rattle.scale_info_types.specs.declared.ty.TypeDef.TheVariants as def
 use Rattle.scale_info_tables.specs.declared.portable.PortableRegistry.{PortableRegistry}
 use Rattle.scale_info_value.specs.declared.value.Dyn.{Dyn}
 use Rattle.scale_info_value.specs.declared.value.Dyn.TheVariants as dyn
 use Rattle.scale_info_value.specs.Readings.{type_at}
-use Rattle.scale_info_encode.specs.Writers.{Writer, written, refused, too_deep, no_such_type, mismatch, followed_by}
+use Rattle.scale_info_encode.specs.Writers.{written, refused, too_deep, no_such_type, mismatch, followed_by}
 use Rattle.scale_info_encode.specs.IntegerWriters.{count}
-use Rattle.scale_info_encode.specs.DefinitionWriters.{Writers, value_by, compact_by, record_in, list_in, variant_in}
+use Rattle.scale_info_encode.specs.DefinitionWriters.{Writers, record_in, list_in, variant_in}
 use Rattle.scale_info_encode.specs.DefinitionWriters.{counted, fields, fields_of, chosen_variant}
 use Rattle.scale_info_encode.specs.Writings.{compact_by_type, value_by_type, compact_within, value_within}
 use Rattle.scale_info_encode.specs.Writings.{definition_within, compact_definition_within, fields_within, items_within}

@@ -1,5 +1,5 @@
 -- The kinds of values.
-use Rattle.std.proofs.Common.{◌≡◌, ℕ, ℤ, Bool, List, Option, Some, None, refl, ap, sym, ◌∙◌}
+use Rattle.std.proofs.Common.{◌≡◌, ℕ, ℤ, Bool, List, Option, Some, refl, ap, sym, ◌∙◌}
 use Rattle.scale_info_types.specs.Portable.{Text}
 use Rattle.scale_info_value.specs.declared.value.Dyn.{Dyn, out-Dyn}
 use Rattle.scale_info_value.specs.declared.value.Dyn.TheOpen.{Dyn-F}

@@ -1,18 +1,17 @@
 -- Integers of a width.
-use Rattle.std.proofs.Common.{◌≡◌, ℕ, ℤ, zero, suc, ◌+◌, ◌-◌, ◌*◌, ◌/◌, ◌<◌, ◌≤◌, ◌^◌, Bool, true, false, List, []}
-use Rattle.std.proofs.Common.{◌∷◌, ◌++◌, length, take, drop, refl, ap, sym, ◌∙◌, arith, subst}
+use Rattle.std.proofs.Common.{◌≡◌, ℕ, ℤ, suc, ◌-◌, ◌*◌, ◌<◌, ◌≤◌, ◌^◌, Bool, true, false, List}
+use Rattle.std.proofs.Common.{◌++◌, length, take, drop, refl, ap, sym, ◌∙◌, arith, subst}
 use Rattle.std.proofs.lemmas.Grind.{common_steps}
-use Rattle.std.proofs.lemmas.Int.{to_z-of_z, of_z-to_z, ints}
+use Rattle.std.proofs.lemmas.Int.{to_z-of_z, of_z-to_z}
 use Rattle.std.proofs.lemmas.List.{length-append, length-take-le, take-append-drop}
 use Rattle.std.proofs.Math.Seq.{take-append_seam, drop-append_seam}
 use Rattle.std.specs.Prelude.{nat_lt, FitsSigned, pos, negsuc}
 use Rattle.std.specs.Int.{Width, w8, w16, w32, w64, w128, byte_len, cast_signed, cast_unsigned}
 use Rattle.std.specs.List.{AllByRecursion}
 use mir.Val.{bits, hbits, sel}
-use Rattle.scale_info_bytes.specs.Encodings.{HasPrefix, IsByte}
-use Rattle.scale_info_value.specs.declared.value.Dyn.{Dyn}
+use Rattle.scale_info_bytes.specs.Encodings.{IsByte}
 use Rattle.scale_info_value.specs.declared.value.Dyn.TheVariants as dyn
-use Rattle.scale_info_value.specs.Outcomes.{Decoder, decoded, failed, outcome_map}
+use Rattle.scale_info_value.specs.Outcomes.{Decoder, decoded, outcome_map}
 use Rattle.scale_info_value.specs.IntegerDecoders.{bytes, integer, little_endian}
 use Rattle.scale_info_value.specs.ValueDefinitions as values
 use Rattle.scale_info_value.proofs.Texts.{bytes_whole, bytes_long}
@@ -183,7 +182,8 @@ signed_read_back w =
     (λ z b e.
     let f = fitting (is_signed_of w z) (integer_bytes width (cast_unsigned w z)) b e in
     let fits = fits_of w z f.0 in
-    let less = unsigned_fits w z fits in
-    (to_z-of_z w z fits,
-    ap (λ t. if_fits t (integer_bytes width (cast_unsigned w z))) (less_is (cast_unsigned w z) (256 ^ width) less)
-    ∙ ap written f.1))))
+    let less = unsigned_fits w z fits in (
+      to_z-of_z w z fits,
+      ap (λ t. if_fits t (integer_bytes width (cast_unsigned w z))) (less_is (cast_unsigned w z) (256 ^ width) less)
+          ∙ ap written f.1,
+    ))))

@@ -14,7 +14,7 @@ use Rattle.scale_info_primitives.specs.declared.primitive.TypeDefPrimitive.TheVa
 use Rattle.scale_info_value.specs.declared.value.Dyn.{Dyn, out-Dyn}
 use Rattle.scale_info_value.specs.declared.value.Dyn.TheOpen.{Dyn-F}
 use Rattle.scale_info_value.specs.declared.value.Dyn.TheOpen as layer
-use Rattle.scale_info_encode.specs.Writers.{Written, Writer, written, refused, mismatch, unsupported}
+use Rattle.scale_info_encode.specs.Writers.{Writer, written, refused, mismatch, unsupported}
 use Rattle.scale_info_encode.specs.Writers.{if_fits, followed_by, in_turn}
 use Rattle.scale_info_encode.specs.IntegerWriters.{compact_below, count, is_signed_of}
 

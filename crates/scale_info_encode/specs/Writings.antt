@@ -1,11 +1,11 @@
 -- What comes of encoding a value by a table.
-use Rattle.std.specs.Prelude.{◌≡◌, ℕ, zero, suc, ◌-◌, List, Option, Some, None, map}
+use Rattle.std.specs.Prelude.{ℕ, zero, suc, ◌-◌, List, Option, Some, None, map}
 use Rattle.scale_info_types.specs.Portable.{Id, Field, TypeDef, Description}
 use Rattle.scale_info_types.specs.Shapes.{map_definition, map_field}
 use Rattle.scale_info_tables.specs.declared.portable.PortableRegistry.{PortableRegistry}
 use Rattle.scale_info_value.specs.declared.value.Dyn.{Dyn}
 use Rattle.scale_info_value.specs.Readings.{type_at}
-use Rattle.scale_info_encode.specs.Writers.{Written, Writer, refused, no_such_type, too_deep}
+use Rattle.scale_info_encode.specs.Writers.{Writer, refused, no_such_type, too_deep}
 use Rattle.scale_info_encode.specs.DefinitionWriters.{Writers, value_by, compact_by, items}
 use Rattle.scale_info_encode.specs.DefinitionWriters.{members, fields, pair, pairs}
 

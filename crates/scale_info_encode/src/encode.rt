@@ -139,7 +139,13 @@ fn composite_value(
 {
     match value {
         Dyn::Record(values) => {
-            fields(table, composite.fields.as_slice(), left, values.as_slice(), out)
+            fields(
+                table,
+                composite.fields.as_slice(),
+                left,
+                values.as_slice(),
+                out,
+            )
         }
         _ => Err(EncodeValueError::Mismatch),
     }
@@ -174,7 +180,13 @@ fn variant_value(
     match variant_with_index(choice.variants.as_slice(), *index) {
         Some(variant) if variant.name == *name => {
             out.push(*index)?;
-            fields(table, variant.fields.as_slice(), left, values.as_slice(), out)
+            fields(
+                table,
+                variant.fields.as_slice(),
+                left,
+                values.as_slice(),
+                out,
+            )
         }
         _ => Err(EncodeValueError::Mismatch),
     }
@@ -229,7 +241,14 @@ fn array_value(
     match value {
         Dyn::List(values) => {
             let count = array.len as usize;
-            items(table, &array.type_param, count, left, values.as_slice(), out)
+            items(
+                table,
+                &array.type_param,
+                count,
+                left,
+                values.as_slice(),
+                out,
+            )
         }
         _ => Err(EncodeValueError::Mismatch),
     }

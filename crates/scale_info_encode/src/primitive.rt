@@ -47,11 +47,7 @@ fn unsigned_value(
 }
 
 /// Appends an integer of a signed type.
-fn signed_value(
-    width: IntegerWidth,
-    value: &Dyn,
-    out: &mut Vec<u8>,
-) -> Result<(), EncodeValueError>
+fn signed_value(width: IntegerWidth, value: &Dyn, out: &mut Vec<u8>) -> Result<(), EncodeValueError>
     ensures ok { OnOk result
         (Appends (held signed_in (signed (width_of width)) value.now)
         out.old.items out.new.items) }

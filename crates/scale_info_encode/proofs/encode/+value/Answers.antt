@@ -1,12 +1,10 @@
-use Rattle.std.proofs.Common.{◌≡◌, ◌-◌, ◌+◌, ◌<◌, ◌≤◌, ◌==◌, true, false, Some, None, find, length, drop, replicate, arith, ap, sym, ◌∙◌, subst}
+use Rattle.std.proofs.Common.{◌≡◌, ◌-◌, ◌+◌, ◌<◌, ◌==◌, true, false, Some, None, find, length, replicate, arith, sym, ◌∙◌, subst}
 use Rattle.std.proofs.lemmas.Grind.{common_steps}
 use Rattle.std.specs.Str.{bytes_eq}
-use Rattle.std.specs.Prelude.{IfErr, OnOk, OnErr}
-use Rattle.scale_info_types.specs.declared.ty.TypeDef.TheVariants as def
+use Rattle.std.specs.Prelude.{IfErr, OnOk}
 use Rattle.scale_info_encode.specs.declared.error.EncodeValueError.TheVariants as error
 use Rattle.scale_info_encode.specs.Writers.{in_turn, Appends, IsErrorOf}
-use Rattle.scale_info_encode.specs.IntegerWriters.{count}
-use Rattle.scale_info_encode.specs.Writings.{value_within, definition_within, items_within, members_within, pairs_within, fields_within}
+use Rattle.scale_info_encode.specs.Writings.{value_within, definition_within}
 use Rattle.scale_info_encode.proofs.InTurn.{next_value, no_next_value, all_refused, alike, tail_whole}
 use Rattle.scale_info_encode.proofs.SoFar.{SoFar, appended, on_err, passed, passed_as, both_ok, both_err, both_kept, keeps, fails, goes_on, first_fails}
 use Rattle.scale_info_encode.proofs.Steps.{composite_is, tuple_is, sequence_is, map_is, variant_missing, variant_misnamed, variant_named}

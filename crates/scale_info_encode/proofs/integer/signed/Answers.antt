@@ -1,4 +1,4 @@
-use Rattle.std.proofs.Common.{◌≡◌, take, ap, sym, ◌∙◌, rules}
+use Rattle.std.proofs.Common.{◌≡◌, take, ap, sym, ◌∙◌}
 use Rattle.std.proofs.lemmas.Int.{to_z-of_z}
 use Rattle.std.specs.Int.{w128, to_le_bytes, byte_len, cast_signed, cast_unsigned}
 use Rattle.scale_info_value.specs.IntegerWidths.{width_of}

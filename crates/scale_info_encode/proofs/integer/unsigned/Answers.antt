@@ -1,4 +1,4 @@
-use Rattle.std.proofs.Common.{sym, ◌∙◌, rules, arith}
+use Rattle.std.proofs.Common.{◌∙◌, rules}
 use Rattle.scale_info_value.specs.IntegerWidths.{width_of}
 use Rattle.scale_info_encode.proofs.LowBytes.{too_wide}
 use Rattle.scale_info_encode.proofs.integer.unsigned.Goals as goal
