@@ -1,0 +1,127 @@
+-- Values of each number of levels.
+use Rattle.std.proofs.Common.{◌≡◌, ℕ, zero, suc, ◌-◌, List, [], ◌++◌, Option, Some, None, ap, sym, ◌∙◌}
+use Rattle.std.specs.List.{AllByRecursion}
+use Rattle.scale_info_bytes.specs.Encodings.{HasPrefix, IsByte}
+use Rattle.scale_info_types.specs.Portable.{Description}
+use Rattle.scale_info_tables.specs.declared.portable.PortableRegistry.{PortableRegistry}
+use Rattle.scale_info_value.specs.declared.value.Dyn.{Dyn}
+use Rattle.scale_info_value.specs.declared.value.Dyn.TheVariants as dyn
+use Rattle.scale_info_value.specs.Outcomes.{Decoder, decoded, failed, outcome_map}
+use Rattle.scale_info_value.specs.Outcomes as outcomes
+use Rattle.scale_info_value.specs.ValueDefinitions.{Part}
+use Rattle.scale_info_value.specs.Readings as readings
+use Rattle.scale_info_value.specs.Readings.{type_at, reading}
+use Rattle.scale_info_encode.specs.declared.error.Refusal.{Refusal}
+use Rattle.scale_info_encode.specs.Writers.{Writer, written, refused, no_such_type, too_deep}
+use Rattle.scale_info_encode.specs.DefinitionWriters.{Writers}
+use Rattle.scale_info_encode.specs.Writings.{compact_by_type, compact_within, value_by_type, value_within, writing}
+use Rattle.scale_info_encode.proofs.Definitions.{values_read_back, compacts_read_back}
+use Rattle.scale_info_encode.proofs.Inverse.{IsInverse, nothing}
+use Rattle.scale_info_encode.proofs.NamedParts.{AreInverse}
+
+-- compact integers by a description are read and written
+compacts_by_type :
+    (read : ℕ → Decoder ℕ) (write : ℕ → Writer Dyn)
+    → ((id : ℕ) → IsInverse (λ input. outcome_map dyn.Unsigned (read id input)) (write id)) → (o : Option Description)
+    → IsInverse (λ input. outcome_map dyn.Unsigned (readings.compact_by_type read o input)) (compact_by_type write o)
+compacts_by_type read write inverse None = nothing outcomes.no_such_type no_such_type
+compacts_by_type read write inverse (Some d) =
+    compacts_read_back (λ r. read r.id) (λ r. write r.id) (λ r. inverse r.id) d.type_def
+
+-- compact integers are read and written, however many levels are left
+pub compacts_inverse :
+    (left : ℕ) (table : PortableRegistry) (id : ℕ)
+    → IsInverse (λ input. outcome_map dyn.Unsigned (readings.compact_within left table id input))
+    (compact_within left table id)
+unfolding readings.compact_within compact_within
+compacts_inverse zero table id = nothing outcomes.too_deep too_deep
+compacts_inverse (suc left) table id =
+    compacts_by_type (readings.compact_within left table) (compact_within left table) (compacts_inverse left table)
+    (type_at table id)
+
+-- values by a description are read and written
+values_by_type :
+    (part : ℕ → Part) (writers : ℕ → Writers) → ((id : ℕ) → AreInverse (part id) (writers id)) → (o : Option Description)
+    → IsInverse (readings.value_by_type part o) (value_by_type writers o)
+values_by_type part writers inverse None = nothing outcomes.no_such_type no_such_type
+values_by_type part writers inverse (Some d) =
+    values_read_back (λ r. part r.id) (λ r. writers r.id) (λ r. inverse r.id) d.type_def
+
+-- values are read and written, however many levels are left
+pub values_inverse :
+    (left : ℕ) (table : PortableRegistry) (id : ℕ)
+    → IsInverse (readings.value_within left table id) (value_within left table id)
+unfolding readings.value_within value_within
+values_inverse zero table id = nothing outcomes.too_deep too_deep
+values_inverse (suc zero) table id =
+    values_by_type
+    (λ r. record {
+      value = λ bytes. failed outcomes.too_deep;
+      inner = λ bytes. failed outcomes.too_deep;
+      compact = readings.compact_within 1 table r;
+    })
+    (λ r. record {
+      value = λ v. refused too_deep;
+      inner = λ v. refused too_deep;
+      compact = compact_within 1 table r;
+    })
+    (λ r. record {
+      value = nothing outcomes.too_deep too_deep;
+      inner = nothing outcomes.too_deep too_deep;
+      compact = compacts_inverse 1 table r;
+    })
+    (type_at table id)
+values_inverse (suc (suc left)) table id =
+    values_by_type
+    (λ r. record {
+      value = readings.value_within (suc left) table r;
+      inner = readings.value_within left table r;
+      compact = readings.compact_within (suc (suc left)) table r;
+    })
+    (λ r. record {
+      value = value_within (suc left) table r;
+      inner = value_within left table r;
+      compact = compact_within (suc (suc left)) table r;
+    })
+    (λ r. record {
+      value = values_inverse (suc left) table r;
+      inner = values_inverse left table r;
+      compact = compacts_inverse (suc (suc left)) table r;
+    })
+    (type_at table id)
+
+-- the bytes of a value are read as that value, whatever follows them
+pub read_back :
+    (table : PortableRegistry) (id depth : ℕ) (value : Dyn) (bytes : List ℕ)
+    → writing table id depth value ≡ written bytes → (rest : List ℕ)
+    → reading table id depth (bytes ++ rest) ≡ decoded value rest
+read_back table id depth value bytes e rest = (values_inverse (129 - depth) table id).back value bytes rest e
+
+-- a value that was read has the bytes that it was read from
+pub written_as_read :
+    (table : PortableRegistry) (id depth : ℕ) (input : List ℕ) (value : Dyn) (rest : List ℕ)
+    → AllByRecursion IsByte input → reading table id depth input ≡ decoded value rest
+    → HasPrefix (λ bytes. writing table id depth value ≡ written bytes) input rest
+written_as_read table id depth input value rest all e =
+    (values_inverse (129 - depth) table id).forth input value rest all e
+
+-- two inputs that are read as one value with nothing left are equal
+pub one_reading :
+    (table : PortableRegistry) (id depth : ℕ) (input other : List ℕ) (value : Dyn)
+    → AllByRecursion IsByte input → AllByRecursion IsByte other → reading table id depth input ≡ decoded value []
+    → reading table id depth other ≡ decoded value [] → input ≡ other
+one_reading table id depth input other value all all_other e f =
+    let p = written_as_read table id depth input value [] all e in
+    let q = written_as_read table id depth other value [] all_other f in
+    let same : written p.encoding ≡ written q.encoding = sym p.encodes ∙ q.encodes in
+    let bytes : p.encoding ≡ q.encoding = cc in
+    p.parts ∙ ap (λ b. b ++ []) bytes ∙ sym q.parts
+
+-- a value that has no bytes is read from none
+pub never_read :
+    (table : PortableRegistry) (id depth : ℕ) (value : Dyn) (why : Refusal) (input rest : List ℕ)
+    → writing table id depth value ≡ refused why → AllByRecursion IsByte input
+    → reading table id depth input ≡ decoded value rest → ⊥
+never_read table id depth value why input rest e all f =
+    let p = written_as_read table id depth input value rest all f in
+    let both : refused why ≡ written p.encoding = sym e ∙ p.encodes in cc

@@ -1,0 +1,187 @@
+-- One level of a writing.
+use Rattle.std.proofs.Common.{◌≡◌, ℕ, zero, suc, ◌-◌, ◌≤◌, ◌==◌, Bool, true, false, List, [], ◌∷◌, map, find, cond}
+use Rattle.std.proofs.Common.{length, Option, Some, None, option_map, refl, ap, sym, ◌∙◌, arith}
+use Rattle.std.specs.Prelude.{if◌then◌else◌}
+use Rattle.std.specs.Str.{bytes_eq}
+use Rattle.scale_info_types.specs.Portable.{Id, Text, Field, Variant, Description, TypeDefComposite}
+use Rattle.scale_info_types.specs.Portable.{TypeDefTuple, TypeDefSequence, TypeDefMap, TypeDefVariant}
+use Rattle.scale_info_types.specs.Shapes.{map_field, map_variant}
+use Rattle.scale_info_types.specs.declared.ty.variant.Variant.{Variant as AnyVariant}
+use Rattle.scale_info_types.specs.declared.ty.TypeDef.TheVariants as def
+use Rattle.scale_info_tables.specs.declared.portable.PortableRegistry.{PortableRegistry}
+use Rattle.scale_info_value.specs.declared.value.Dyn.{Dyn}
+use Rattle.scale_info_value.specs.declared.value.Dyn.TheVariants as dyn
+use Rattle.scale_info_value.specs.Readings.{type_at}
+use Rattle.scale_info_encode.specs.Writers.{written, refused, too_deep, no_such_type, mismatch, followed_by}
+use Rattle.scale_info_encode.specs.IntegerWriters.{count}
+use Rattle.scale_info_encode.specs.DefinitionWriters.{Writers, record_in, list_in, variant_in}
+use Rattle.scale_info_encode.specs.DefinitionWriters.{counted, fields, fields_of, chosen_variant}
+use Rattle.scale_info_encode.specs.Writings.{compact_by_type, value_by_type, compact_within, value_within}
+use Rattle.scale_info_encode.specs.Writings.{definition_within, compact_definition_within, fields_within, items_within}
+use Rattle.scale_info_encode.specs.Writings.{members_within, pairs_within, part_within}
+use Rattle.scale_info_encode.proofs.Appending.{is_held}
+use Rattle.scale_info_encode.proofs.ValueKinds.{records, lists, variants, chosen}
+
+-- where no level is left, a value is too deep, and so is a compact integer
+pub nothing_left :
+    (left : ℕ) (table : PortableRegistry) (id : ℕ) (value : Dyn) → left ≡ 0
+    → (value_within left table id value ≡ refused too_deep) × (compact_within left table id value ≡ refused too_deep)
+unfolding value_within compact_within
+nothing_left zero table id value e = (refl, refl)
+nothing_left (suc left) table id value e = absurd (omega arith)
+
+-- else a compact integer goes by the description of its type
+compact_level :
+    (left : ℕ) (table : PortableRegistry) (id : ℕ) (value : Dyn) → 1 ≤ left
+    → compact_within left table id value ≡ compact_by_type (compact_within (left - 1) table) (type_at table id) value
+unfolding compact_within
+compact_level zero table id value h = absurd (omega arith)
+compact_level (suc left) table id value h =
+    let e : left ≡ suc left - 1 = omega arith in
+    ap (λ n. compact_by_type (compact_within n table) (type_at table id) value) e
+
+-- the writers that an id stands for
+abbrev part_of : ℕ → PortableRegistry → ℕ → Writers
+part_of left table r = record {
+  value = value_within (left - 1) table r;
+  inner = value_within (left - 2) table r;
+  compact = compact_within left table r;
+}
+
+-- else a value goes by the description of its type
+value_level :
+    (left : ℕ) (table : PortableRegistry) (id : ℕ) (value : Dyn) → 1 ≤ left
+    → value_within left table id value ≡ value_by_type (part_of left table) (type_at table id) value
+unfolding value_within
+value_level zero table id value h = absurd (omega arith)
+value_level (suc zero) table id value h = refl
+value_level (suc (suc left)) table id value h =
+    let e : suc left ≡ suc (suc left) - 1 = omega arith in
+    let f : left ≡ suc (suc left) - 2 = omega arith in
+    λ i. value_by_type (λ r. record {
+      value = value_within (e i) table r;
+      inner = value_within (f i) table r;
+      compact = compact_within (suc (suc left)) table r;
+    }) (type_at table id) value
+
+-- an id that is no index has no value, and no compact integer
+pub no_type :
+    (left : ℕ) (table : PortableRegistry) (id : ℕ) (value : Dyn) → 1 ≤ left → type_at table id ≡ None
+    → (value_within left table id value ≡ refused no_such_type)
+    × (compact_within left table id value ≡ refused no_such_type)
+no_type left table id value h e = (
+  value_level left table id value h ∙ ap (λ o. value_by_type (part_of left table) o value) e,
+  compact_level left table id value h ∙ ap (λ o. compact_by_type (compact_within (left - 1) table) o value) e,
+)
+
+-- a value of a type goes by the type's definition, and so does a compact integer
+pub type_known :
+    (left : ℕ) (table : PortableRegistry) (id : ℕ) (value : Dyn) (d : Description)
+    → 1 ≤ left → type_at table id ≡ Some d
+    → (value_within left table id value ≡ definition_within left table d.type_def value)
+    × (compact_within left table id value ≡ compact_definition_within left table d.type_def value)
+type_known left table id value d h e = (
+  value_level left table id value h ∙ ap (λ o. value_by_type (part_of left table) o value) e,
+  compact_level left table id value h ∙ ap (λ o. compact_by_type (compact_within (left - 1) table) o value) e,
+)
+
+module _ (left : ℕ) (table : PortableRegistry) where
+  -- a record is written by its fields
+  pub composite_is :
+      (composite : TypeDefComposite) (value : Dyn) (values found : List (Option Text × Dyn)) (fs : List Field)
+      → value ≡ dyn.Record values → found ≡ values → fs ≡ composite.fields
+      → definition_within left table (def.Composite composite) value ≡ fields_within left table fs found
+  composite_is composite value values found fs is e f =
+      is_held dyn.Record record_in (fields_within left table composite.fields) records value values is
+      ∙ (λ i. fields_within left table (sym f i) (sym e i))
+
+  -- a list is written by the types of a tuple
+  pub tuple_is :
+      (tuple : TypeDefTuple) (value : Dyn) (values found : List Dyn) (types : List Id) → value ≡ dyn.List values
+      → found ≡ values → types ≡ tuple.fields
+      → definition_within left table (def.Tuple tuple) value ≡ members_within left table types found
+  tuple_is tuple value values found types is e f =
+      is_held dyn.List list_in (members_within left table tuple.fields) lists value values is
+      ∙ (λ i. members_within left table (sym f i) (sym e i))
+
+  -- a list is written as a sequence by its count and its items
+  pub sequence_is :
+      (sequence : TypeDefSequence) (value : Dyn) (values found : List Dyn) → value ≡ dyn.List values → found ≡ values
+      → definition_within left table (def.Sequence sequence) value
+      ≡ followed_by (count (length found)) (items_within left table sequence.type_param (length found) found)
+  sequence_is sequence value values found is e =
+      is_held dyn.List list_in (counted (items_within left table sequence.type_param)) lists value values is
+      ∙ ap (counted (items_within left table sequence.type_param)) (sym e)
+
+  -- a list is written as a map by its count and its pairs
+  pub map_is :
+      (map : TypeDefMap) (value : Dyn) (values found : List Dyn) → value ≡ dyn.List values → found ≡ values
+      → definition_within left table (def.Map map) value
+      ≡ followed_by (count (length found)) (pairs_within left table map.key map.value (length found) found)
+  map_is map value values found is e =
+      is_held dyn.List list_in (counted (pairs_within left table map.key map.value)) lists value values is
+      ∙ ap (counted (pairs_within left table map.key map.value)) (sym e)
+
+  -- a variant whose types stand for their writers
+  abbrev written_variant : Variant → AnyVariant (Unit {0}) Writers Text
+  written_variant v = map_variant (part_within left table) (λ t. t) v
+
+  -- the first variant with an index stays the first where references are read
+  first_variant :
+      (i : ℕ) (vs : List Variant)
+      → find (λ v. v.index == i) (map written_variant vs) ≡ option_map written_variant (find (λ v. v.index == i) vs)
+  first_variant i [] = refl
+  first_variant i (v ∷ vs) =
+      first_or (v.index == i) (find (λ w. w.index == i) vs) (find (λ w. w.index == i) (map written_variant vs))
+      (first_variant i vs)
+    where
+      first_or :
+          (here : Bool) (rest : Option Variant) (other : Option (AnyVariant (Unit {0}) Writers Text))
+          → other ≡ option_map written_variant rest
+          → cond here (Some (written_variant v)) other ≡ option_map written_variant (cond here (Some v) rest)
+      first_or true rest other e = refl
+      first_or false rest other e = e
+
+  -- a variant is written by its index and the fields of the first variant with that index
+  variant_is :
+      (choice : TypeDefVariant) (value : Dyn) (name : Text) (index : ℕ) (values : List (Option Text × Dyn))
+      (o : Option Variant)
+      → value ≡ dyn.Variant name index values → find (λ v. v.index == index) choice.variants ≡ o
+      → definition_within left table (def.Variant choice) value
+      ≡ followed_by (written (index ∷ [])) (fields_of (option_map written_variant o) name values)
+  variant_is choice value name index values o is e =
+      is_held chosen variant_in (chosen_variant (map written_variant choice.variants)) variants value (name, index, values) is
+      ∙ ap (λ p. followed_by (written (index ∷ [])) (fields_of p name values))
+      (first_variant index choice.variants ∙ ap (option_map written_variant) e)
+
+  -- no variant has the index
+  pub variant_missing :
+      (choice : TypeDefVariant) (value : Dyn) (name : Text) (index : ℕ) (values : List (Option Text × Dyn))
+      → value ≡ dyn.Variant name index values → find (λ v. v.index == index) choice.variants ≡ None
+      → definition_within left table (def.Variant choice) value ≡ refused mismatch
+  variant_missing choice value name index values is e = variant_is choice value name index values None is e
+
+  -- the variant with the index has another name
+  pub variant_misnamed :
+      (choice : TypeDefVariant) (value : Dyn) (name : Text) (index : ℕ) (values : List (Option Text × Dyn)) (v : Variant)
+      → value ≡ dyn.Variant name index values → find (λ v. v.index == index) choice.variants ≡ Some v
+      → bytes_eq v.name name ≡ false
+      → definition_within left table (def.Variant choice) value ≡ refused mismatch
+  variant_misnamed choice value name index values v is e differs =
+      variant_is choice value name index values (Some v) is e
+      ∙ ap (λ t. followed_by (written (index ∷ []))
+      (if t then fields (map (map_field {G = Unit {0}} (part_within left table) (λ t. t)) v.fields) values else refused mismatch)) differs
+
+  -- the variant with the index has the name
+  pub variant_named :
+      (choice : TypeDefVariant) (value : Dyn) (name : Text) (index : ℕ) (values found : List (Option Text × Dyn))
+      (v : Variant) (fs : List Field)
+      → value ≡ dyn.Variant name index values → find (λ v. v.index == index) choice.variants ≡ Some v
+      → bytes_eq v.name name ≡ true → fs ≡ v.fields → found ≡ values
+      → definition_within left table (def.Variant choice) value
+      ≡ followed_by (written (index ∷ [])) (fields_within left table fs found)
+  variant_named choice value name index values found v fs is e same f g =
+      variant_is choice value name index values (Some v) is e
+      ∙ ap (λ t. followed_by (written (index ∷ []))
+      (if t then fields (map (map_field {G = Unit {0}} (part_within left table) (λ t. t)) v.fields) values else refused mismatch)) same
+      ∙ (λ i. followed_by (written (index ∷ [])) (fields_within left table (sym f i) (sym g i)))

@@ -1,0 +1,100 @@
+-- The kinds of values.
+use Rattle.std.proofs.Common.{◌≡◌, ℕ, ℤ, Bool, List, Option, Some, refl, ap, sym, ◌∙◌}
+use Rattle.scale_info_types.specs.Portable.{Text}
+use Rattle.scale_info_value.specs.declared.value.Dyn.{Dyn, out-Dyn}
+use Rattle.scale_info_value.specs.declared.value.Dyn.TheOpen.{Dyn-F}
+use Rattle.scale_info_value.specs.declared.value.Dyn.TheOpen as layer
+use Rattle.scale_info_value.specs.declared.value.Dyn.TheVariants as dyn
+use Rattle.scale_info_value.specs.declared.value.Dyn.TheVariants.{outs-Bool, outs-Unsigned, outs-Signed, outs-Text}
+use Rattle.scale_info_value.specs.declared.value.Dyn.TheVariants.{outs-List, outs-Record, outs-Variant}
+use Rattle.scale_info_value.specs.declared.value.Dyn.TheVariants.{rolls-Bool, rolls-Unsigned, rolls-Signed, rolls-Text}
+use Rattle.scale_info_value.specs.declared.value.Dyn.TheVariants.{rolls-List, rolls-Record, rolls-Variant}
+use Rattle.scale_info_value.specs.declared.value.Dyn.TheViews.{roll-Dyn, roll-out-Dyn}
+use Rattle.scale_info_encode.specs.DefinitionWriters.{truth_in, unsigned_in, signed_in, text_in, list_in, record_in, variant_in}
+
+-- the outermost part of a value of each kind
+pub ruleset outs = (outs-Bool, outs-Unsigned, outs-Signed, outs-Text, outs-List, outs-Record, outs-Variant)
+
+-- `make` makes the values of one kind, and `kind` finds what they were made of
+pub record IsKind {A : Type 0} (make : A → Dyn) (kind : Dyn-F Dyn → Option A) : Type 0 where
+  pub found : (x : A) → kind (out-Dyn (make x)) ≡ Some x
+  pub made : (value : Dyn) (x : A) → kind (out-Dyn value) ≡ Some x → value ≡ make x
+
+-- a kind, by what the outermost part of its values is
+by_parts :
+    {A : Type 0} (make : A → Dyn) (part : A → Dyn-F Dyn) (kind : Dyn-F Dyn → Option A)
+    → ((x : A) → out-Dyn (make x) ≡ part x) → ((x : A) → roll-Dyn (part x) ≡ make x)
+    → ((x : A) → kind (part x) ≡ Some x) → ((o : Dyn-F Dyn) (x : A) → kind o ≡ Some x → o ≡ part x)
+    → IsKind make kind
+by_parts make part kind outs rolls found known = record {
+  found = λ x. ap kind (outs x) ∙ found x;
+  made = λ value x e. sym (roll-out-Dyn value) ∙ ap roll-Dyn (known (out-Dyn value) x e) ∙ rolls x;
+}
+
+truth_part : (o : Dyn-F Dyn) (b : Bool) → truth_in o ≡ Some b → o ≡ layer.Bool b
+truth_part (layer.Bool x) b e = cc
+truth_part _ b e = cc
+
+-- truth values are a kind
+pub truths : IsKind dyn.Bool truth_in
+truths = by_parts dyn.Bool layer.Bool truth_in outs-Bool rolls-Bool (λ x. refl) truth_part
+
+unsigned_part : (o : Dyn-F Dyn) (n : ℕ) → unsigned_in o ≡ Some n → o ≡ layer.Unsigned n
+unsigned_part (layer.Unsigned x) n e = cc
+unsigned_part _ n e = cc
+
+-- integers of unsigned types are a kind
+pub unsigned_integers : IsKind dyn.Unsigned unsigned_in
+unsigned_integers = by_parts dyn.Unsigned layer.Unsigned unsigned_in outs-Unsigned rolls-Unsigned (λ x. refl) unsigned_part
+
+signed_part : (o : Dyn-F Dyn) (n : ℤ) → signed_in o ≡ Some n → o ≡ layer.Signed n
+signed_part (layer.Signed x) n e = cc
+signed_part _ n e = cc
+
+-- integers of signed types are a kind
+pub signed_integers : IsKind dyn.Signed signed_in
+signed_integers = by_parts dyn.Signed layer.Signed signed_in outs-Signed rolls-Signed (λ x. refl) signed_part
+
+text_part : (o : Dyn-F Dyn) (t : Text) → text_in o ≡ Some t → o ≡ layer.Text t
+text_part (layer.Text x) t e = cc
+text_part _ t e = cc
+
+-- texts are a kind
+pub texts : IsKind dyn.Text text_in
+texts = by_parts dyn.Text layer.Text text_in outs-Text rolls-Text (λ x. refl) text_part
+
+list_part : (o : Dyn-F Dyn) (values : List Dyn) → list_in o ≡ Some values → o ≡ layer.List values
+list_part (layer.List x) values e = cc
+list_part _ values e = cc
+
+-- lists are a kind
+pub lists : IsKind dyn.List list_in
+lists = by_parts dyn.List layer.List list_in outs-List rolls-List (λ x. refl) list_part
+
+record_part : (o : Dyn-F Dyn) (values : List (Option Text × Dyn)) → record_in o ≡ Some values → o ≡ layer.Record values
+record_part (layer.Record x) values e = cc
+record_part _ values e = cc
+
+-- records are a kind
+pub records : IsKind dyn.Record record_in
+records = by_parts dyn.Record layer.Record record_in outs-Record rolls-Record (λ x. refl) record_part
+
+-- what a variant is made of: its name, its index and its fields
+abbrev pub Chosen : Type 0
+Chosen = Text × ℕ × List (Option Text × Dyn)
+
+-- the variant that is made of this
+abbrev pub chosen : Chosen → Dyn
+chosen v = dyn.Variant v.0 v.1 v.2
+
+variant_part :
+    (o : Dyn-F Dyn) (v : Chosen) → variant_in o ≡ Some v → o ≡ layer.Variant v.0 v.1 v.2
+variant_part (layer.Variant name index values) v e =
+    let same : (name, index, values) ≡ v = cc in λ i. layer.Variant (same i).0 (same i).1 (same i).2
+variant_part _ v e = cc
+
+-- variants are a kind
+pub variants : IsKind chosen variant_in
+variants =
+    by_parts chosen (λ v. layer.Variant v.0 v.1 v.2) variant_in (λ v. outs-Variant v.0 v.1 v.2)
+    (λ v. rolls-Variant v.0 v.1 v.2) (λ v. refl) variant_part

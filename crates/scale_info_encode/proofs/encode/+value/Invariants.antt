@@ -1,0 +1,70 @@
+use Rattle.std.proofs.Common.{◌-◌, ◌*◌, drop, length, replicate}
+use Rattle.scale_info_encode.specs.Writers.{in_turn}
+use Rattle.scale_info_encode.specs.Writings.{definition_within, members_within, fields_within}
+use Rattle.scale_info_encode.specs.Writings.{pairs_within}
+use Rattle.scale_info_encode.proofs.SoFar.{SoFar}
+use Rattle.scale_info_encode.proofs.encode.+value.Given as goal
+
+abbrev pub decreases-value_within : goal.decreases-value_within
+decreases-value_within l = 5 * l.left
+
+abbrev pub decreases-value_by : goal.decreases-value_by
+decreases-value_by l = 5 * l.left - 1
+
+abbrev pub decreases-composite_value : goal.decreases-composite_value
+decreases-composite_value l = 5 * l.left - 2
+
+abbrev pub decreases-sequence_value : goal.decreases-sequence_value
+decreases-sequence_value l = 5 * l.left - 2
+
+abbrev pub decreases-array_value : goal.decreases-array_value
+decreases-array_value l = 5 * l.left - 2
+
+abbrev pub decreases-tuple_value : goal.decreases-tuple_value
+decreases-tuple_value l = 5 * l.left - 2
+
+abbrev pub decreases-map_value : goal.decreases-map_value
+decreases-map_value l = 5 * l.left - 2
+
+abbrev pub decreases-variant_value : goal.decreases-variant_value
+decreases-variant_value l = 5 * l.left - 2
+
+abbrev pub decreases-items : goal.decreases-items
+decreases-items l = 5 * l.left - 3
+
+abbrev pub decreases-items_by : goal.decreases-items_by
+decreases-items_by l = 5 * l.left
+
+abbrev pub decreases-members : goal.decreases-members
+decreases-members l = 5 * l.left - 3
+
+abbrev pub decreases-fields : goal.decreases-fields
+decreases-fields l = 5 * l.left - 3
+
+abbrev pub decreases-pairs : goal.decreases-pairs
+decreases-pairs l = 5 * l.left - 3
+
+abbrev pub decreases-pair : goal.decreases-pair
+decreases-pair l = 5 * l.left - 4
+
+abbrev pub invariant-items_by-loop : goal.invariant-items_by-loop
+invariant-items_by-loop l =
+    let write = definition_within l.left l.table l.definition in
+    SoFar (in_turn (replicate l.count write) l.values) (in_turn (replicate (l.count - l.counter) write) l.rest)
+    l.fn.out.items l.out.items
+
+abbrev pub invariant-members-loop-ty : goal.invariant-members-loop-ty
+invariant-members-loop-ty l =
+    SoFar (members_within l.left l.table l.types l.values)
+    (members_within l.left l.table (drop l.ty-index l.types) l.rest) l.fn.out.items l.out.items
+
+abbrev pub invariant-fields-loop-field : goal.invariant-fields-loop-field
+invariant-fields-loop-field l =
+    SoFar (fields_within l.left l.table l.all l.values)
+    (fields_within l.left l.table (drop l.field-index l.all) l.rest) l.fn.out.items l.out.items
+
+abbrev pub invariant-pairs-loop-entry : goal.invariant-pairs-loop-entry
+invariant-pairs-loop-entry l =
+    SoFar (pairs_within l.left l.table l.key l.value (length l.entries) l.entries)
+    (pairs_within l.left l.table l.key l.value (length (drop l.entry-index l.entries)) (drop l.entry-index l.entries))
+    l.fn.out.items l.out.items

@@ -1,0 +1,4 @@
+pub mod Writers
+pub mod IntegerWriters
+pub mod DefinitionWriters
+pub mod Writings

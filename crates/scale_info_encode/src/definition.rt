@@ -1,0 +1,39 @@
+//! The definitions that ids stand for.
+ghost use Rattle.std.specs.Prelude.{◌≡◌, ◌≤◌, IfOk, IfErr};
+ghost use Rattle.scale_info_value.specs.declared.value.Dyn.{Dyn};
+ghost use Rattle.scale_info_encode.specs.Writers.{refused};
+ghost use Rattle.scale_info_encode.specs.Writings.{value_within, compact_within};
+ghost use Rattle.scale_info_encode.specs.Writings.{definition_within, compact_definition_within};
+
+use crate::error::Refusal;
+use scale_info_tables::portable::PortableRegistry;
+use scale_info_types::form::PortableForm;
+use scale_info_types::ty::TypeDef;
+
+/// The definition of the type with this id, where so many levels are left for a value of it.
+///
+/// Errors: `TooDeep`, where none is left; `NoSuchType`, where the id is no index.
+#[inline(always)]
+pub fn definition_of(
+    table: &PortableRegistry,
+    id: u32,
+    left: u8,
+) -> Result<&TypeDef<PortableForm>, Refusal>
+    ensures level { IfOk result (λ _. 1 ≤ left) }
+    ensures known { IfOk result (λ found. (value : Dyn)
+        → (value_within left table.now id value
+        ≡ definition_within left table.now found.now value)
+        × (compact_within left table.now id value
+        ≡ compact_definition_within left table.now found.now value)) }
+    ensures unknown { IfErr result (λ why. (value : Dyn)
+        → (value_within left table.now id value ≡ refused why)
+        × (compact_within left table.now id value ≡ refused why)) }
+{
+    if left == 0 {
+        return Err(Refusal::TooDeep);
+    }
+    match table.resolve(id) {
+        None => Err(Refusal::NoSuchType),
+        Some(ty) => Ok(&ty.type_def),
+    }
+}

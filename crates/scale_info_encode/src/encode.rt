@@ -1,0 +1,495 @@
+//! Values encoded by the definitions of their types.
+ghost use Rattle.std.specs.Prelude.{◌≡◌, ◌≤◌, IfErr, OnOk, OnErr, length, replicate};
+ghost use Rattle.scale_info_bytes.specs.Encodings.{IsPrefix};
+ghost use Rattle.scale_info_types.specs.declared.ty.TypeDef.TheVariants as def;
+ghost use Rattle.scale_info_encode.specs.Writers.{Appends, IsErrorOf, in_turn};
+ghost use Rattle.scale_info_encode.specs.Writings.{value_within, definition_within, fields_within};
+ghost use Rattle.scale_info_encode.specs.Writings.{items_within, members_within, pair_within};
+ghost use Rattle.scale_info_encode.specs.Writings.{pairs_within, writing};
+
+use crate::compact::compact_within;
+use crate::definition::definition_of;
+use crate::error::EncodeValueError;
+use crate::integer::count;
+use crate::primitive::primitive;
+use scale_info_collections::text::Text;
+use scale_info_identities::symbol::UntrackedSymbol;
+use scale_info_identities::type_id::TypeId;
+use scale_info_tables::portable::PortableRegistry;
+use scale_info_types::form::PortableForm;
+use scale_info_types::ty::{
+    Field, TypeDef, TypeDefArray, TypeDefComposite, TypeDefMap, TypeDefSequence, TypeDefTuple,
+    TypeDefVariant,
+};
+use scale_info_value::value::Dyn;
+use scale_info_value::variants::variant_with_index;
+
+/// Appends the encoding of a value of the type with this id.
+///
+/// An id is an index of the table, as for [`PortableRegistry::resolve`]. What is appended is decoded
+/// by `decode_value` as this value, whatever follows it, and a value that `decode_value` gave is
+/// encoded to the bytes that it was decoded from. The parts of a value are encoded in order, and
+/// the first error is returned; where there is one, the output is as it was before the call.
+/// Allocates for the output alone.
+///
+/// A value has depth 1, and each part of a value is one deeper than the value; at most 128 is
+/// encoded. The work is bounded by the value and the bytes.
+///
+/// Errors: `TooDeep`, where a value is more than 128 deep; `NoSuchType`, where an id is no index of
+/// the table; `Unsupported`, where values of a type are not encoded; `Mismatch`, where the value is
+/// none of the type; `Memory`, where an allocation failed.
+///
+/// With a table that has `Vec<u32>` at index 0, and the list of 1 and 2 as `value`:
+///
+/// ```text
+/// encode_value(&table, 0, &value, &mut out)?;   // appends [8, 1, 0, 0, 0, 2, 0, 0, 0]
+/// ```
+pub fn encode_value(
+    table: &PortableRegistry,
+    id: u32,
+    value: &Dyn,
+    out: &mut Vec<u8>,
+) -> Result<(), EncodeValueError>
+    ensures ok { OnOk result
+        (Appends (writing table.now id 1 value.now) out.old.items out.new.items) }
+    ensures err { IfErr result (IsErrorOf (writing table.now id 1 value.now)) }
+    ensures same { OnErr result (out.new.items ≡ out.old.items) }
+{
+    let start = out.len();
+    let written = value_within(table, id, 128, value, out);
+    if written.is_err() {
+        out.truncate(start);
+    }
+    written
+}
+
+/// Appends a value of the type with this id, where so many levels are left. Where that fails, some
+/// of its bytes may stand at the end.
+#[cycle(value)]
+#[inline(always)]
+fn value_within(
+    table: &PortableRegistry,
+    id: u32,
+    left: u8,
+    value: &Dyn,
+    out: &mut Vec<u8>,
+) -> Result<(), EncodeValueError>
+    ensures ok { OnOk result
+        (Appends (value_within left table.now id value.now) out.old.items out.new.items) }
+    ensures err { IfErr result (IsErrorOf (value_within left table.now id value.now)) }
+    ensures kept { OnErr result (IsPrefix out.old.items out.new.items) }
+{
+    let definition = definition_of(table, id, left)?;
+    value_by(table, definition, left, value, out)
+}
+
+/// Appends a value by the definition of its type.
+///
+/// Each kind of definition has a function of its own, which is not inlined, and its loop is inlined
+/// into it: so a level of a value takes the stack of its own kind, and not that of all.
+#[cycle(value)]
+#[inline(never)]
+fn value_by(
+    table: &PortableRegistry,
+    definition: &TypeDef<PortableForm>,
+    left: u8,
+    value: &Dyn,
+    out: &mut Vec<u8>,
+) -> Result<(), EncodeValueError>
+    requires { 1 ≤ left }
+    ensures ok { OnOk result
+        (Appends (definition_within left table.now definition.now value.now)
+        out.old.items out.new.items) }
+    ensures err { IfErr result
+        (IsErrorOf (definition_within left table.now definition.now value.now)) }
+    ensures kept { OnErr result (IsPrefix out.old.items out.new.items) }
+{
+    match definition {
+        TypeDef::Composite(composite) => composite_value(table, composite, left, value, out),
+        TypeDef::Variant(choice) => variant_value(table, choice, left, value, out),
+        TypeDef::Sequence(sequence) => sequence_value(table, sequence, left, value, out),
+        TypeDef::Array(array) => array_value(table, array, left, value, out),
+        TypeDef::Tuple(tuple) => tuple_value(table, tuple, left, value, out),
+        TypeDef::Primitive(kind) => primitive(kind, value, out),
+        TypeDef::Compact(compact) => {
+            compact_within(table, compact.type_param.id, left, value, out)
+        }
+        TypeDef::BitSequence(_) => Err(EncodeValueError::Unsupported),
+        TypeDef::Map(map) => map_value(table, map, left, value, out),
+    }
+}
+
+/// Appends a value of a struct.
+#[cycle(value)]
+#[inline(never)]
+fn composite_value(
+    table: &PortableRegistry,
+    composite: &TypeDefComposite<PortableForm>,
+    left: u8,
+    value: &Dyn,
+    out: &mut Vec<u8>,
+) -> Result<(), EncodeValueError>
+    requires { 1 ≤ left }
+    ensures ok { OnOk result
+        (Appends (definition_within left table.now (def.Composite composite.now) value.now)
+        out.old.items out.new.items) }
+    ensures err { IfErr result
+        (IsErrorOf (definition_within left table.now (def.Composite composite.now) value.now)) }
+    ensures kept { OnErr result (IsPrefix out.old.items out.new.items) }
+{
+    match value {
+        Dyn::Record(values) => {
+            fields(
+                table,
+                composite.fields.as_slice(),
+                left,
+                values.as_slice(),
+                out,
+            )
+        }
+        _ => Err(EncodeValueError::Mismatch),
+    }
+}
+
+/// Appends a value of an enum.
+#[cycle(value)]
+#[inline(never)]
+fn variant_value(
+    table: &PortableRegistry,
+    choice: &TypeDefVariant<PortableForm>,
+    left: u8,
+    value: &Dyn,
+    out: &mut Vec<u8>,
+) -> Result<(), EncodeValueError>
+    requires { 1 ≤ left }
+    ensures ok { OnOk result
+        (Appends (definition_within left table.now (def.Variant choice.now) value.now)
+        out.old.items out.new.items) }
+    ensures err { IfErr result
+        (IsErrorOf (definition_within left table.now (def.Variant choice.now) value.now)) }
+    ensures kept { OnErr result (IsPrefix out.old.items out.new.items) }
+{
+    let Dyn::Variant {
+        name,
+        index,
+        fields: values,
+    } = value
+    else {
+        return Err(EncodeValueError::Mismatch);
+    };
+    match variant_with_index(choice.variants.as_slice(), *index) {
+        Some(variant) if variant.name == *name => {
+            out.push(*index)?;
+            fields(
+                table,
+                variant.fields.as_slice(),
+                left,
+                values.as_slice(),
+                out,
+            )
+        }
+        _ => Err(EncodeValueError::Mismatch),
+    }
+}
+
+/// Appends a value of a sequence.
+#[cycle(value)]
+#[inline(never)]
+fn sequence_value(
+    table: &PortableRegistry,
+    sequence: &TypeDefSequence<PortableForm>,
+    left: u8,
+    value: &Dyn,
+    out: &mut Vec<u8>,
+) -> Result<(), EncodeValueError>
+    requires { 1 ≤ left }
+    ensures ok { OnOk result
+        (Appends (definition_within left table.now (def.Sequence sequence.now) value.now)
+        out.old.items out.new.items) }
+    ensures err { IfErr result
+        (IsErrorOf (definition_within left table.now (def.Sequence sequence.now) value.now)) }
+    ensures kept { OnErr result (IsPrefix out.old.items out.new.items) }
+{
+    match value {
+        Dyn::List(values) => {
+            let values = values.as_slice();
+            count(values.len(), out)?;
+            items(table, &sequence.type_param, values.len(), left, values, out)
+        }
+        _ => Err(EncodeValueError::Mismatch),
+    }
+}
+
+/// Appends a value of an array.
+#[cycle(value)]
+#[inline(never)]
+fn array_value(
+    table: &PortableRegistry,
+    array: &TypeDefArray<PortableForm>,
+    left: u8,
+    value: &Dyn,
+    out: &mut Vec<u8>,
+) -> Result<(), EncodeValueError>
+    requires { 1 ≤ left }
+    ensures ok { OnOk result
+        (Appends (definition_within left table.now (def.Array array.now) value.now)
+        out.old.items out.new.items) }
+    ensures err { IfErr result
+        (IsErrorOf (definition_within left table.now (def.Array array.now) value.now)) }
+    ensures kept { OnErr result (IsPrefix out.old.items out.new.items) }
+{
+    match value {
+        Dyn::List(values) => {
+            let count = array.len as usize;
+            items(
+                table,
+                &array.type_param,
+                count,
+                left,
+                values.as_slice(),
+                out,
+            )
+        }
+        _ => Err(EncodeValueError::Mismatch),
+    }
+}
+
+/// Appends so many values of one type. The type is looked up once for all of them.
+#[cycle(value)]
+#[inline(always)]
+fn items(
+    table: &PortableRegistry,
+    ty: &UntrackedSymbol<TypeId>,
+    count: usize,
+    left: u8,
+    values: &[Dyn],
+    out: &mut Vec<u8>,
+) -> Result<(), EncodeValueError>
+    requires { 1 ≤ left }
+    ensures ok { OnOk result
+        (Appends (items_within left table.now ty.now count values.now)
+        out.old.items out.new.items) }
+    ensures err { IfErr result (IsErrorOf (items_within left table.now ty.now count values.now)) }
+    ensures kept { OnErr result (IsPrefix out.old.items out.new.items) }
+{
+    if count == 0 && values.is_empty() {
+        return Ok(());
+    }
+    if count == 0 || values.is_empty() {
+        return Err(EncodeValueError::Mismatch);
+    }
+    let definition = definition_of(table, ty.id, left - 1)?;
+    items_by(table, definition, count, left - 1, values, out)
+}
+
+/// Appends so many values by the definition of their type.
+#[cycle(value)]
+#[inline(always)]
+fn items_by(
+    table: &PortableRegistry,
+    definition: &TypeDef<PortableForm>,
+    count: usize,
+    left: u8,
+    values: &[Dyn],
+    out: &mut Vec<u8>,
+) -> Result<(), EncodeValueError>
+    requires { 1 ≤ left }
+    ensures ok { OnOk result (Appends
+        (in_turn (replicate count (definition_within left table.now definition.now)) values.now)
+        out.old.items out.new.items) }
+    ensures err { IfErr result (IsErrorOf
+        (in_turn (replicate count (definition_within left table.now definition.now)) values.now)) }
+    ensures kept { OnErr result (IsPrefix out.old.items out.new.items) }
+{
+    let mut rest = values;
+    for _ in 0..count {
+        let [value, more @ ..] = rest else {
+            return Err(EncodeValueError::Mismatch);
+        };
+        value_by(table, definition, left, value, out)?;
+        rest = more;
+    }
+    if !rest.is_empty() {
+        return Err(EncodeValueError::Mismatch);
+    }
+    Ok(())
+}
+
+/// Appends a value of a tuple.
+#[cycle(value)]
+#[inline(never)]
+fn tuple_value(
+    table: &PortableRegistry,
+    tuple: &TypeDefTuple<PortableForm>,
+    left: u8,
+    value: &Dyn,
+    out: &mut Vec<u8>,
+) -> Result<(), EncodeValueError>
+    requires { 1 ≤ left }
+    ensures ok { OnOk result
+        (Appends (definition_within left table.now (def.Tuple tuple.now) value.now)
+        out.old.items out.new.items) }
+    ensures err { IfErr result
+        (IsErrorOf (definition_within left table.now (def.Tuple tuple.now) value.now)) }
+    ensures kept { OnErr result (IsPrefix out.old.items out.new.items) }
+{
+    match value {
+        Dyn::List(values) => {
+            members(table, tuple.fields.as_slice(), left, values.as_slice(), out)
+        }
+        _ => Err(EncodeValueError::Mismatch),
+    }
+}
+
+/// Appends a value of each type in order.
+#[cycle(value)]
+#[inline(always)]
+fn members(
+    table: &PortableRegistry,
+    types: &[UntrackedSymbol<TypeId>],
+    left: u8,
+    values: &[Dyn],
+    out: &mut Vec<u8>,
+) -> Result<(), EncodeValueError>
+    requires { 1 ≤ left }
+    ensures ok { OnOk result
+        (Appends (members_within left table.now types.now values.now)
+        out.old.items out.new.items) }
+    ensures err { IfErr result (IsErrorOf (members_within left table.now types.now values.now)) }
+    ensures kept { OnErr result (IsPrefix out.old.items out.new.items) }
+{
+    let mut rest = values;
+    for ty in types {
+        let [value, more @ ..] = rest else {
+            return Err(EncodeValueError::Mismatch);
+        };
+        value_within(table, ty.id, left - 1, value, out)?;
+        rest = more;
+    }
+    if !rest.is_empty() {
+        return Err(EncodeValueError::Mismatch);
+    }
+    Ok(())
+}
+
+/// Appends a value of each field's type in order, which is to have the field's name.
+#[cycle(value)]
+#[inline(always)]
+fn fields(
+    table: &PortableRegistry,
+    all: &[Field<PortableForm>],
+    left: u8,
+    values: &[(Option<Text>, Dyn)],
+    out: &mut Vec<u8>,
+) -> Result<(), EncodeValueError>
+    requires { 1 ≤ left }
+    ensures ok { OnOk result
+        (Appends (fields_within left table.now all.now values.now) out.old.items out.new.items) }
+    ensures err { IfErr result (IsErrorOf (fields_within left table.now all.now values.now)) }
+    ensures kept { OnErr result (IsPrefix out.old.items out.new.items) }
+{
+    let mut rest = values;
+    for field in all {
+        let [named, more @ ..] = rest else {
+            return Err(EncodeValueError::Mismatch);
+        };
+        if field.name != named.0 {
+            return Err(EncodeValueError::Mismatch);
+        }
+        value_within(table, field.ty.id, left - 1, &named.1, out)?;
+        rest = more;
+    }
+    if !rest.is_empty() {
+        return Err(EncodeValueError::Mismatch);
+    }
+    Ok(())
+}
+
+/// Appends a value of a map.
+#[cycle(value)]
+#[inline(never)]
+fn map_value(
+    table: &PortableRegistry,
+    map: &TypeDefMap<PortableForm>,
+    left: u8,
+    value: &Dyn,
+    out: &mut Vec<u8>,
+) -> Result<(), EncodeValueError>
+    requires { 1 ≤ left }
+    ensures ok { OnOk result
+        (Appends (definition_within left table.now (def.Map map.now) value.now)
+        out.old.items out.new.items) }
+    ensures err { IfErr result
+        (IsErrorOf (definition_within left table.now (def.Map map.now) value.now)) }
+    ensures kept { OnErr result (IsPrefix out.old.items out.new.items) }
+{
+    match value {
+        Dyn::List(entries) => {
+            let entries = entries.as_slice();
+            count(entries.len(), out)?;
+            pairs(table, &map.key, &map.value, left, entries, out)
+        }
+        _ => Err(EncodeValueError::Mismatch),
+    }
+}
+
+/// Appends pairs of a key and a value, each a list of two.
+#[cycle(value)]
+#[inline(always)]
+fn pairs(
+    table: &PortableRegistry,
+    key: &UntrackedSymbol<TypeId>,
+    value: &UntrackedSymbol<TypeId>,
+    left: u8,
+    entries: &[Dyn],
+    out: &mut Vec<u8>,
+) -> Result<(), EncodeValueError>
+    requires { 1 ≤ left }
+    ensures ok { OnOk result (Appends
+        (pairs_within left table.now key.now value.now (length entries.now) entries.now)
+        out.old.items out.new.items) }
+    ensures err { IfErr result (IsErrorOf
+        (pairs_within left table.now key.now value.now (length entries.now) entries.now)) }
+    ensures kept { OnErr result (IsPrefix out.old.items out.new.items) }
+{
+    for entry in entries {
+        pair(table, key, value, left, entry, out)?;
+    }
+    Ok(())
+}
+
+/// Appends a key and a value.
+#[cycle(value)]
+fn pair(
+    table: &PortableRegistry,
+    key: &UntrackedSymbol<TypeId>,
+    value: &UntrackedSymbol<TypeId>,
+    left: u8,
+    entry: &Dyn,
+    out: &mut Vec<u8>,
+) -> Result<(), EncodeValueError>
+    requires { 1 ≤ left }
+    ensures ok { OnOk result
+        (Appends (pair_within left table.now key.now value.now entry.now)
+        out.old.items out.new.items) }
+    ensures err { IfErr result
+        (IsErrorOf (pair_within left table.now key.now value.now entry.now)) }
+    ensures kept { OnErr result (IsPrefix out.old.items out.new.items) }
+{
+    let Dyn::List(both) = entry else {
+        return Err(EncodeValueError::Mismatch);
+    };
+    let inner = left.saturating_sub(2);
+    let [first, more @ ..] = both.as_slice() else {
+        return Err(EncodeValueError::Mismatch);
+    };
+    value_within(table, key.id, inner, first, out)?;
+    let [second, more @ ..] = more else {
+        return Err(EncodeValueError::Mismatch);
+    };
+    value_within(table, value.id, inner, second, out)?;
+    if !more.is_empty() {
+        return Err(EncodeValueError::Mismatch);
+    }
+    Ok(())
+}

@@ -1,0 +1,44 @@
+//! Laws of the values that are encoded by a table. A law does nothing when it runs: its contract is
+//! the law.
+ghost use Rattle.std.specs.Prelude.{◌≡◌, ◌++◌, List, ℕ, []};
+ghost use Rattle.std.specs.List.{AllByRecursion};
+ghost use Rattle.scale_info_bytes.specs.Encodings.{HasPrefix, IsByte};
+ghost use Rattle.scale_info_tables.specs.declared.portable.PortableRegistry.{PortableRegistry};
+ghost use Rattle.scale_info_value.specs.declared.value.Dyn.{Dyn};
+ghost use Rattle.scale_info_value.specs.Outcomes.{decoded};
+ghost use Rattle.scale_info_value.specs.Readings.{reading};
+ghost use Rattle.scale_info_encode.specs.declared.error.Refusal as refusals;
+ghost use Rattle.scale_info_encode.specs.Writers.{written, refused};
+ghost use Rattle.scale_info_encode.specs.Writings.{writing};
+
+pub mod examples;
+
+/// The bytes of a value are decoded as that value, whatever follows them.
+pub fn read_back()
+    ensures { (table : PortableRegistry) (id depth : ℕ) (value : Dyn) (bytes : List ℕ)
+        → writing table id depth value ≡ written bytes → (rest : List ℕ)
+        → reading table id depth (bytes ++ rest) ≡ decoded value rest }
+{}
+
+/// A value that was decoded is encoded to the very bytes that it was decoded from.
+pub fn written_as_read()
+    ensures { (table : PortableRegistry) (id depth : ℕ) (input : List ℕ) (value : Dyn)
+        (rest : List ℕ) → AllByRecursion IsByte input
+        → reading table id depth input ≡ decoded value rest
+        → HasPrefix (λ bytes. writing table id depth value ≡ written bytes) input rest }
+{}
+
+/// No two inputs are decoded as one value with nothing left: a value has one encoding by a type.
+pub fn one_reading()
+    ensures { (table : PortableRegistry) (id depth : ℕ) (input other : List ℕ) (value : Dyn)
+        → AllByRecursion IsByte input → AllByRecursion IsByte other
+        → reading table id depth input ≡ decoded value []
+        → reading table id depth other ≡ decoded value [] → input ≡ other }
+{}
+
+/// A value that has no encoding, whatever the reason, is decoded from no input.
+pub fn never_read()
+    ensures { (table : PortableRegistry) (id depth : ℕ) (value : Dyn) (why : refusals.Refusal)
+        (input rest : List ℕ) → writing table id depth value ≡ refused why
+        → AllByRecursion IsByte input → reading table id depth input ≡ decoded value rest → ⊥ }
+{}

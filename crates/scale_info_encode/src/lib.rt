@@ -1,0 +1,13 @@
+//! Values encoded as SCALE bytes by a table of types.
+//!
+//! [`encode::encode_value`] appends the encoding of a [`scale_info_value::value::Dyn`] of a type
+//! that the program knows only from a table.
+#![tactic(auto)]
+
+mod compact;
+mod definition;
+pub mod encode;
+pub mod error;
+mod integer;
+pub mod laws;
+mod primitive;

@@ -1,0 +1,107 @@
+//! Values of primitive types, which have no parts.
+ghost use Rattle.std.specs.Prelude.{◌≡◌, IfErr, OnOk, OnErr};
+ghost use Rattle.scale_info_value.specs.IntegerWidths.{width_of};
+ghost use Rattle.scale_info_encode.specs.Writers.{Appends, IsErrorOf};
+ghost use Rattle.scale_info_encode.specs.DefinitionWriters.{unsigned_in, signed_in, truth_in};
+ghost use Rattle.scale_info_encode.specs.DefinitionWriters.{text_in, held, unsigned, signed, truth};
+ghost use Rattle.scale_info_encode.specs.DefinitionWriters.{text, primitive};
+
+use crate::error::EncodeValueError;
+use crate::integer::{signed, unsigned};
+use scale_info_bytes::error::EncodeError;
+use scale_info_bytes::text::encode_text;
+use scale_info_types::ty::TypeDefPrimitive;
+use scale_info_value::integer::IntegerWidth;
+use scale_info_value::value::Dyn;
+
+/// Appends a truth value.
+fn truth(value: &Dyn, out: &mut Vec<u8>) -> Result<(), EncodeValueError>
+    ensures ok { OnOk result
+        (Appends (held truth_in truth value.now) out.old.items out.new.items) }
+    ensures err { IfErr result (IsErrorOf (held truth_in truth value.now)) }
+    ensures same { OnErr result (out.new.items ≡ out.old.items) }
+{
+    match value {
+        Dyn::Bool(truth) => Ok(out.push(*truth as u8)?),
+        _ => Err(EncodeValueError::Mismatch),
+    }
+}
+
+/// Appends an integer of an unsigned type.
+fn unsigned_value(
+    width: IntegerWidth,
+    value: &Dyn,
+    out: &mut Vec<u8>,
+) -> Result<(), EncodeValueError>
+    ensures ok { OnOk result
+        (Appends (held unsigned_in (unsigned (width_of width)) value.now)
+        out.old.items out.new.items) }
+    ensures err { IfErr result
+        (IsErrorOf (held unsigned_in (unsigned (width_of width)) value.now)) }
+    ensures same { OnErr result (out.new.items ≡ out.old.items) }
+{
+    match value {
+        Dyn::Unsigned(n) => unsigned(width, *n, out),
+        _ => Err(EncodeValueError::Mismatch),
+    }
+}
+
+/// Appends an integer of a signed type.
+fn signed_value(width: IntegerWidth, value: &Dyn, out: &mut Vec<u8>) -> Result<(), EncodeValueError>
+    ensures ok { OnOk result
+        (Appends (held signed_in (signed (width_of width)) value.now)
+        out.old.items out.new.items) }
+    ensures err { IfErr result (IsErrorOf (held signed_in (signed (width_of width)) value.now)) }
+    ensures same { OnErr result (out.new.items ≡ out.old.items) }
+{
+    match value {
+        Dyn::Signed(n) => signed(width, *n, out),
+        _ => Err(EncodeValueError::Mismatch),
+    }
+}
+
+/// Appends a text.
+fn text(value: &Dyn, out: &mut Vec<u8>) -> Result<(), EncodeValueError>
+    ensures ok { OnOk result (Appends (held text_in text value.now) out.old.items out.new.items) }
+    ensures err { IfErr result (IsErrorOf (held text_in text value.now)) }
+    ensures same { OnErr result (out.new.items ≡ out.old.items) }
+{
+    match value {
+        Dyn::Text(chars) => match encode_text(out, chars.as_str()) {
+            Ok(()) => Ok(()),
+            Err(EncodeError::TooLong) => Err(EncodeValueError::Mismatch),
+            Err(EncodeError::Memory) => Err(EncodeValueError::Memory),
+        },
+        _ => Err(EncodeValueError::Mismatch),
+    }
+}
+
+/// Appends a value of a primitive type.
+pub fn primitive(
+    kind: &TypeDefPrimitive,
+    value: &Dyn,
+    out: &mut Vec<u8>,
+) -> Result<(), EncodeValueError>
+    ensures ok { OnOk result
+        (Appends (primitive kind.now value.now) out.old.items out.new.items) }
+    ensures err { IfErr result (IsErrorOf (primitive kind.now value.now)) }
+    ensures same { OnErr result (out.new.items ≡ out.old.items) }
+{
+    match kind {
+        TypeDefPrimitive::Bool => truth(value, out),
+        TypeDefPrimitive::Str => text(value, out),
+        TypeDefPrimitive::U8 => unsigned_value(IntegerWidth::One, value, out),
+        TypeDefPrimitive::U16 => unsigned_value(IntegerWidth::Two, value, out),
+        TypeDefPrimitive::U32 => unsigned_value(IntegerWidth::Four, value, out),
+        TypeDefPrimitive::U64 => unsigned_value(IntegerWidth::Eight, value, out),
+        TypeDefPrimitive::U128 => unsigned_value(IntegerWidth::Sixteen, value, out),
+        TypeDefPrimitive::I8 => signed_value(IntegerWidth::One, value, out),
+        TypeDefPrimitive::I16 => signed_value(IntegerWidth::Two, value, out),
+        TypeDefPrimitive::I32 => signed_value(IntegerWidth::Four, value, out),
+        TypeDefPrimitive::I64 => signed_value(IntegerWidth::Eight, value, out),
+        TypeDefPrimitive::I128 => signed_value(IntegerWidth::Sixteen, value, out),
+        TypeDefPrimitive::Char | TypeDefPrimitive::U256 | TypeDefPrimitive::I256 => {
+            Err(EncodeValueError::Unsupported)
+        }
+    }
+}
