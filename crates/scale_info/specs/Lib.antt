@@ -72,6 +72,7 @@ pub use Rattle.scale_info_json_trees.specs.EntryTrees
 pub use Rattle.scale_info_json.specs.JsonTables
 pub use Rattle.scale_info_json.specs.JsonErrors
 pub use Rattle.scale_info_json.specs.JsonExamples
+pub use Rattle.scale_info_json_text.specs.TextTables
 pub use Rattle.scale_info_transcode.specs.Transcodings
 pub use Rattle.scale_info_value.specs.Readings
 pub use Rattle.scale_info_value.specs.Outcomes
@@ -79,6 +80,10 @@ pub use Rattle.scale_info_value.specs.ValueDefinitions
 pub use Rattle.scale_info_value.specs.IntegerDecoders
 pub use Rattle.scale_info_value.specs.IntegerWidths
 pub use Rattle.scale_info_value.specs.ValueExamples
+pub use Rattle.scale_info_encode.specs.DefinitionWriters
+pub use Rattle.scale_info_encode.specs.IntegerWriters
+pub use Rattle.scale_info_encode.specs.Writers
+pub use Rattle.scale_info_encode.specs.Writings
 pub use Rattle.scale_info_visit.specs.declared.visitor.VisitError.TheVariants as VisitErrors
 pub use Rattle.scale_info_visit.specs.EachEvent
 pub use Rattle.scale_info_visit.specs.Events

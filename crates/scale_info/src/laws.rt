@@ -3,6 +3,9 @@
 pub mod examples;
 
 pub use scale_info_catalogue::laws::{equal_catalogue_errors, equal_register_errors};
+pub use scale_info_encode::laws::{
+    equal_encode_errors, equal_refusals, never_read, one_reading, read_back, written_as_read,
+};
 pub use scale_info_export::laws::{
     equal_export_errors, equal_exported, headline, registered_tables,
 };
@@ -11,6 +14,7 @@ pub use scale_info_identities::laws::{
 };
 pub use scale_info_interner::laws::{equal_intern_errors, tracked_symbols_by_number};
 pub use scale_info_json::laws::{equal_json_errors, one_meaning};
+pub use scale_info_json_text::laws::equal_json_text_errors;
 pub use scale_info_laws::equalities::{
     equal_codec_errors, equal_definition_parts, equal_fields, equal_parameters, equal_paths,
     equal_variants,

@@ -6,6 +6,7 @@ pub mod impls;
 pub mod laws;
 pub mod macros;
 pub mod meta_type;
+pub mod value;
 pub mod visit;
 pub mod walk;
 
@@ -20,6 +21,7 @@ pub use scale_info_identities::symbol::UntrackedSymbol;
 pub use scale_info_identities::type_id::TypeId;
 pub use scale_info_interner::interner;
 pub use scale_info_json::{JsonError, append_json, from_json, to_json};
+pub use scale_info_json_text::{JsonTextError, from_json_text};
 pub use scale_info_lent::lent;
 pub use scale_info_prune::prune::{PruneError, append_pruned, prune};
 pub use scale_info_registry::registry;
@@ -38,7 +40,6 @@ pub use scale_info_types::ty::{
     TypeParameter,
 };
 pub use scale_info_types::{form, ty};
-pub use scale_info_value::value;
 pub use scale_info_value_text::value_text;
 pub use scale_info_view::view;
 pub use scale_info_walk::walk::RetainError;

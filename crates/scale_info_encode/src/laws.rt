@@ -1,15 +1,18 @@
 //! Laws of the values that are encoded by a table. A law does nothing when it runs: its contract is
 //! the law.
-ghost use Rattle.std.specs.Prelude.{◌≡◌, ◌++◌, List, ℕ, []};
+ghost use Rattle.std.specs.Prelude.{◌≡◌, ◌↔◌, ◌++◌, IsTrue, List, ℕ, []};
 ghost use Rattle.std.specs.List.{AllByRecursion};
 ghost use Rattle.scale_info_bytes.specs.Encodings.{HasPrefix, IsByte};
 ghost use Rattle.scale_info_tables.specs.declared.portable.PortableRegistry.{PortableRegistry};
 ghost use Rattle.scale_info_value.specs.declared.value.Dyn.{Dyn};
 ghost use Rattle.scale_info_value.specs.Outcomes.{decoded};
 ghost use Rattle.scale_info_value.specs.Readings.{reading};
+ghost use Rattle.scale_info_encode.specs.declared.error.EncodeValueError as errors;
 ghost use Rattle.scale_info_encode.specs.declared.error.Refusal as refusals;
 ghost use Rattle.scale_info_encode.specs.Writers.{written, refused};
 ghost use Rattle.scale_info_encode.specs.Writings.{writing};
+
+use crate::error::{EncodeValueError, Refusal};
 
 pub mod examples;
 
@@ -41,4 +44,16 @@ pub fn never_read()
     ensures { (table : PortableRegistry) (id depth : ℕ) (value : Dyn) (why : refusals.Refusal)
         (input rest : List ℕ) → writing table id depth value ≡ refused why
         → AllByRecursion IsByte input → reading table id depth input ≡ decoded value rest → ⊥ }
+{}
+
+/// Errors of encoding values are equal exactly where they are one value.
+pub fn equal_encode_errors()
+    ensures { (a b : errors.EncodeValueError)
+        → IsTrue (⟦<EncodeValueError as PartialEq>⟧.eq a b) ↔ (a ≡ b) }
+{}
+
+/// Refusals of values are equal exactly where they are one value.
+pub fn equal_refusals()
+    ensures { (a b : refusals.Refusal)
+        → IsTrue (⟦<Refusal as PartialEq>⟧.eq a b) ↔ (a ≡ b) }
 {}

@@ -22,12 +22,3 @@ abbrev pub HoldsTwo :
     → Member A × Member B → Members → Type 0
 HoldsTwo key other M N found members =
     HoldsOne key M found.0 members × HoldsOne other N found.1 members
-
--- what was read of the members is what the four keys have
-abbrev pub HoldsFour :
-    {A B C D : Type 0} → List ℕ → List ℕ → List ℕ → List ℕ → (Data → A → Type 0)
-    → (Data → B → Type 0) → (Data → C → Type 0) → (Data → D → Type 0)
-    → Member A × Member B × Member C × Member D → Members → Type 0
-HoldsFour key other third fourth M N P Q found members =
-    HoldsOne key M found.0 members × HoldsOne other N found.1 members
-    × HoldsOne third P found.2 members × HoldsOne fourth Q found.3 members

@@ -7,6 +7,7 @@ mod error;
 mod field;
 mod integer;
 mod json_text;
+pub mod laws;
 mod list;
 mod member;
 mod number;

@@ -2,7 +2,7 @@
 //! the rest of the line.
 //!
 //! A table for each library: the proof of a search takes long where a table is long.
-use crate::{passes, runs, values};
+use crate::{passes, runs, values, views};
 use std::test::Fail;
 use test_memory_build::{
     constructors, descriptions, fields, lists as built_lists, paths, structs, variants,
@@ -210,8 +210,16 @@ const OF_TYPES: [(&str, Call); 27] = [
     ("error", errors::error),
 ];
 
-/// Calls on values and their bytes, and runs of the program `type_table`.
-const OF_VALUES: [(&str, Call); 8] = [
+/// Calls on views, texts, values and their bytes, and runs of the program `type_table`.
+const OF_VALUES: [(&str, Call); 16] = [
+    ("TableView::new", views::view),
+    ("TableView::try_to_owned", views::owned),
+    ("TableView::resolve", views::resolve),
+    ("TableView::references", views::references),
+    ("TableView::number", views::number),
+    ("TableView::find_by_path", views::find_by_path),
+    ("from_json_text", views::from_text),
+    ("encode_value", values::encode),
     ("decode_value", values::decode),
     ("decode_lent", values::decode_and_lend),
     ("Lent::to_dyn", values::copy_lent),

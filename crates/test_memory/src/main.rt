@@ -7,6 +7,7 @@ mod calls;
 mod passes;
 mod runs;
 mod values;
+mod views;
 
 use std::test::Fail;
 use test_memory_common::outcomes::print;

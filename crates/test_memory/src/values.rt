@@ -1,8 +1,8 @@
-//! Values that are decoded by a table, lent, and written as text.
+//! Values that are decoded by a table, encoded again, lent, and written as text.
 use example_callers::print::print_decoded;
 use scale_info::PortableRegistry;
 use scale_info::lent::decode_lent;
-use scale_info::value::{Dyn, decode_value};
+use scale_info::value::{Dyn, decode_value, encode_value};
 use scale_info::value_text::{ValueTextError, append_value_json, value_json};
 use std::alloc::Global;
 use std::test::Fail;
@@ -19,10 +19,15 @@ use test_memory_tables::json::appended;
 fn parts(alloc: Global, row: &str) -> Result<(u32, Vec<u8>, PortableRegistry), Fail> {
     let (_, rest) = parted(row, ':')?;
     let (id, rest) = parted(rest, ';')?;
+    let (input, table) = input_and_table(alloc, rest)?;
+    Ok((id.trim().parse()?, input, table))
+}
+
+/// The input and the table of the end of a row.
+fn input_and_table(alloc: Global, rest: &str) -> Result<(Vec<u8>, PortableRegistry), Fail> {
     let (table, input) = parted(rest, ';')?;
-    let id: u32 = id.trim().parse()?;
     let input = row_bytes(alloc, input)?;
-    Ok((id, input, table_of(alloc, table)?))
+    Ok((input, table_of(alloc, table)?))
 }
 
 /// Whether another decoding gives this value too.
@@ -95,6 +100,21 @@ pub fn copy_lent(rt: &HostRuntime, row: &str) -> Result<Outcome, Fail> {
         || lent.to_dyn(alloc),
         |alloc, copy| { shown(alloc, is_decoded_again(alloc, &table, id, &input, &copy)?) },
     )
+}
+
+/// Appends the encoding of the value of a row to one byte. After the id may come ` as ` and the id of
+/// the type that it is encoded as.
+pub fn encode(rt: &HostRuntime, row: &str) -> Result<Outcome, Fail> {
+    let alloc = rt.alloc();
+    let (_, rest) = parted(row, ':')?;
+    let (ids, rest) = parted(rest, ';')?;
+    let (id, other) = ids.split_once(" as ").unwrap_or((ids, ids));
+    let (id, other): (u32, u32) = (id.trim().parse()?, other.trim().parse()?);
+    let (input, table) = input_and_table(alloc, rest)?;
+    let (value, _) = decode_value(alloc, &table, id, &input)?;
+    let (table, value) = (Held(table), Held(value));
+    let append = |out: &mut Vec<u8>| encode_value(&table.0, other, &value.0, out);
+    Outcome::of_change(rt, output(alloc)?, append, shown)
 }
 
 /// Appends the text of the value of a row to one byte.
