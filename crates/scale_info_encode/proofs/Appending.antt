@@ -1,11 +1,11 @@
 -- Values appended to a list of bytes.
-use Rattle.std.proofs.Common.{◌≡◌, ℕ, Bool, true, false, List, Option, Some, None, refl, ap, ◌∙◌}
+use Rattle.std.proofs.Common.{◌≡◌, ℕ, Bool, true, false, List, Option, refl, ap, ◌∙◌}
 use Rattle.std.proofs.Common.{length}
 use Rattle.std.specs.Prelude.{nat_lt, ◌^◌}
 use Rattle.std.specs.Str.{is_utf8}
 use Rattle.scale_info_bytes.specs.Encodings.{AppendsEncoding, HasNoEncoding}
 use Rattle.scale_info_bytes.specs.Strings.{EncodesText}
-use Rattle.scale_info_value.specs.declared.value.Dyn.{Dyn, out-Dyn}
+use Rattle.scale_info_value.specs.declared.value.Dyn.{Dyn}
 use Rattle.scale_info_value.specs.declared.value.Dyn.TheOpen.{Dyn-F}
 use Rattle.scale_info_encode.specs.Writers.{Writer, written, refused, mismatch, if_fits, followed_by}
 use Rattle.scale_info_encode.specs.IntegerWriters.{compact_bytes}
@@ -24,16 +24,6 @@ pub is_held :
     {A : Type 0} (make : A → Dyn) (kind : Dyn-F Dyn → Option A) (write : Writer A) → IsKind make kind
     → (value : Dyn) (x : A) → value ≡ make x → held kind write value ≡ write x
 is_held make kind write k value x e = ap (held kind write) e ∙ ap (if_found write) (k.found x)
-
--- a value of another kind is none of the type
-pub not_held :
-    {A : Type 0} (make : A → Dyn) (kind : Dyn-F Dyn → Option A) (write : Writer A) → IsKind make kind
-    → (value : Dyn) → ((x : A) → value ≡ make x → ⊥) → held kind write value ≡ refused mismatch
-not_held {A = A} make kind write k value differs = by_found (kind (out-Dyn value)) refl
-  where
-    by_found : (o : Option A) → kind (out-Dyn value) ≡ o → if_found write o ≡ refused mismatch
-    by_found None e = refl
-    by_found (Some x) e = absurd (differs x (k.made value x e))
 
 -- a text that has no encoding is none of the type
 pub no_text : (t : List ℕ) → HasNoEncoding (EncodesText t) → text t ≡ refused mismatch

@@ -2,12 +2,9 @@
 use Rattle.std.proofs.Common.{◌≡◌, ℕ, zero, suc, ◌+◌, ◌-◌, ◌<◌, ◌≤◌, List, [], ◌∷◌, length, take, drop, get_or, replicate}
 use Rattle.std.proofs.Common.{refl, ap, ◌∙◌, sym, arith}
 use Rattle.std.proofs.lemmas.Grind.{common_steps}
+use Rattle.scale_info_value.proofs.InOrder.{take_next}
 use Rattle.scale_info_encode.specs.declared.error.Refusal.{Refusal}
 use Rattle.scale_info_encode.specs.Writers.{Writer, refused, mismatch, followed_by, in_turn}
-
--- of n - k writers of one kind the first, and the others
-take_next : {A : Type 0} (n k : ℕ) (x : A) → k < n → replicate (n - k) x ≡ x ∷ replicate (n - (k + 1)) x
-take_next n k x h = let e : n - k ≡ suc (n - (k + 1)) = omega arith in ap (λ m. replicate m x) e
 
 -- the next value, and the others
 pub next_value :

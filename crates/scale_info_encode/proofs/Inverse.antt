@@ -1,8 +1,10 @@
 -- Decoders and the writers that are their inverses.
-use Rattle.std.proofs.Common.{◌≡◌, ℕ, zero, suc, List, [], ◌∷◌, ◌++◌, map, length, replicate, Option, Some, None}
+use Rattle.std.proofs.Common.{◌≡◌, ℕ, zero, suc, List, [], ◌∷◌, ◌++◌, length, replicate, Option, Some, None}
 use Rattle.std.proofs.Common.{refl, ap, sym, ◌∙◌, append_assoc, subst}
 use Rattle.std.specs.List.{AllByRecursion}
 use Rattle.scale_info_bytes.specs.Encodings.{HasPrefix, IsByte}
+use Rattle.scale_info_bytes.specs.Parts.{IsConcatenation}
+use Rattle.scale_info_bytes.proofs.Steps.{prefix_map, prefix_both}
 use Rattle.scale_info_value.specs.declared.value.Failure.{Failure}
 use Rattle.scale_info_value.specs.Outcomes.{Decoder, Outcome, decoded, failed, and_then, outcome_map}
 use Rattle.scale_info_value.specs.Outcomes as outcomes
@@ -116,6 +118,14 @@ parted (written b) (written c) bytes e = (b, c, refl, refl, cc)
 parted (written b) (refused why) bytes e = cc
 parted (refused why) second bytes e = cc
 
+-- the bytes of two values, one after the other
+joined :
+    (first second : Written) (bytes : List ℕ)
+    → IsConcatenation (λ b. first ≡ written b) (λ c. second ≡ written c) bytes
+    → followed_by first second ≡ written bytes
+joined first second bytes both =
+    (λ i. followed_by (both.encodes_first i) (both.encodes_second i)) ∙ ap written (sym both.parts)
+
 -- what decoders one after the other gave
 pub sequenced :
     {A B : Type 0} (o : Outcome A) (next : A → Decoder B) (value : B) (rest : List ℕ)
@@ -143,14 +153,8 @@ followed tag read write next more first second tagged = record {
       let left = rest_bytes q.encoding p.1 (subst (AllByRecursion IsByte) q.parts all) in
       let r = (second p.0).forth p.1 value rest left p.3 in
       let same : tag value ≡ p.0 = tagged p.0 value r.encoding r.encodes in
-      record {
-        encoding = q.encoding ++ r.encoding;
-        encodes =
-            ap (λ x. followed_by (write x) (more x value)) same
-            ∙ (λ i. followed_by (q.encodes i) (r.encodes i));
-        parts =
-            q.parts ∙ ap (λ b. q.encoding ++ b) r.parts ∙ sym (append_assoc q.encoding r.encoding rest);
-      };
+      let whole = ap (λ x. followed_by (write x) (more x value)) same in
+      prefix_map (λ bytes both. whole ∙ joined (write p.0) (more p.0 value) bytes both) (prefix_both q r);
 }
 
 -- no decoder and no writer
@@ -199,14 +203,8 @@ one_in_turn {A} first write more writers one others = record { back = back; fort
         let q = one.forth input p.0 p.1 all p.2 in
         let left = rest_bytes q.encoding p.1 (subst (AllByRecursion IsByte) q.parts all) in
         let r = others.forth p.1 u.0 rest left u.1 in
-        record {
-          encoding = q.encoding ++ r.encoding;
-          encodes =
-              ap (in_turn (write ∷ writers)) (sym u.2)
-              ∙ (λ i. followed_by (q.encodes i) (r.encodes i));
-          parts =
-              q.parts ∙ ap (λ b. q.encoding ++ b) r.parts ∙ sym (append_assoc q.encoding r.encoding rest);
-        }
+        let whole = ap (in_turn (write ∷ writers)) (sym u.2) in
+        prefix_map (λ bytes both. whole ∙ joined (write p.0) (in_turn writers u.0) bytes both) (prefix_both q r)
 
 -- so many decoders and writers of one kind
 pub repeated :
@@ -215,15 +213,6 @@ pub repeated :
 repeated zero read write one = none_in_turn
 repeated (suc n) read write one =
     one_in_turn read write (replicate n read) (replicate n write) one (repeated n read write one)
-
--- a decoder and a writer for each item of a list
-pub mapped :
-    {X A : Type 0} (items : List X) (read : X → Decoder A) (write : X → Writer A)
-    → ((x : X) → IsInverse (read x) (write x))
-    → IsInverse (outcomes.in_turn (map read items)) (in_turn (map write items))
-mapped [] read write each = none_in_turn
-mapped (x ∷ items) read write each =
-    one_in_turn (read x) (write x) (map read items) (map write items) (each x) (mapped items read write each)
 
 -- as many values are written as there are writers
 pub as_many :

@@ -56,11 +56,6 @@ ends whole left old mid new s a = record {
   parts = a.parts ∙ ap (λ b. b ++ a.encoding) s.parts ∙ append_assoc old s.done a.encoding;
 }
 
--- nothing is left
-pub is_done : (whole left : Written) (old new : List ℕ) → SoFar whole left old new → left ≡ written [] → Appends whole old new
-is_done whole left old new s e =
-    ends whole left old new new s (record { encoding = []; encodes = e; parts = sym (append-nil new) })
-
 -- an error of what is left is one of the whole
 pub fails :
     (whole left : Written) (old new : List ℕ) (e : EncodeValueError) → SoFar whole left old new → IsErrorOf left e

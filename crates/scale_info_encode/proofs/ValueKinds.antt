@@ -31,6 +31,7 @@ by_parts make part kind outs rolls found known = record {
   made = λ value x e. sym (roll-out-Dyn value) ∙ ap roll-Dyn (known (out-Dyn value) x e) ∙ rolls x;
 }
 
+-- where a truth value is found, it is the outermost part
 truth_part : (o : Dyn-F Dyn) (b : Bool) → truth_in o ≡ Some b → o ≡ layer.Bool b
 truth_part (layer.Bool x) b e = cc
 truth_part _ b e = cc
@@ -39,6 +40,7 @@ truth_part _ b e = cc
 pub truths : IsKind dyn.Bool truth_in
 truths = by_parts dyn.Bool layer.Bool truth_in outs-Bool rolls-Bool (λ x. refl) truth_part
 
+-- where an integer of an unsigned type is found, it is the outermost part
 unsigned_part : (o : Dyn-F Dyn) (n : ℕ) → unsigned_in o ≡ Some n → o ≡ layer.Unsigned n
 unsigned_part (layer.Unsigned x) n e = cc
 unsigned_part _ n e = cc
@@ -47,6 +49,7 @@ unsigned_part _ n e = cc
 pub unsigned_integers : IsKind dyn.Unsigned unsigned_in
 unsigned_integers = by_parts dyn.Unsigned layer.Unsigned unsigned_in outs-Unsigned rolls-Unsigned (λ x. refl) unsigned_part
 
+-- where an integer of a signed type is found, it is the outermost part
 signed_part : (o : Dyn-F Dyn) (n : ℤ) → signed_in o ≡ Some n → o ≡ layer.Signed n
 signed_part (layer.Signed x) n e = cc
 signed_part _ n e = cc
@@ -55,6 +58,7 @@ signed_part _ n e = cc
 pub signed_integers : IsKind dyn.Signed signed_in
 signed_integers = by_parts dyn.Signed layer.Signed signed_in outs-Signed rolls-Signed (λ x. refl) signed_part
 
+-- where a text is found, it is the outermost part
 text_part : (o : Dyn-F Dyn) (t : Text) → text_in o ≡ Some t → o ≡ layer.Text t
 text_part (layer.Text x) t e = cc
 text_part _ t e = cc
@@ -63,6 +67,7 @@ text_part _ t e = cc
 pub texts : IsKind dyn.Text text_in
 texts = by_parts dyn.Text layer.Text text_in outs-Text rolls-Text (λ x. refl) text_part
 
+-- where a list is found, it is the outermost part
 list_part : (o : Dyn-F Dyn) (values : List Dyn) → list_in o ≡ Some values → o ≡ layer.List values
 list_part (layer.List x) values e = cc
 list_part _ values e = cc
@@ -71,6 +76,7 @@ list_part _ values e = cc
 pub lists : IsKind dyn.List list_in
 lists = by_parts dyn.List layer.List list_in outs-List rolls-List (λ x. refl) list_part
 
+-- where a record is found, it is the outermost part
 record_part : (o : Dyn-F Dyn) (values : List (Option Text × Dyn)) → record_in o ≡ Some values → o ≡ layer.Record values
 record_part (layer.Record x) values e = cc
 record_part _ values e = cc
@@ -87,6 +93,7 @@ Chosen = Text × ℕ × List (Option Text × Dyn)
 abbrev pub chosen : Chosen → Dyn
 chosen v = dyn.Variant v.0 v.1 v.2
 
+-- where a variant is found, it is the outermost part
 variant_part :
     (o : Dyn-F Dyn) (v : Chosen) → variant_in o ≡ Some v → o ≡ layer.Variant v.0 v.1 v.2
 variant_part (layer.Variant name index values) v e =
