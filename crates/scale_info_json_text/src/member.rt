@@ -4,7 +4,7 @@ ghost use Rattle.serde_json.specs.Data.{Data, Members, put};
 ghost use Rattle.scale_info_json_trees.specs.Meaning.{MeansList, MeansOrEmpty, MeansOrNone};
 ghost use Rattle.scale_info_json_trees.specs.Meaning.{MeansOrNull, MeansRequired};
 ghost use Rattle.scale_info_json_text.specs.Readings.{IfSyntax, IsMeant, Reads, HasNoTree};
-ghost use Rattle.scale_info_json_text.specs.Members.{HoldsAt, HoldsOne, HoldsTwo, HoldsFour};
+ghost use Rattle.scale_info_json_text.specs.Members.{HoldsAt, HoldsOne, HoldsTwo};
 
 use crate::json_text::{JsonText, read_value};
 use crate::pass::pass_value;
