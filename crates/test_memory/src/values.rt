@@ -102,8 +102,8 @@ pub fn copy_lent(rt: &HostRuntime, row: &str) -> Result<Outcome, Fail> {
     )
 }
 
-/// Appends the encoding of the value of a row to one byte. After the id may come ` as ` and the id of
-/// the type that it is encoded as.
+/// Appends the encoding of the value of a row to one byte. After the id may come ` as ` and the id
+/// of the type that it is encoded as.
 pub fn encode(rt: &HostRuntime, row: &str) -> Result<Outcome, Fail> {
     let alloc = rt.alloc();
     let (_, rest) = parted(row, ':')?;

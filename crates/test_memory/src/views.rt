@@ -9,7 +9,7 @@ use test_memory_common::inputs::{bytes_of, table_of};
 use test_memory_common::marks::{begin, end};
 use test_memory_common::outcomes::Outcome;
 
-/// The answer of a part that may be there.
+/// What shows a part that may be there.
 fn found<T, A: FnOnce(Global, T) -> Answered>(alloc: Global, part: Option<T>, answer: A) -> Answered
     requires { A.IsAlwaysCallable answer }
 {

@@ -104,12 +104,12 @@ pub fn bit_sequence(rt: &HostRuntime, name: &str) -> Result<Outcome, Fail> {
     Outcome::of_call(rt, make, printed)
 }
 
-/// The answer of a portable definition of one kind.
+/// What shows a portable definition of one kind.
 fn portable_definition<D: Into<TypeDef<PortableForm>>>(alloc: Global, definition: D) -> Answered {
     encoded(alloc, definition.into())
 }
 
-/// The answer of a definition of one kind, as a text.
+/// What shows a definition of one kind, as a text.
 fn printed<D: Into<TypeDef>>(alloc: Global, definition: D) -> Answered {
     done(text_of(alloc, Ok(definition.into())))
 }

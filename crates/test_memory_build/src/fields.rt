@@ -16,17 +16,17 @@ use test_memory_common::marks::{begin, end};
 use test_memory_common::names::found;
 use test_memory_common::outcomes::Outcome;
 
-/// The answer of a definition, as a text.
+/// What shows a definition, as a text.
 fn printed(alloc: Global, definition: TypeDef) -> Answered {
     done(text_of(alloc, Ok(definition)))
 }
 
-/// The answer of the struct of a builder's fields.
+/// What shows the struct of a builder's fields.
 fn struct_of<K>(alloc: Global, fields: FieldsBuilder<MetaForm, K>) -> Answered {
     printed(alloc, TypeDefComposite::from(fields).into())
 }
 
-/// The answer of the composite of a builder's fields with ids.
+/// What shows the composite of a builder's fields with ids.
 fn composite_of<K>(alloc: Global, fields: FieldsBuilder<PortableForm, K>) -> Answered {
     encoded(alloc, TypeDefComposite::from(fields))
 }
@@ -41,7 +41,7 @@ fn unnamed_of_u8(alloc: Global) -> Result<FieldsBuilder<MetaForm, UnnamedFields>
     Fields::unnamed::<MetaForm>(alloc).field(alloc, |f| f.ty::<u8>(alloc))
 }
 
-/// The answer of the struct of one field.
+/// What shows the struct of one field.
 fn struct_of_one(alloc: Global, field: NamedField<MetaForm>) -> Answered {
     let fields = list_of(alloc, field.finalize(alloc))?;
     printed(alloc, TypeDefComposite::from(fields).into())

@@ -8,7 +8,7 @@ use test_common::shown::{Show, text_of};
 use test_memory_common::answers::{Answered, done};
 use test_memory_common::outcomes::Outcome;
 
-/// The answer of what was listed, as a text.
+/// What shows what was listed, as a text.
 fn printed<T: Show + Drop>(alloc: Global, listed: T) -> Answered {
     done(text_of(alloc, Ok(listed)))
 }

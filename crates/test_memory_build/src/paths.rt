@@ -35,7 +35,7 @@ fn text_of(alloc: Global, path: Path) -> Result<String, AllocError> {
     format!(in alloc; "{parts} {portable}")
 }
 
-/// The answer of a path.
+/// What shows a path.
 fn answer(alloc: Global, path: Path) -> Answered {
     done(text_of(alloc, path))
 }

@@ -9,7 +9,7 @@ use test_memory_common::answers::{Answered, digits, done, registered};
 use test_memory_common::marks::{begin, end};
 use test_memory_common::outcomes::Outcome;
 
-/// The answer of the enum of a builder's variants.
+/// What shows the enum of a builder's variants.
 fn enumeration(alloc: Global, variants: Variants) -> Answered {
     registered(alloc, TypeDefVariant::from(variants))
 }

@@ -15,20 +15,20 @@ pub enum Answer {
     Failed(String),
 }
 
-/// The answer of a call, unless its text can't be made.
+/// What shows a call, unless its text can't be made.
 pub type Answered = Result<Answer, Fail>;
 
-/// The answer that this text shows.
+/// A value that this text shows.
 pub fn done(text: Result<String, AllocError>) -> Answered {
     Ok(Answer::Done(text?))
 }
 
-/// The answer of this error.
+/// What shows this error.
 pub fn failed<E: Debug>(alloc: Global, error: &E) -> Answered {
     Ok(Answer::Failed(format!(in alloc; "{error:?}")?))
 }
 
-/// The answer of what a call returned: of a value by a function, or of an error.
+/// What a call did: a value by a function, or an error.
 pub fn answered<T, E: Debug + Drop, A: FnOnce(Global, T) -> Answered>(
     alloc: Global,
     returned: Result<T, E>,
@@ -42,12 +42,12 @@ pub fn answered<T, E: Debug + Drop, A: FnOnce(Global, T) -> Answered>(
     }
 }
 
-/// The answer of a value that is shown by its `Debug`.
+/// What shows a value that is shown by its `Debug`.
 pub fn shown<T: Debug + Drop>(alloc: Global, value: T) -> Answered {
     done(format!(in alloc; "{value:?}"))
 }
 
-/// The answer of a text.
+/// What shows a text.
 pub fn printed(_alloc: Global, text: String) -> Answered {
     done(Ok(text))
 }
@@ -61,12 +61,12 @@ pub fn digits<T: Scale>(alloc: Global, value: &T) -> Result<String, AllocError> 
     }
 }
 
-/// The answer of a portable value, which is shown by its encoding.
+/// What shows a portable value, which is shown by its encoding.
 pub fn encoded<T: Scale>(alloc: Global, value: T) -> Answered {
     done(digits(alloc, &value))
 }
 
-/// The answer of a value that holds types, which is shown by the encoding of its portable form.
+/// What shows a value that holds types, which is shown by the encoding of its portable form.
 pub fn registered<T: IntoPortable + Drop>(alloc: Global, value: T) -> Answered
 where
     T::Output: Scale,

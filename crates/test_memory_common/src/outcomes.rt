@@ -40,7 +40,7 @@ impl Outcome {
         })
     }
 
-    /// Makes a call between the marks; its outcome is the answer of what it returned.
+    /// Makes a call between the marks; its outcome shows what it returned.
     pub fn of_call<
         T,
         E: Debug + Drop,
@@ -57,7 +57,7 @@ impl Outcome {
     }
 
     /// Makes a call between the marks on what is lent to it for writing; its outcome shows that
-    /// before the call and after it, and the answer of what was returned.
+    /// before the call and after it, and what was returned.
     pub fn of_change<
         L: Lent,
         T,

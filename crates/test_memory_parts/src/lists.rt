@@ -26,7 +26,7 @@ fn sum(items: &Items<u32>) -> u32 {
     sum
 }
 
-/// The answer of a list: it, its length, whether it is empty, how many it goes over, and its sum.
+/// What shows a list: it, its length, whether it is empty, how many it goes over, and its sum.
 fn described(alloc: Global, items: Items<u32>) -> Answered {
     let (len, is_empty) = (items.len(), items.is_empty());
     let (count, sum) = (items.iter().count(), sum(&items));
@@ -54,7 +54,7 @@ fn grown<T: TryClone>(
     Ok(items.into_vec())
 }
 
-/// The answer of a list, and for how many elements it has room.
+/// What shows a list, and for how many elements it has room.
 fn roomy<T: Debug + Drop>(alloc: Global, list: Vec<T>) -> Answered {
     let room = list.capacity();
     done(format!(in alloc; "{list:?} with room for {room}"))

@@ -69,7 +69,7 @@ fn register(
     Outcome::of_change(rt, builder, |builder| builder.0.0.register_type(ty), shown)
 }
 
-/// Registers a description after fifteen others, behind which there is room.
+/// Registers a description after fifteen others, after which there is room.
 pub fn register_type(rt: &HostRuntime, row: &str) -> Result<Outcome, Fail> {
     register(rt, sequences(rt.alloc(), 1015), row)
 }
@@ -132,7 +132,7 @@ fn registered(alloc: Global, types: Vec<Type<PortableForm>>) -> Result<Registere
     Ok((ids, builder.into_inner().finish(alloc)?))
 }
 
-/// The answer of ids, each with the next one, and the table of them.
+/// What shows ids, each with the next one, and the table of them.
 fn listed(alloc: Global, (ids, table): Registered) -> Answered {
     let table = digits(alloc, &table)?;
     done(format!(in alloc; "{ids:?} {table}"))

@@ -20,7 +20,7 @@ pub fn with_rest(digits: Result<String, AllocError>, rest: &[u8]) -> Result<Stri
     Ok(text)
 }
 
-/// The answer of a table that was decoded, and of what is left.
+/// What shows a table that was decoded, and of what is left.
 fn decoded(alloc: Global, (table, rest): (PortableRegistry, &[u8])) -> Answered {
     done(with_rest(digits(alloc, &table), rest))
 }

@@ -8,7 +8,7 @@ use test_memory_common::answers::{Answered, done, encoded};
 use test_memory_common::inputs::{bytes_of, output, table_of};
 use test_memory_common::outcomes::Outcome;
 
-/// The answer of a tree.
+/// What shows a tree.
 fn printed(alloc: Global, tree: Value) -> Answered {
     done(tree.to_string(alloc))
 }
@@ -43,7 +43,7 @@ pub fn appended(alloc: Global, bytes: &[u8]) -> Result<String, Fail> {
     Ok(format!(in alloc; "{first} {text}")?)
 }
 
-/// The answer of a text that was appended.
+/// What shows a text that was appended.
 fn written(alloc: Global, bytes: Vec<u8>) -> Answered {
     done(Ok(appended(alloc, &bytes)?))
 }

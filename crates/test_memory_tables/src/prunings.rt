@@ -94,7 +94,7 @@ pub fn append_pruned_bytes(rt: &HostRuntime, row: &str) -> Result<Outcome, Fail>
     )
 }
 
-/// The answer of a walk.
+/// What shows a walk.
 fn walked(alloc: Global, found: Numbering) -> Answered {
     let (order, steps) = (found.order, found.steps);
     done(format!(in alloc; "{order:?} in {steps} steps"))
@@ -142,7 +142,7 @@ fn text_of(alloc: Global, refs: Refs) -> Result<String, AllocError> {
     format!(in alloc; "{ids:?}")
 }
 
-/// The answer of references.
+/// What shows references.
 fn listed(alloc: Global, refs: Refs) -> Answered {
     done(text_of(alloc, refs))
 }

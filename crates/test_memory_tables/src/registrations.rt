@@ -34,7 +34,7 @@ fn given_u8(alloc: Global) -> Result<Given, Fail> {
     Ok(Given { registry, known })
 }
 
-/// The answer of a list of portable values.
+/// What shows a list of portable values.
 fn listed<T: Scale>(alloc: Global, all: Vec<T>) -> Answered {
     encoded(alloc, Items::from(all))
 }

@@ -77,12 +77,12 @@ fn ids(alloc: Global, symbols: &[UntrackedSymbol<TypeId>]) -> Result<String, All
     Ok(text)
 }
 
-/// The answer of the ids of types.
+/// What shows the ids of types.
 fn listed(alloc: Global, symbols: Vec<UntrackedSymbol<TypeId>>) -> Answered {
     done(ids(alloc, &symbols))
 }
 
-/// The answer of the id of a type.
+/// What shows the id of a type.
 fn identified(alloc: Global, symbol: UntrackedSymbol<TypeId>) -> Answered {
     done(ids(alloc, &[symbol]))
 }
