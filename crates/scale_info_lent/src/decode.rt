@@ -15,14 +15,13 @@ use crate::list::{no_items, primitive, primitives};
 use scale_info_collections::items::Items;
 use scale_info_identities::symbol::UntrackedSymbol;
 use scale_info_identities::type_id::TypeId;
-use scale_info_tables::portable::PortableRegistry;
 use scale_info_types::form::PortableForm;
 use scale_info_types::ty::{
     Field, TypeDef, TypeDefArray, TypeDefCompact, TypeDefComposite, TypeDefMap, TypeDefSequence,
     TypeDefTuple, TypeDefVariant,
 };
 use scale_info_value::compact::compact_within;
-use scale_info_value::definition::definition_of;
+use scale_info_value::definition::{Definitions, definition_of};
 use scale_info_value::integer::{byte, count};
 use scale_info_value::value::ValueError;
 use scale_info_value::variants::variant_with_index;
@@ -48,15 +47,16 @@ use std::alloc::Global;
 /// let (value, rest) = decode_lent(alloc, &table, 0, &input)?;   // 1 and 2, and the rest [255]
 /// value.len()                                                   // Some(2), and nothing allocated
 /// ```
-pub fn decode_lent<'t, 'i>(
+pub fn decode_lent<'t, 'i, T: Definitions>(
     alloc: Global,
-    table: &'t PortableRegistry,
+    table: &'t T,
     id: u32,
     input: &'i [u8],
 ) -> Result<(Lent<'t, 'i>, &'i [u8]), ValueError>
     ensures ok { IfOk result
-        (λ found. reading table.now id 1 input.now ≡ decoded (dyn_of found.0) found.1.now) }
-    ensures err { IfErr result (IsErrorOf (reading table.now id 1 input.now)) }
+        (λ found. reading (T.table table.now) id 1 input.now
+        ≡ decoded (dyn_of found.0) found.1.now) }
+    ensures err { IfErr result (IsErrorOf (reading (T.table table.now) id 1 input.now)) }
 {
     value_within(alloc, table, id, 128, input)
 }
@@ -64,16 +64,17 @@ pub fn decode_lent<'t, 'i>(
 /// A value of the type with this id, and the rest, where so many levels are left.
 #[cycle(value)]
 #[inline(always)]
-fn value_within<'t, 'i>(
+fn value_within<'t, 'i, T: Definitions>(
     alloc: Global,
-    table: &'t PortableRegistry,
+    table: &'t T,
     id: u32,
     left: u8,
     input: &'i [u8],
 ) -> Result<(Lent<'t, 'i>, &'i [u8]), ValueError>
     ensures ok { IfOk result
-        (λ found. value_within left table.now id input.now ≡ decoded (dyn_of found.0) found.1.now) }
-    ensures err { IfErr result (IsErrorOf (value_within left table.now id input.now)) }
+        (λ found. value_within left (T.table table.now) id input.now
+        ≡ decoded (dyn_of found.0) found.1.now) }
+    ensures err { IfErr result (IsErrorOf (value_within left (T.table table.now) id input.now)) }
 {
     let definition = definition_of(table, id, left)?;
     value_by(alloc, table, definition, left, input)
@@ -85,19 +86,19 @@ fn value_within<'t, 'i>(
 /// into it: so a level of a value takes the stack of its own kind, and not that of all.
 #[cycle(value)]
 #[inline(never)]
-fn value_by<'t, 'i>(
+fn value_by<'t, 'i, T: Definitions>(
     alloc: Global,
-    table: &'t PortableRegistry,
+    table: &'t T,
     definition: &'t TypeDef<PortableForm>,
     left: u8,
     input: &'i [u8],
 ) -> Result<(Lent<'t, 'i>, &'i [u8]), ValueError>
     requires { 1 ≤ left }
     ensures ok { IfOk result
-        (λ found. definition_within left table.now definition.now input.now
+        (λ found. definition_within left (T.table table.now) definition.now input.now
         ≡ decoded (dyn_of found.0) found.1.now) }
     ensures err { IfErr result
-        (IsErrorOf (definition_within left table.now definition.now input.now)) }
+        (IsErrorOf (definition_within left (T.table table.now) definition.now input.now)) }
 {
     match definition {
         TypeDef::Composite(composite) => composite_value(alloc, table, composite, left, input),
@@ -114,17 +115,18 @@ fn value_by<'t, 'i>(
 
 /// A compact integer, and the rest.
 #[inline(never)]
-fn compact_value<'t, 'i>(
-    table: &'t PortableRegistry,
+fn compact_value<'t, 'i, T: Definitions>(
+    table: &'t T,
     compact: &'t TypeDefCompact<PortableForm>,
     left: u8,
     input: &'i [u8],
 ) -> Result<(Lent<'t, 'i>, &'i [u8]), ValueError>
     ensures ok { IfOk result
-        (λ found. definition_within left table.now (def.Compact compact.now) input.now
+        (λ found. definition_within left (T.table table.now) (def.Compact compact.now) input.now
         ≡ decoded (dyn_of found.0) found.1.now) }
     ensures err { IfErr result
-        (IsErrorOf (definition_within left table.now (def.Compact compact.now) input.now)) }
+        (IsErrorOf (definition_within left (T.table table.now) (def.Compact compact.now)
+        input.now)) }
 {
     let (integer, rest) = compact_within(table, compact.type_param.id, left, input)?;
     Ok((Lent::Unsigned(integer), rest))
@@ -133,19 +135,20 @@ fn compact_value<'t, 'i>(
 /// A value of a struct, and the rest.
 #[cycle(value)]
 #[inline(never)]
-fn composite_value<'t, 'i>(
+fn composite_value<'t, 'i, T: Definitions>(
     alloc: Global,
-    table: &'t PortableRegistry,
+    table: &'t T,
     composite: &'t TypeDefComposite<PortableForm>,
     left: u8,
     input: &'i [u8],
 ) -> Result<(Lent<'t, 'i>, &'i [u8]), ValueError>
     requires { 1 ≤ left }
     ensures ok { IfOk result
-        (λ found. definition_within left table.now (def.Composite composite.now) input.now
+        (λ found. definition_within left (T.table table.now) (def.Composite composite.now) input.now
         ≡ decoded (dyn_of found.0) found.1.now) }
     ensures err { IfErr result
-        (IsErrorOf (definition_within left table.now (def.Composite composite.now) input.now)) }
+        (IsErrorOf (definition_within left (T.table table.now) (def.Composite composite.now)
+        input.now)) }
 {
     let (values, rest) = fields(alloc, table, composite.fields.as_slice(), left, input)?;
     Ok((Lent::Record(values), rest))
@@ -154,19 +157,19 @@ fn composite_value<'t, 'i>(
 /// A value of an enum, and the rest.
 #[cycle(value)]
 #[inline(never)]
-fn variant_value<'t, 'i>(
+fn variant_value<'t, 'i, T: Definitions>(
     alloc: Global,
-    table: &'t PortableRegistry,
+    table: &'t T,
     choice: &'t TypeDefVariant<PortableForm>,
     left: u8,
     input: &'i [u8],
 ) -> Result<(Lent<'t, 'i>, &'i [u8]), ValueError>
     requires { 1 ≤ left }
     ensures ok { IfOk result
-        (λ found. variant_within left table.now choice.now.variants input.now
+        (λ found. variant_within left (T.table table.now) choice.now.variants input.now
         ≡ decoded (dyn_of found.0) found.1.now) }
     ensures err { IfErr result
-        (IsErrorOf (variant_within left table.now choice.now.variants input.now)) }
+        (IsErrorOf (variant_within left (T.table table.now) choice.now.variants input.now)) }
 {
     let (index, rest) = byte(input)?;
     match variant_with_index(choice.variants.as_slice(), index) {
@@ -186,19 +189,20 @@ fn variant_value<'t, 'i>(
 /// A value of a sequence, and the rest.
 #[cycle(value)]
 #[inline(never)]
-fn sequence_value<'t, 'i>(
+fn sequence_value<'t, 'i, T: Definitions>(
     alloc: Global,
-    table: &'t PortableRegistry,
+    table: &'t T,
     sequence: &TypeDefSequence<PortableForm>,
     left: u8,
     input: &'i [u8],
 ) -> Result<(Lent<'t, 'i>, &'i [u8]), ValueError>
     requires { 1 ≤ left }
     ensures ok { IfOk result
-        (λ found. definition_within left table.now (def.Sequence sequence.now) input.now
+        (λ found. definition_within left (T.table table.now) (def.Sequence sequence.now) input.now
         ≡ decoded (dyn_of found.0) found.1.now) }
     ensures err { IfErr result
-        (IsErrorOf (definition_within left table.now (def.Sequence sequence.now) input.now)) }
+        (IsErrorOf (definition_within left (T.table table.now) (def.Sequence sequence.now)
+        input.now)) }
 {
     let (count, rest) = count(input)?;
     list(alloc, table, &sequence.type_param, count, left, rest)
@@ -207,19 +211,19 @@ fn sequence_value<'t, 'i>(
 /// A value of an array, and the rest.
 #[cycle(value)]
 #[inline(never)]
-fn array_value<'t, 'i>(
+fn array_value<'t, 'i, T: Definitions>(
     alloc: Global,
-    table: &'t PortableRegistry,
+    table: &'t T,
     array: &TypeDefArray<PortableForm>,
     left: u8,
     input: &'i [u8],
 ) -> Result<(Lent<'t, 'i>, &'i [u8]), ValueError>
     requires { 1 ≤ left }
     ensures ok { IfOk result
-        (λ found. definition_within left table.now (def.Array array.now) input.now
+        (λ found. definition_within left (T.table table.now) (def.Array array.now) input.now
         ≡ decoded (dyn_of found.0) found.1.now) }
     ensures err { IfErr result
-        (IsErrorOf (definition_within left table.now (def.Array array.now) input.now)) }
+        (IsErrorOf (definition_within left (T.table table.now) (def.Array array.now) input.now)) }
 {
     list(alloc, table, &array.type_param, array.len, left, input)
 }
@@ -228,9 +232,9 @@ fn array_value<'t, 'i>(
 /// them; where there are none, for the kind of list alone.
 #[cycle(value)]
 #[inline(always)]
-fn list<'t, 'i>(
+fn list<'t, 'i, T: Definitions>(
     alloc: Global,
-    table: &'t PortableRegistry,
+    table: &'t T,
     ty: &UntrackedSymbol<TypeId>,
     count: u32,
     left: u8,
@@ -238,12 +242,14 @@ fn list<'t, 'i>(
 ) -> Result<(Lent<'t, 'i>, &'i [u8]), ValueError>
     requires { 1 ≤ left }
     ensures ok { IfOk result
-        (λ found. outcome_map dyn.List (items_within left table.now ty.now count input.now)
+        (λ found. outcome_map dyn.List (items_within left (T.table table.now) ty.now count
+        input.now)
         ≡ decoded (dyn_of found.0) found.1.now) }
-    ensures err { IfErr result (IsErrorOf (items_within left table.now ty.now count input.now)) }
+    ensures err { IfErr result
+        (IsErrorOf (items_within left (T.table table.now) ty.now count input.now)) }
 {
     if count == 0 {
-        let none = no_items(alloc, table.resolve(ty.id));
+        let none = no_items(alloc, table.definition(ty.id));
         return Ok((none, input));
     }
     let definition = definition_of(table, ty.id, left - 1)?;
@@ -253,9 +259,9 @@ fn list<'t, 'i>(
 /// The list of so many values by the definition of their type, and the rest.
 #[cycle(value)]
 #[inline(always)]
-fn list_by<'t, 'i>(
+fn list_by<'t, 'i, T: Definitions>(
     alloc: Global,
-    table: &'t PortableRegistry,
+    table: &'t T,
     definition: &'t TypeDef<PortableForm>,
     count: u32,
     left: u8,
@@ -264,10 +270,12 @@ fn list_by<'t, 'i>(
     requires { 1 ≤ left }
     ensures ok { IfOk result
         (λ found. outcome_map dyn.List
-        (in_turn (replicate count (definition_within left table.now definition.now)) input.now)
+        (in_turn (replicate count (definition_within left (T.table table.now) definition.now))
+        input.now)
         ≡ decoded (dyn_of found.0) found.1.now) }
     ensures err { IfErr result (IsErrorOf
-        (in_turn (replicate count (definition_within left table.now definition.now)) input.now)) }
+        (in_turn (replicate count (definition_within left (T.table table.now) definition.now))
+        input.now)) }
 {
     if let TypeDef::Primitive(kind) = definition {
         return primitives(alloc, kind, count, input);
@@ -279,9 +287,9 @@ fn list_by<'t, 'i>(
 /// So many values by the definition of their type, and the rest.
 #[cycle(value)]
 #[inline(always)]
-fn items<'t, 'i>(
+fn items<'t, 'i, T: Definitions>(
     alloc: Global,
-    table: &'t PortableRegistry,
+    table: &'t T,
     definition: &'t TypeDef<PortableForm>,
     count: u32,
     left: u8,
@@ -289,10 +297,12 @@ fn items<'t, 'i>(
 ) -> Result<(Items<Lent<'t, 'i>>, &'i [u8]), ValueError>
     requires { 1 ≤ left }
     ensures ok { IfOk result
-        (λ found. in_turn (replicate count (definition_within left table.now definition.now))
+        (λ found.
+        in_turn (replicate count (definition_within left (T.table table.now) definition.now))
         input.now ≡ decoded (map dyn_of found.0) found.1.now) }
     ensures err { IfErr result (IsErrorOf
-        (in_turn (replicate count (definition_within left table.now definition.now)) input.now)) }
+        (in_turn (replicate count (definition_within left (T.table table.now) definition.now))
+        input.now)) }
 {
     let mut values = Items::new(alloc);
     let mut rest = input;
@@ -307,19 +317,19 @@ fn items<'t, 'i>(
 /// A value of a tuple, and the rest.
 #[cycle(value)]
 #[inline(never)]
-fn tuple_value<'t, 'i>(
+fn tuple_value<'t, 'i, T: Definitions>(
     alloc: Global,
-    table: &'t PortableRegistry,
+    table: &'t T,
     tuple: &TypeDefTuple<PortableForm>,
     left: u8,
     input: &'i [u8],
 ) -> Result<(Lent<'t, 'i>, &'i [u8]), ValueError>
     requires { 1 ≤ left }
     ensures ok { IfOk result
-        (λ found. definition_within left table.now (def.Tuple tuple.now) input.now
+        (λ found. definition_within left (T.table table.now) (def.Tuple tuple.now) input.now
         ≡ decoded (dyn_of found.0) found.1.now) }
     ensures err { IfErr result
-        (IsErrorOf (definition_within left table.now (def.Tuple tuple.now) input.now)) }
+        (IsErrorOf (definition_within left (T.table table.now) (def.Tuple tuple.now) input.now)) }
 {
     let (values, rest) = members(alloc, table, tuple.fields.as_slice(), left, input)?;
     Ok((Lent::List(values), rest))
@@ -328,18 +338,19 @@ fn tuple_value<'t, 'i>(
 /// A value of each type in order, and the rest.
 #[cycle(value)]
 #[inline(always)]
-fn members<'t, 'i>(
+fn members<'t, 'i, T: Definitions>(
     alloc: Global,
-    table: &'t PortableRegistry,
+    table: &'t T,
     types: &[UntrackedSymbol<TypeId>],
     left: u8,
     input: &'i [u8],
 ) -> Result<(Items<Lent<'t, 'i>>, &'i [u8]), ValueError>
     requires { 1 ≤ left }
     ensures ok { IfOk result
-        (λ found. members_within left table.now types.now input.now
+        (λ found. members_within left (T.table table.now) types.now input.now
         ≡ decoded (map dyn_of found.0) found.1.now) }
-    ensures err { IfErr result (IsErrorOf (members_within left table.now types.now input.now)) }
+    ensures err { IfErr result
+        (IsErrorOf (members_within left (T.table table.now) types.now input.now)) }
 {
     let mut values = Items::new(alloc);
     let mut rest = input;
@@ -364,18 +375,19 @@ fn name_of(field: &Field<PortableForm>) -> Option<&str>
 /// A value of each field's type in order, under the field's name, and the rest.
 #[cycle(value)]
 #[inline(always)]
-fn fields<'t, 'i>(
+fn fields<'t, 'i, T: Definitions>(
     alloc: Global,
-    table: &'t PortableRegistry,
+    table: &'t T,
     all: &'t [Field<PortableForm>],
     left: u8,
     input: &'i [u8],
 ) -> Result<(Items<(Option<&'t str>, Lent<'t, 'i>)>, &'i [u8]), ValueError>
     requires { 1 ≤ left }
     ensures ok { IfOk result
-        (λ found. fields_within left table.now all.now input.now
+        (λ found. fields_within left (T.table table.now) all.now input.now
         ≡ decoded (map field_of found.0) found.1.now) }
-    ensures err { IfErr result (IsErrorOf (fields_within left table.now all.now input.now)) }
+    ensures err { IfErr result
+        (IsErrorOf (fields_within left (T.table table.now) all.now input.now)) }
 {
     let mut values = Items::new(alloc);
     let mut rest = input;
@@ -390,19 +402,19 @@ fn fields<'t, 'i>(
 /// A value of a map, and the rest.
 #[cycle(value)]
 #[inline(never)]
-fn map_value<'t, 'i>(
+fn map_value<'t, 'i, T: Definitions>(
     alloc: Global,
-    table: &'t PortableRegistry,
+    table: &'t T,
     map: &TypeDefMap<PortableForm>,
     left: u8,
     input: &'i [u8],
 ) -> Result<(Lent<'t, 'i>, &'i [u8]), ValueError>
     requires { 1 ≤ left }
     ensures ok { IfOk result
-        (λ found. definition_within left table.now (def.Map map.now) input.now
+        (λ found. definition_within left (T.table table.now) (def.Map map.now) input.now
         ≡ decoded (dyn_of found.0) found.1.now) }
     ensures err { IfErr result
-        (IsErrorOf (definition_within left table.now (def.Map map.now) input.now)) }
+        (IsErrorOf (definition_within left (T.table table.now) (def.Map map.now) input.now)) }
 {
     let (count, rest) = count(input)?;
     let (values, rest) = pairs(alloc, table, &map.key, &map.value, count, left, rest)?;
@@ -412,9 +424,9 @@ fn map_value<'t, 'i>(
 /// So many pairs of a key and a value, each a list of two, and the rest.
 #[cycle(value)]
 #[inline(always)]
-fn pairs<'t, 'i>(
+fn pairs<'t, 'i, T: Definitions>(
     alloc: Global,
-    table: &'t PortableRegistry,
+    table: &'t T,
     key: &UntrackedSymbol<TypeId>,
     value: &UntrackedSymbol<TypeId>,
     count: u32,
@@ -423,10 +435,10 @@ fn pairs<'t, 'i>(
 ) -> Result<(Items<Lent<'t, 'i>>, &'i [u8]), ValueError>
     requires { 1 ≤ left }
     ensures ok { IfOk result
-        (λ found. pairs_within left table.now key.now value.now count input.now
+        (λ found. pairs_within left (T.table table.now) key.now value.now count input.now
         ≡ decoded (map dyn_of found.0) found.1.now) }
     ensures err { IfErr result
-        (IsErrorOf (pairs_within left table.now key.now value.now count input.now)) }
+        (IsErrorOf (pairs_within left (T.table table.now) key.now value.now count input.now)) }
 {
     let mut values = Items::new(alloc);
     let mut rest = input;
@@ -457,9 +469,9 @@ fn list_of_two<'t, 'i>(
 
 /// A key and a value, and the rest.
 #[cycle(value)]
-fn pair<'t, 'i>(
+fn pair<'t, 'i, T: Definitions>(
     alloc: Global,
-    table: &'t PortableRegistry,
+    table: &'t T,
     key: &UntrackedSymbol<TypeId>,
     value: &UntrackedSymbol<TypeId>,
     left: u8,
@@ -467,10 +479,10 @@ fn pair<'t, 'i>(
 ) -> Result<(Lent<'t, 'i>, &'i [u8]), ValueError>
     requires { 1 ≤ left }
     ensures ok { IfOk result
-        (λ found. pair_within left table.now key.now value.now input.now
+        (λ found. pair_within left (T.table table.now) key.now value.now input.now
         ≡ decoded (dyn_of found.0) found.1.now) }
     ensures err { IfErr result
-        (IsErrorOf (pair_within left table.now key.now value.now input.now)) }
+        (IsErrorOf (pair_within left (T.table table.now) key.now value.now input.now)) }
 {
     let inner = left.saturating_sub(2);
     let (key, rest) = value_within(alloc, table, key.id, inner, input)?;

@@ -13,7 +13,7 @@ use crate::integers::{IntegerWidth, Integers};
 use crate::lent::Lent;
 use scale_info_collections::items::Items;
 use scale_info_types::form::PortableForm;
-use scale_info_types::ty::{Type, TypeDef, TypeDefPrimitive};
+use scale_info_types::ty::{TypeDef, TypeDefPrimitive};
 use scale_info_value::integer::bytes;
 use scale_info_value::primitive::{PrimitiveValue, read_primitive};
 use scale_info_value::value::{Failure, ValueError};
@@ -148,13 +148,15 @@ pub(crate) fn primitives<'t, 'i>(
     }
 }
 
-/// The list with no item, of values of this type, if there is one: no bytes or no integers where
-/// the values are such.
-pub(crate) fn no_items<'t, 'i>(alloc: Global, ty: Option<&'t Type<PortableForm>>) -> Lent<'t, 'i>
+/// The list with no item, of values by this definition, if there is one: no bytes or no integers
+/// where the values are such.
+pub(crate) fn no_items<'t, 'i>(
+    alloc: Global,
+    definition: Option<&'t TypeDef<PortableForm>>,
+) -> Lent<'t, 'i>
     ensures { dyn_of result ≡ dyn.List [] }
 {
-    if let Some(ty) = ty
-        && let TypeDef::Primitive(kind) = &ty.type_def
+    if let Some(TypeDef::Primitive(kind)) = definition
         && let Some((width, signed)) = integer_form(kind)
     {
         return list_of(Integers {

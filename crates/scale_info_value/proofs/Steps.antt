@@ -79,15 +79,22 @@ first_variant f i (v ∷ vs) = first_or (v.index == i) v (find (λ w. w.index ==
     first_or true v rest other e = refl
     first_or false v rest other e = e
 
--- an id that is no index has no value, and no compact integer
+-- a description that has no definition is none
+no_description : (o : Option Description) → option_map (λ t. t.type_def) o ≡ None → o ≡ None
+no_description None e = refl
+no_description (Some t) e = cc
+
+-- an id that has no definition has no value, and no compact integer
 pub no_type :
-    (left : ℕ) (table : PortableRegistry) (id : ℕ) (input : List ℕ) → 1 ≤ left → type_at table id ≡ None
+    (left : ℕ) (table : PortableRegistry) (id : ℕ) (input : List ℕ)
+    → 1 ≤ left → option_map (λ t. t.type_def) (type_at table id) ≡ None
     → (value_within left table id input ≡ failed no_such_type)
     × (compact_within left table id input ≡ failed no_such_type)
-no_type left table id input h e = (
-  value_level left table id input h ∙ ap (λ o. value_by_type (part_of left table) o input) e,
-  compact_level left table id input h ∙ ap (λ o. compact_by_type (compact_within (left - 1) table) o input) e,
-)
+no_type left table id input h e =
+    let none = no_description (type_at table id) e in (
+      value_level left table id input h ∙ ap (λ o. value_by_type (part_of left table) o input) none,
+      compact_level left table id input h ∙ ap (λ o. compact_by_type (compact_within (left - 1) table) o input) none,
+    )
 
 -- what comes of a description, by its definition
 by_definition :

@@ -4,10 +4,9 @@ ghost use Rattle.scale_info_value.specs.Outcomes.{decoded, failed};
 ghost use Rattle.scale_info_value.specs.ValueDefinitions.{compact_primitive};
 ghost use Rattle.scale_info_value.specs.Readings.{compact_within, compact_definition_within};
 
-use crate::definition::definition_of;
+use crate::definition::{Definitions, definition_of};
 use crate::integer::compact_up_to;
 use crate::value::Failure;
-use scale_info_tables::portable::PortableRegistry;
 use scale_info_types::form::PortableForm;
 use scale_info_types::ty::{TypeDef, TypeDefPrimitive};
 
@@ -32,15 +31,17 @@ fn compact_primitive<'a>(
 
 /// A compact integer of the type with this id, and the rest, where so many levels are left.
 #[cycle(compact)]
-pub fn compact_within<'a>(
-    table: &PortableRegistry,
+pub fn compact_within<'a, T: Definitions>(
+    table: &T,
     id: u32,
     left: u8,
     input: &'a [u8],
 ) -> Result<(u128, &'a [u8]), Failure>
     ensures ok { IfOk result
-        (λ found. compact_within left table.now id input.now ≡ decoded found.0 found.1.now) }
-    ensures err { IfErr result (λ why. compact_within left table.now id input.now ≡ failed why) }
+        (λ found. compact_within left (T.table table.now) id input.now
+        ≡ decoded found.0 found.1.now) }
+    ensures err { IfErr result
+        (λ why. compact_within left (T.table table.now) id input.now ≡ failed why) }
 {
     let definition = definition_of(table, id, left)?;
     compact_by(table, definition, left, input)
@@ -48,18 +49,19 @@ pub fn compact_within<'a>(
 
 /// A compact integer by the definition of its type, and the rest.
 #[cycle(compact)]
-fn compact_by<'a>(
-    table: &PortableRegistry,
+fn compact_by<'a, T: Definitions>(
+    table: &T,
     definition: &TypeDef<PortableForm>,
     left: u8,
     input: &'a [u8],
 ) -> Result<(u128, &'a [u8]), Failure>
     requires { 1 ≤ left }
     ensures ok { IfOk result
-        (λ found. compact_definition_within left table.now definition.now input.now
+        (λ found. compact_definition_within left (T.table table.now) definition.now input.now
         ≡ decoded found.0 found.1.now) }
     ensures err { IfErr result
-        (λ why. compact_definition_within left table.now definition.now input.now ≡ failed why) }
+        (λ why. compact_definition_within left (T.table table.now) definition.now input.now
+        ≡ failed why) }
 {
     match definition {
         TypeDef::Composite(composite) => match composite.fields.as_slice() {

@@ -9,7 +9,7 @@ ghost use Rattle.scale_info_value.specs.Readings.{variant_within, items_within, 
 ghost use Rattle.scale_info_value.specs.Readings.{pair_within, pairs_within, reading};
 
 use crate::compact::compact_within;
-use crate::definition::definition_of;
+use crate::definition::{Definitions, definition_of};
 use crate::integer::{byte, count};
 use crate::list::primitives;
 use crate::primitive::primitive;
@@ -20,7 +20,6 @@ use scale_info_collections::text::Text;
 use scale_info_collections::try_clone::TryClone;
 use scale_info_identities::symbol::UntrackedSymbol;
 use scale_info_identities::type_id::TypeId;
-use scale_info_tables::portable::PortableRegistry;
 use scale_info_types::form::PortableForm;
 use scale_info_types::ty::{
     Field, TypeDef, TypeDefArray, TypeDefCompact, TypeDefComposite, TypeDefMap, TypeDefSequence,
@@ -31,7 +30,7 @@ use std::alloc::Global;
 /// Decodes one value of the type with this id from the start of the input, and returns it with the
 /// rest.
 ///
-/// An id is an index of the table, as for [`PortableRegistry::resolve`]. The parts of a value are
+/// An id is an index of the table, as for `PortableRegistry::resolve`. The parts of a value are
 /// decoded in order, and the first error is returned. Allocates for parts already decoded, and for
 /// the integers of a list once all their bytes are there, never for an announced count.
 ///
@@ -50,15 +49,15 @@ use std::alloc::Global;
 /// let input = [8, 1, 0, 0, 0, 2, 0, 0, 0, 255];
 /// let (value, rest) = decode_value(alloc, &table, 0, &input)?;   // 1 and 2, and the rest [255]
 /// ```
-pub fn decode_value<'a>(
+pub fn decode_value<'a, T: Definitions>(
     alloc: Global,
-    table: &PortableRegistry,
+    table: &T,
     id: u32,
     input: &'a [u8],
 ) -> Result<(Dyn, &'a [u8]), ValueError>
     ensures ok { IfOk result
-        (λ found. reading table.now id 1 input.now ≡ decoded found.0 found.1.now) }
-    ensures err { IfErr result (IsErrorOf (reading table.now id 1 input.now)) }
+        (λ found. reading (T.table table.now) id 1 input.now ≡ decoded found.0 found.1.now) }
+    ensures err { IfErr result (IsErrorOf (reading (T.table table.now) id 1 input.now)) }
 {
     value_within(alloc, table, id, 128, input)
 }
@@ -66,16 +65,17 @@ pub fn decode_value<'a>(
 /// A value of the type with this id, and the rest, where so many levels are left.
 #[cycle(value)]
 #[inline(always)]
-fn value_within<'a>(
+fn value_within<'a, T: Definitions>(
     alloc: Global,
-    table: &PortableRegistry,
+    table: &T,
     id: u32,
     left: u8,
     input: &'a [u8],
 ) -> Result<(Dyn, &'a [u8]), ValueError>
     ensures ok { IfOk result
-        (λ found. value_within left table.now id input.now ≡ decoded found.0 found.1.now) }
-    ensures err { IfErr result (IsErrorOf (value_within left table.now id input.now)) }
+        (λ found. value_within left (T.table table.now) id input.now
+        ≡ decoded found.0 found.1.now) }
+    ensures err { IfErr result (IsErrorOf (value_within left (T.table table.now) id input.now)) }
 {
     let definition = definition_of(table, id, left)?;
     value_by(alloc, table, definition, left, input)
@@ -87,19 +87,19 @@ fn value_within<'a>(
 /// into it: so a level of a value takes the stack of its own kind, and not that of all.
 #[cycle(value)]
 #[inline(never)]
-fn value_by<'a>(
+fn value_by<'a, T: Definitions>(
     alloc: Global,
-    table: &PortableRegistry,
+    table: &T,
     definition: &TypeDef<PortableForm>,
     left: u8,
     input: &'a [u8],
 ) -> Result<(Dyn, &'a [u8]), ValueError>
     requires { 1 ≤ left }
     ensures ok { IfOk result
-        (λ found. definition_within left table.now definition.now input.now
+        (λ found. definition_within left (T.table table.now) definition.now input.now
         ≡ decoded found.0 found.1.now) }
     ensures err { IfErr result
-        (IsErrorOf (definition_within left table.now definition.now input.now)) }
+        (IsErrorOf (definition_within left (T.table table.now) definition.now input.now)) }
 {
     match definition {
         TypeDef::Composite(composite) => composite_value(alloc, table, composite, left, input),
@@ -116,17 +116,18 @@ fn value_by<'a>(
 
 /// A compact integer, and the rest.
 #[inline(never)]
-fn compact_value<'a>(
-    table: &PortableRegistry,
+fn compact_value<'a, T: Definitions>(
+    table: &T,
     compact: &TypeDefCompact<PortableForm>,
     left: u8,
     input: &'a [u8],
 ) -> Result<(Dyn, &'a [u8]), ValueError>
     ensures ok { IfOk result
-        (λ found. definition_within left table.now (def.Compact compact.now) input.now
+        (λ found. definition_within left (T.table table.now) (def.Compact compact.now) input.now
         ≡ decoded found.0 found.1.now) }
     ensures err { IfErr result
-        (IsErrorOf (definition_within left table.now (def.Compact compact.now) input.now)) }
+        (IsErrorOf (definition_within left (T.table table.now) (def.Compact compact.now)
+        input.now)) }
 {
     let (integer, rest) = compact_within(table, compact.type_param.id, left, input)?;
     Ok((Dyn::Unsigned(integer), rest))
@@ -135,19 +136,20 @@ fn compact_value<'a>(
 /// A value of a struct, and the rest.
 #[cycle(value)]
 #[inline(never)]
-fn composite_value<'a>(
+fn composite_value<'a, T: Definitions>(
     alloc: Global,
-    table: &PortableRegistry,
+    table: &T,
     composite: &TypeDefComposite<PortableForm>,
     left: u8,
     input: &'a [u8],
 ) -> Result<(Dyn, &'a [u8]), ValueError>
     requires { 1 ≤ left }
     ensures ok { IfOk result
-        (λ found. definition_within left table.now (def.Composite composite.now) input.now
+        (λ found. definition_within left (T.table table.now) (def.Composite composite.now) input.now
         ≡ decoded found.0 found.1.now) }
     ensures err { IfErr result
-        (IsErrorOf (definition_within left table.now (def.Composite composite.now) input.now)) }
+        (IsErrorOf (definition_within left (T.table table.now) (def.Composite composite.now)
+        input.now)) }
 {
     let (values, rest) = fields(alloc, table, composite.fields.as_slice(), left, input)?;
     Ok((Dyn::Record(values), rest))
@@ -156,19 +158,19 @@ fn composite_value<'a>(
 /// A value of an enum, and the rest.
 #[cycle(value)]
 #[inline(never)]
-fn variant_value<'a>(
+fn variant_value<'a, T: Definitions>(
     alloc: Global,
-    table: &PortableRegistry,
+    table: &T,
     choice: &TypeDefVariant<PortableForm>,
     left: u8,
     input: &'a [u8],
 ) -> Result<(Dyn, &'a [u8]), ValueError>
     requires { 1 ≤ left }
     ensures ok { IfOk result
-        (λ found. variant_within left table.now choice.now.variants input.now
+        (λ found. variant_within left (T.table table.now) choice.now.variants input.now
         ≡ decoded found.0 found.1.now) }
     ensures err { IfErr result
-        (IsErrorOf (variant_within left table.now choice.now.variants input.now)) }
+        (IsErrorOf (variant_within left (T.table table.now) choice.now.variants input.now)) }
 {
     let (index, rest) = byte(input)?;
     match variant_with_index(choice.variants.as_slice(), index) {
@@ -189,19 +191,20 @@ fn variant_value<'a>(
 /// A value of a sequence, and the rest.
 #[cycle(value)]
 #[inline(never)]
-fn sequence_value<'a>(
+fn sequence_value<'a, T: Definitions>(
     alloc: Global,
-    table: &PortableRegistry,
+    table: &T,
     sequence: &TypeDefSequence<PortableForm>,
     left: u8,
     input: &'a [u8],
 ) -> Result<(Dyn, &'a [u8]), ValueError>
     requires { 1 ≤ left }
     ensures ok { IfOk result
-        (λ found. definition_within left table.now (def.Sequence sequence.now) input.now
+        (λ found. definition_within left (T.table table.now) (def.Sequence sequence.now) input.now
         ≡ decoded found.0 found.1.now) }
     ensures err { IfErr result
-        (IsErrorOf (definition_within left table.now (def.Sequence sequence.now) input.now)) }
+        (IsErrorOf (definition_within left (T.table table.now) (def.Sequence sequence.now)
+        input.now)) }
 {
     let (count, rest) = count(input)?;
     let (values, rest) = items(alloc, table, &sequence.type_param, count, left, rest)?;
@@ -211,19 +214,19 @@ fn sequence_value<'a>(
 /// A value of an array, and the rest.
 #[cycle(value)]
 #[inline(never)]
-fn array_value<'a>(
+fn array_value<'a, T: Definitions>(
     alloc: Global,
-    table: &PortableRegistry,
+    table: &T,
     array: &TypeDefArray<PortableForm>,
     left: u8,
     input: &'a [u8],
 ) -> Result<(Dyn, &'a [u8]), ValueError>
     requires { 1 ≤ left }
     ensures ok { IfOk result
-        (λ found. definition_within left table.now (def.Array array.now) input.now
+        (λ found. definition_within left (T.table table.now) (def.Array array.now) input.now
         ≡ decoded found.0 found.1.now) }
     ensures err { IfErr result
-        (IsErrorOf (definition_within left table.now (def.Array array.now) input.now)) }
+        (IsErrorOf (definition_within left (T.table table.now) (def.Array array.now) input.now)) }
 {
     let (values, rest) = items(alloc, table, &array.type_param, array.len, left, input)?;
     Ok((Dyn::List(values), rest))
@@ -232,9 +235,9 @@ fn array_value<'a>(
 /// So many values of one type, and the rest. The type is looked up once for all of them.
 #[cycle(value)]
 #[inline(always)]
-fn items<'a>(
+fn items<'a, T: Definitions>(
     alloc: Global,
-    table: &PortableRegistry,
+    table: &T,
     ty: &UntrackedSymbol<TypeId>,
     count: u32,
     left: u8,
@@ -242,9 +245,10 @@ fn items<'a>(
 ) -> Result<(Items<Dyn>, &'a [u8]), ValueError>
     requires { 1 ≤ left }
     ensures ok { IfOk result
-        (λ found. items_within left table.now ty.now count input.now
+        (λ found. items_within left (T.table table.now) ty.now count input.now
         ≡ decoded found.0 found.1.now) }
-    ensures err { IfErr result (IsErrorOf (items_within left table.now ty.now count input.now)) }
+    ensures err { IfErr result
+        (IsErrorOf (items_within left (T.table table.now) ty.now count input.now)) }
 {
     if count == 0 {
         return Ok((Items::new(alloc), input));
@@ -256,9 +260,9 @@ fn items<'a>(
 /// So many values by the definition of their type, and the rest.
 #[cycle(value)]
 #[inline(always)]
-fn items_by<'a>(
+fn items_by<'a, T: Definitions>(
     alloc: Global,
-    table: &PortableRegistry,
+    table: &T,
     definition: &TypeDef<PortableForm>,
     count: u32,
     left: u8,
@@ -266,10 +270,12 @@ fn items_by<'a>(
 ) -> Result<(Items<Dyn>, &'a [u8]), ValueError>
     requires { 1 ≤ left }
     ensures ok { IfOk result
-        (λ found. in_turn (replicate count (definition_within left table.now definition.now))
+        (λ found.
+        in_turn (replicate count (definition_within left (T.table table.now) definition.now))
         input.now ≡ decoded found.0 found.1.now) }
     ensures err { IfErr result (IsErrorOf
-        (in_turn (replicate count (definition_within left table.now definition.now)) input.now)) }
+        (in_turn (replicate count (definition_within left (T.table table.now) definition.now))
+        input.now)) }
 {
     if let TypeDef::Primitive(kind) = definition {
         return primitives(alloc, kind, count, input);
@@ -287,19 +293,19 @@ fn items_by<'a>(
 /// A value of a tuple, and the rest.
 #[cycle(value)]
 #[inline(never)]
-fn tuple_value<'a>(
+fn tuple_value<'a, T: Definitions>(
     alloc: Global,
-    table: &PortableRegistry,
+    table: &T,
     tuple: &TypeDefTuple<PortableForm>,
     left: u8,
     input: &'a [u8],
 ) -> Result<(Dyn, &'a [u8]), ValueError>
     requires { 1 ≤ left }
     ensures ok { IfOk result
-        (λ found. definition_within left table.now (def.Tuple tuple.now) input.now
+        (λ found. definition_within left (T.table table.now) (def.Tuple tuple.now) input.now
         ≡ decoded found.0 found.1.now) }
     ensures err { IfErr result
-        (IsErrorOf (definition_within left table.now (def.Tuple tuple.now) input.now)) }
+        (IsErrorOf (definition_within left (T.table table.now) (def.Tuple tuple.now) input.now)) }
 {
     let (values, rest) = members(alloc, table, tuple.fields.as_slice(), left, input)?;
     Ok((Dyn::List(values), rest))
@@ -308,18 +314,19 @@ fn tuple_value<'a>(
 /// A value of each type in order, and the rest.
 #[cycle(value)]
 #[inline(always)]
-fn members<'a>(
+fn members<'a, T: Definitions>(
     alloc: Global,
-    table: &PortableRegistry,
+    table: &T,
     types: &[UntrackedSymbol<TypeId>],
     left: u8,
     input: &'a [u8],
 ) -> Result<(Items<Dyn>, &'a [u8]), ValueError>
     requires { 1 ≤ left }
     ensures ok { IfOk result
-        (λ found. members_within left table.now types.now input.now
+        (λ found. members_within left (T.table table.now) types.now input.now
         ≡ decoded found.0 found.1.now) }
-    ensures err { IfErr result (IsErrorOf (members_within left table.now types.now input.now)) }
+    ensures err { IfErr result
+        (IsErrorOf (members_within left (T.table table.now) types.now input.now)) }
 {
     let mut values = Items::new(alloc);
     let mut rest = input;
@@ -334,17 +341,19 @@ fn members<'a>(
 /// A value of each field's type in order, under the field's name, and the rest.
 #[cycle(value)]
 #[inline(always)]
-fn fields<'a>(
+fn fields<'a, T: Definitions>(
     alloc: Global,
-    table: &PortableRegistry,
+    table: &T,
     all: &[Field<PortableForm>],
     left: u8,
     input: &'a [u8],
 ) -> Result<(Items<(Option<Text>, Dyn)>, &'a [u8]), ValueError>
     requires { 1 ≤ left }
     ensures ok { IfOk result
-        (λ found. fields_within left table.now all.now input.now ≡ decoded found.0 found.1.now) }
-    ensures err { IfErr result (IsErrorOf (fields_within left table.now all.now input.now)) }
+        (λ found. fields_within left (T.table table.now) all.now input.now
+        ≡ decoded found.0 found.1.now) }
+    ensures err { IfErr result
+        (IsErrorOf (fields_within left (T.table table.now) all.now input.now)) }
 {
     let mut values = Items::new(alloc);
     let mut rest = input;
@@ -359,19 +368,19 @@ fn fields<'a>(
 /// A value of a map, and the rest.
 #[cycle(value)]
 #[inline(never)]
-fn map_value<'a>(
+fn map_value<'a, T: Definitions>(
     alloc: Global,
-    table: &PortableRegistry,
+    table: &T,
     map: &TypeDefMap<PortableForm>,
     left: u8,
     input: &'a [u8],
 ) -> Result<(Dyn, &'a [u8]), ValueError>
     requires { 1 ≤ left }
     ensures ok { IfOk result
-        (λ found. definition_within left table.now (def.Map map.now) input.now
+        (λ found. definition_within left (T.table table.now) (def.Map map.now) input.now
         ≡ decoded found.0 found.1.now) }
     ensures err { IfErr result
-        (IsErrorOf (definition_within left table.now (def.Map map.now) input.now)) }
+        (IsErrorOf (definition_within left (T.table table.now) (def.Map map.now) input.now)) }
 {
     let (count, rest) = count(input)?;
     let (values, rest) = pairs(alloc, table, &map.key, &map.value, count, left, rest)?;
@@ -381,9 +390,9 @@ fn map_value<'a>(
 /// So many pairs of a key and a value, each a list of two, and the rest.
 #[cycle(value)]
 #[inline(always)]
-fn pairs<'a>(
+fn pairs<'a, T: Definitions>(
     alloc: Global,
-    table: &PortableRegistry,
+    table: &T,
     key: &UntrackedSymbol<TypeId>,
     value: &UntrackedSymbol<TypeId>,
     count: u32,
@@ -392,10 +401,10 @@ fn pairs<'a>(
 ) -> Result<(Items<Dyn>, &'a [u8]), ValueError>
     requires { 1 ≤ left }
     ensures ok { IfOk result
-        (λ found. pairs_within left table.now key.now value.now count input.now
+        (λ found. pairs_within left (T.table table.now) key.now value.now count input.now
         ≡ decoded found.0 found.1.now) }
     ensures err { IfErr result
-        (IsErrorOf (pairs_within left table.now key.now value.now count input.now)) }
+        (IsErrorOf (pairs_within left (T.table table.now) key.now value.now count input.now)) }
 {
     let mut values = Items::new(alloc);
     let mut rest = input;
@@ -421,9 +430,9 @@ fn list_of_two(alloc: Global, key: Dyn, value: Dyn) -> Result<Dyn, ValueError>
 
 /// A key and a value, and the rest.
 #[cycle(value)]
-fn pair<'a>(
+fn pair<'a, T: Definitions>(
     alloc: Global,
-    table: &PortableRegistry,
+    table: &T,
     key: &UntrackedSymbol<TypeId>,
     value: &UntrackedSymbol<TypeId>,
     left: u8,
@@ -431,10 +440,10 @@ fn pair<'a>(
 ) -> Result<(Dyn, &'a [u8]), ValueError>
     requires { 1 ≤ left }
     ensures ok { IfOk result
-        (λ found. pair_within left table.now key.now value.now input.now
+        (λ found. pair_within left (T.table table.now) key.now value.now input.now
         ≡ decoded found.0 found.1.now) }
     ensures err { IfErr result
-        (IsErrorOf (pair_within left table.now key.now value.now input.now)) }
+        (IsErrorOf (pair_within left (T.table table.now) key.now value.now input.now)) }
 {
     let inner = left.saturating_sub(2);
     let (key, rest) = value_within(alloc, table, key.id, inner, input)?;

@@ -8,7 +8,7 @@ ghost use Rattle.scale_info_value_text.specs.ValueTexts.{error_by};
 
 use crate::writer::TextWriter;
 use json::Writer;
-use scale_info_tables::portable::PortableRegistry;
+use scale_info_value::definition::Definitions;
 use scale_info_value::value::ValueError;
 use scale_info_visit::visit::visit_value;
 use scale_info_visit::visitor::VisitError;
@@ -52,16 +52,16 @@ fn value_error(error: VisitError<AllocError>) -> ValueError
 /// let rest = append_value_json(alloc, &table, 0, &[8, 1, 0, 0, 0, 2, 0, 0, 0, 255], &mut out)?;
 /// // rest is [255], and out has grown by "[1,2]"
 /// ```
-pub fn append_value_json<'i>(
+pub fn append_value_json<'i, T: Definitions>(
     alloc: Global,
-    table: &PortableRegistry,
+    table: &T,
     id: u32,
     input: &'i [u8],
     out: &mut Vec<u8>,
 ) -> Result<&'i [u8], ValueError>
-    ensures ok { IfOk result (λ rest. AppendsText table.now id
-        (reading table.now id 1 input.now) rest.now out.old.items out.new.items) }
-    ensures err { IfErr result (IsErrorOf (reading table.now id 1 input.now)) }
+    ensures ok { IfOk result (λ rest. AppendsText (T.table table.now) id
+        (reading (T.table table.now) id 1 input.now) rest.now out.old.items out.new.items) }
+    ensures err { IfErr result (IsErrorOf (reading (T.table table.now) id 1 input.now)) }
     ensures utf8 { OnOk result (IsUtf8 (drop (length out.old.items) out.new.items)) }
     ensures keeps { OnErr result (out.new.items ≡ out.old.items) }
 {
@@ -85,15 +85,15 @@ pub fn append_value_json<'i>(
 /// it.
 ///
 /// Errors: `Value`, with those of `decode_value`; `Trailing`, if bytes are left after the value.
-pub fn value_json(
+pub fn value_json<T: Definitions>(
     alloc: Global,
-    table: &PortableRegistry,
+    table: &T,
     id: u32,
     input: &[u8],
 ) -> Result<String, ValueTextError>
-    ensures ok { IfOk result (λ text. IsTextOf table.now id
-        (reading table.now id 1 input.now) (string_bytes text)) }
-    ensures err { IfErr result (IsTextErrorOf (reading table.now id 1 input.now)) }
+    ensures ok { IfOk result (λ text. IsTextOf (T.table table.now) id
+        (reading (T.table table.now) id 1 input.now) (string_bytes text)) }
+    ensures err { IfErr result (IsTextErrorOf (reading (T.table table.now) id 1 input.now)) }
 {
     let mut out = Vec::new(alloc);
     match append_value_json(alloc, table, id, input, &mut out) {

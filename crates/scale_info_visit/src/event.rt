@@ -9,10 +9,10 @@ ghost use Rattle.scale_info_visit.specs.Visits.{HasVisited, IsVisitErrorOf};
 
 use crate::visit::visit_value;
 use crate::visitor::{ValueVisitor, VisitError};
-use scale_info_tables::portable::PortableRegistry;
 use scale_info_types::form::PortableForm;
 use scale_info_types::ty::Field;
 use scale_info_types::ty::variant::Variant;
+use scale_info_value::definition::Definitions;
 
 /// One step of going over a value, as `ValueVisitor` is shown it by one of its functions.
 ///
@@ -215,19 +215,19 @@ impl<'v, V: EventVisitor> ValueVisitor for EachEvent<'v, V> {
 ///
 /// It shows what `visit_value` shows, and has the same errors. After an error the visitor has taken
 /// some events.
-pub fn visit_events<'i, V: EventVisitor>(
-    table: &PortableRegistry,
+pub fn visit_events<'i, T: Definitions, V: EventVisitor>(
+    table: &T,
     id: u32,
     input: &'i [u8],
     visitor: &mut V,
 ) -> Result<&'i [u8], VisitError<V::Error>>
     ensures ok { IfOk result (λ rest. HasVisited (TakesEach V.taken)
-        (events table.now id)
-        (reading table.now id 1 input.now)
+        (events (T.table table.now) id)
+        (reading (T.table table.now) id 1 input.now)
         rest.now visitor.old visitor.new) }
     ensures err { IfErr result (IsVisitErrorOf (TakesEach V.taken) (RefusesLast V.taken V.refused)
-        (events table.now id)
-        (reading table.now id 1 input.now)
+        (events (T.table table.now) id)
+        (reading (T.table table.now) id 1 input.now)
         visitor.old visitor.new) }
 {
     let mut each = EachEvent { inner: visitor };

@@ -6,10 +6,10 @@ ghost use Rattle.scale_info_visit.specs.Visits.{HasRest};
 
 use crate::visit::visit_value;
 use crate::visitor::{ValueVisitor, VisitError};
-use scale_info_tables::portable::PortableRegistry;
 use scale_info_types::form::PortableForm;
 use scale_info_types::ty::Field;
 use scale_info_types::ty::variant::Variant;
+use scale_info_value::definition::Definitions;
 use scale_info_value::value::Failure;
 use std::convert::Infallible;
 
@@ -98,13 +98,14 @@ impl ValueVisitor for Skipping {
 /// skip_value(&table, 0, &[8, 1, 0, 0, 0, 2, 0, 0, 0, 255]) == Ok(&[255])
 /// skip_value(&table, 0, &[8, 1, 0, 0, 0]) == Err(Failure::Malformed)
 /// ```
-pub fn skip_value<'i>(
-    table: &PortableRegistry,
+pub fn skip_value<'i, T: Definitions>(
+    table: &T,
     id: u32,
     input: &'i [u8],
 ) -> Result<&'i [u8], Failure>
-    ensures ok { IfOk result (λ rest. HasRest (reading table.now id 1 input.now) rest.now) }
-    ensures err { IfErr result (λ why. reading table.now id 1 input.now ≡ failed why) }
+    ensures ok { IfOk result
+        (λ rest. HasRest (reading (T.table table.now) id 1 input.now) rest.now) }
+    ensures err { IfErr result (λ why. reading (T.table table.now) id 1 input.now ≡ failed why) }
 {
     match visit_value(table, id, input, &mut Skipping) {
         Ok(rest) => Ok(rest),

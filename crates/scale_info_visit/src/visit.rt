@@ -17,12 +17,11 @@ use crate::list::{primitive, primitives};
 use crate::visitor::{ValueVisitor, VisitError, shown};
 use scale_info_identities::symbol::UntrackedSymbol;
 use scale_info_identities::type_id::TypeId;
-use scale_info_tables::portable::PortableRegistry;
 use scale_info_types::form::PortableForm;
 use scale_info_types::ty::variant::{TypeDefVariant, Variant};
 use scale_info_types::ty::{Field, TypeDef, TypeDefPrimitive};
 use scale_info_value::compact::compact_within;
-use scale_info_value::definition::definition_of;
+use scale_info_value::definition::{Definitions, definition_of};
 use scale_info_value::integer::{byte, bytes, count};
 use scale_info_value::value::Failure;
 use scale_info_value::variants::variant_with_index;
@@ -31,19 +30,19 @@ use scale_info_value::variants::variant_with_index;
 /// rest. It does not allocate.
 ///
 /// It decodes what `decode_value` decodes, in the same order, and has the same errors.
-pub fn visit_value<'i, V: ValueVisitor>(
-    table: &PortableRegistry,
+pub fn visit_value<'i, T: Definitions, V: ValueVisitor>(
+    table: &T,
     id: u32,
     input: &'i [u8],
     visitor: &mut V,
 ) -> Result<&'i [u8], VisitError<V::Error>>
     ensures ok { IfOk result (λ rest. HasVisited V.visited
-        (events table.now id)
-        (reading table.now id 1 input.now)
+        (events (T.table table.now) id)
+        (reading (T.table table.now) id 1 input.now)
         rest.now visitor.old visitor.new) }
     ensures err { IfErr result (IsVisitErrorOf V.visited V.stopped
-        (events table.now id)
-        (reading table.now id 1 input.now)
+        (events (T.table table.now) id)
+        (reading (T.table table.now) id 1 input.now)
         visitor.old visitor.new) }
 {
     value_within(table, id, 128, input, visitor)
@@ -51,20 +50,20 @@ pub fn visit_value<'i, V: ValueVisitor>(
 
 /// Shows a value of the type with this id, where so many levels are left.
 #[cycle(visit)]
-fn value_within<'i, V: ValueVisitor>(
-    table: &PortableRegistry,
+fn value_within<'i, T: Definitions, V: ValueVisitor>(
+    table: &T,
     id: u32,
     left: u8,
     input: &'i [u8],
     visitor: &mut V,
 ) -> Result<&'i [u8], VisitError<V::Error>>
     ensures ok { IfOk result (λ rest. HasVisited V.visited
-        (events table.now id)
-        (value_within left table.now id input.now)
+        (events (T.table table.now) id)
+        (value_within left (T.table table.now) id input.now)
         rest.now visitor.old visitor.new) }
     ensures err { IfErr result (IsVisitErrorOf V.visited V.stopped
-        (events table.now id)
-        (value_within left table.now id input.now)
+        (events (T.table table.now) id)
+        (value_within left (T.table table.now) id input.now)
         visitor.old visitor.new) }
 {
     let definition = definition_of(table, id, left)?;
@@ -73,8 +72,8 @@ fn value_within<'i, V: ValueVisitor>(
 
 /// Shows a value by the definition of its type.
 #[cycle(visit)]
-fn value_by<'i, V: ValueVisitor>(
-    table: &PortableRegistry,
+fn value_by<'i, T: Definitions, V: ValueVisitor>(
+    table: &T,
     definition: &TypeDef<PortableForm>,
     left: u8,
     input: &'i [u8],
@@ -82,12 +81,12 @@ fn value_by<'i, V: ValueVisitor>(
 ) -> Result<&'i [u8], VisitError<V::Error>>
     requires { 1 ≤ left }
     ensures ok { IfOk result (λ rest. HasVisited V.visited
-        (events_by table.now (Some definition.now))
-        (definition_within left table.now definition.now input.now)
+        (events_by (T.table table.now) (Some definition.now))
+        (definition_within left (T.table table.now) definition.now input.now)
         rest.now visitor.old visitor.new) }
     ensures err { IfErr result (IsVisitErrorOf V.visited V.stopped
-        (events_by table.now (Some definition.now))
-        (definition_within left table.now definition.now input.now)
+        (events_by (T.table table.now) (Some definition.now))
+        (definition_within left (T.table table.now) definition.now input.now)
         visitor.old visitor.new) }
 {
     match definition {
@@ -146,8 +145,8 @@ pub fn shares_name(choice: &[Variant<PortableForm>], variant: &Variant<PortableF
 
 /// Shows the record of these fields.
 #[cycle(visit)]
-fn record<'i, V: ValueVisitor>(
-    table: &PortableRegistry,
+fn record<'i, T: Definitions, V: ValueVisitor>(
+    table: &T,
     all: &[Field<PortableForm>],
     left: u8,
     input: &'i [u8],
@@ -156,13 +155,15 @@ fn record<'i, V: ValueVisitor>(
     requires { 1 ≤ left }
     ensures ok { IfOk result (λ rest. HasVisited V.visited
         (bracketed (begin_record (names all.now))
-        (fields_by table.now (all_named (names all.now)) all.now) (end_record (names all.now)))
-        (fields_within left table.now all.now input.now)
+        (fields_by (T.table table.now) (all_named (names all.now)) all.now)
+        (end_record (names all.now)))
+        (fields_within left (T.table table.now) all.now input.now)
         rest.now visitor.old visitor.new) }
     ensures err { IfErr result (IsVisitErrorOf V.visited V.stopped
         (bracketed (begin_record (names all.now))
-        (fields_by table.now (all_named (names all.now)) all.now) (end_record (names all.now)))
-        (fields_within left table.now all.now input.now)
+        (fields_by (T.table table.now) (all_named (names all.now)) all.now)
+        (end_record (names all.now)))
+        (fields_within left (T.table table.now) all.now input.now)
         visitor.old visitor.new) }
 {
     shown(visitor.begin_record(all))?;
@@ -173,8 +174,8 @@ fn record<'i, V: ValueVisitor>(
 
 /// Shows a value of an enum.
 #[cycle(visit)]
-fn variant<'i, V: ValueVisitor>(
-    table: &PortableRegistry,
+fn variant<'i, T: Definitions, V: ValueVisitor>(
+    table: &T,
     choice: &TypeDefVariant<PortableForm>,
     left: u8,
     input: &'i [u8],
@@ -182,12 +183,12 @@ fn variant<'i, V: ValueVisitor>(
 ) -> Result<&'i [u8], VisitError<V::Error>>
     requires { 1 ≤ left }
     ensures ok { IfOk result (λ rest. HasVisited V.visited
-        (events_by table.now (Some (def.Variant choice.now)))
-        (variant_within left table.now choice.now.variants input.now)
+        (events_by (T.table table.now) (Some (def.Variant choice.now)))
+        (variant_within left (T.table table.now) choice.now.variants input.now)
         rest.now visitor.old visitor.new) }
     ensures err { IfErr result (IsVisitErrorOf V.visited V.stopped
-        (events_by table.now (Some (def.Variant choice.now)))
-        (variant_within left table.now choice.now.variants input.now)
+        (events_by (T.table table.now) (Some (def.Variant choice.now)))
+        (variant_within left (T.table table.now) choice.now.variants input.now)
         visitor.old visitor.new) }
 {
     let (index, rest) = byte(input)?;
@@ -200,8 +201,8 @@ fn variant<'i, V: ValueVisitor>(
 
 /// Shows a value of this variant of the enum, whose fields are at the start of the input.
 #[cycle(visit)]
-fn chosen<'i, V: ValueVisitor>(
-    table: &PortableRegistry,
+fn chosen<'i, T: Definitions, V: ValueVisitor>(
+    table: &T,
     choice: &[Variant<PortableForm>],
     variant: &Variant<PortableForm>,
     left: u8,
@@ -211,15 +212,15 @@ fn chosen<'i, V: ValueVisitor>(
     requires { 1 ≤ left }
     ensures ok { IfOk result (λ rest. HasVisited V.visited
         (bracketed (begin_of choice.now variant.now)
-        (fields_by table.now (all_named (names variant.now.fields)) variant.now.fields)
+        (fields_by (T.table table.now) (all_named (names variant.now.fields)) variant.now.fields)
         (end_of choice.now variant.now))
-        (fields_within left table.now variant.now.fields input.now)
+        (fields_within left (T.table table.now) variant.now.fields input.now)
         rest.now visitor.old visitor.new) }
     ensures err { IfErr result (IsVisitErrorOf V.visited V.stopped
         (bracketed (begin_of choice.now variant.now)
-        (fields_by table.now (all_named (names variant.now.fields)) variant.now.fields)
+        (fields_by (T.table table.now) (all_named (names variant.now.fields)) variant.now.fields)
         (end_of choice.now variant.now))
-        (fields_within left table.now variant.now.fields input.now)
+        (fields_within left (T.table table.now) variant.now.fields input.now)
         visitor.old visitor.new) }
 {
     let all = variant.fields.as_slice();
@@ -231,8 +232,8 @@ fn chosen<'i, V: ValueVisitor>(
 
 /// Shows a value of each field's type in order, after the field's name.
 #[cycle(visit)]
-fn fields<'i, V: ValueVisitor>(
-    table: &PortableRegistry,
+fn fields<'i, T: Definitions, V: ValueVisitor>(
+    table: &T,
     all: &[Field<PortableForm>],
     named: bool,
     left: u8,
@@ -241,12 +242,12 @@ fn fields<'i, V: ValueVisitor>(
 ) -> Result<&'i [u8], VisitError<V::Error>>
     requires { 1 ≤ left }
     ensures ok { IfOk result (λ rest. HasVisited V.visited
-        (fields_by table.now named all.now)
-        (fields_within left table.now all.now input.now)
+        (fields_by (T.table table.now) named all.now)
+        (fields_within left (T.table table.now) all.now input.now)
         rest.now visitor.old visitor.new) }
     ensures err { IfErr result (IsVisitErrorOf V.visited V.stopped
-        (fields_by table.now named all.now)
-        (fields_within left table.now all.now input.now)
+        (fields_by (T.table table.now) named all.now)
+        (fields_within left (T.table table.now) all.now input.now)
         visitor.old visitor.new) }
 {
     let mut rest = input;
@@ -258,8 +259,8 @@ fn fields<'i, V: ValueVisitor>(
 
 /// Shows a field's name, and then its value.
 #[cycle(visit)]
-fn field<'i, V: ValueVisitor>(
-    table: &PortableRegistry,
+fn field<'i, T: Definitions, V: ValueVisitor>(
+    table: &T,
     next: &Field<PortableForm>,
     named: bool,
     left: u8,
@@ -268,12 +269,14 @@ fn field<'i, V: ValueVisitor>(
 ) -> Result<&'i [u8], VisitError<V::Error>>
     requires { 1 ≤ left }
     ensures ok { IfOk result (λ rest. HasVisited V.visited
-        (λ f. field_by table.now named f (definition_at table.now next.now.ty.id))
-        (field_within left table.now next.now input.now)
+        (λ f. field_by (T.table table.now) named f
+        (definition_at (T.table table.now) next.now.ty.id))
+        (field_within left (T.table table.now) next.now input.now)
         rest.now visitor.old visitor.new) }
     ensures err { IfErr result (IsVisitErrorOf V.visited V.stopped
-        (λ f. field_by table.now named f (definition_at table.now next.now.ty.id))
-        (field_within left table.now next.now input.now)
+        (λ f. field_by (T.table table.now) named f
+        (definition_at (T.table table.now) next.now.ty.id))
+        (field_within left (T.table table.now) next.now input.now)
         visitor.old visitor.new) }
 {
     shown(visitor.field(next, named))?;
@@ -282,8 +285,8 @@ fn field<'i, V: ValueVisitor>(
 
 /// Shows a list of so many values of one type. The type is looked up once for all of them.
 #[cycle(visit)]
-fn list<'i, V: ValueVisitor>(
-    table: &PortableRegistry,
+fn list<'i, T: Definitions, V: ValueVisitor>(
+    table: &T,
     ty: &UntrackedSymbol<TypeId>,
     count: u32,
     left: u8,
@@ -292,12 +295,12 @@ fn list<'i, V: ValueVisitor>(
 ) -> Result<&'i [u8], VisitError<V::Error>>
     requires { 1 ≤ left }
     ensures ok { IfOk result (λ rest. HasVisited V.visited
-        (list_by table.now (definition_at table.now ty.now.id) count)
-        (items_within left table.now ty.now count input.now)
+        (list_by (T.table table.now) (definition_at (T.table table.now) ty.now.id) count)
+        (items_within left (T.table table.now) ty.now count input.now)
         rest.now visitor.old visitor.new) }
     ensures err { IfErr result (IsVisitErrorOf V.visited V.stopped
-        (list_by table.now (definition_at table.now ty.now.id) count)
-        (items_within left table.now ty.now count input.now)
+        (list_by (T.table table.now) (definition_at (T.table table.now) ty.now.id) count)
+        (items_within left (T.table table.now) ty.now count input.now)
         visitor.old visitor.new) }
 {
     if count == 0 {
@@ -319,25 +322,27 @@ fn is_byte(definition: &TypeDef<PortableForm>) -> bool
 }
 
 /// Whether values of the type with this id are bytes.
-fn is_byte_at(table: &PortableRegistry, id: u32) -> bool
-    ensures { result ≡ is_byte (definition_at table.now id) }
+fn is_byte_at<T: Definitions>(table: &T, id: u32) -> bool
+    ensures { result ≡ is_byte (definition_at (T.table table.now) id) }
 {
-    match table.resolve(id) {
+    match table.definition(id) {
         None => false,
-        Some(ty) => is_byte(&ty.type_def),
+        Some(definition) => is_byte(definition),
     }
 }
 
 /// Shows a list of no items, also of a type that is no index.
-fn empty_list<V: ValueVisitor>(
-    table: &PortableRegistry,
+fn empty_list<T: Definitions, V: ValueVisitor>(
+    table: &T,
     ty: &UntrackedSymbol<TypeId>,
     visitor: &mut V,
 ) -> Result<(), V::Error>
     ensures ok { OnOk result (V.visited
-        (list_by table.now (definition_at table.now ty.now.id) 0 []) visitor.old visitor.new) }
+        (list_by (T.table table.now) (definition_at (T.table table.now) ty.now.id) 0 [])
+        visitor.old visitor.new) }
     ensures err { IfErr result (λ e. StopsWithin V.stopped
-        (list_by table.now (definition_at table.now ty.now.id) 0 []) visitor.old e visitor.new) }
+        (list_by (T.table table.now) (definition_at (T.table table.now) ty.now.id) 0 [])
+        visitor.old e visitor.new) }
 {
     if is_byte_at(table, ty.id) {
         return visitor.bytes(&[]);
@@ -348,8 +353,8 @@ fn empty_list<V: ValueVisitor>(
 
 /// Shows a list of so many values by the definition of their type: bytes at once.
 #[cycle(visit)]
-fn list_by<'i, V: ValueVisitor>(
-    table: &PortableRegistry,
+fn list_by<'i, T: Definitions, V: ValueVisitor>(
+    table: &T,
     definition: &TypeDef<PortableForm>,
     count: u32,
     left: u8,
@@ -358,12 +363,14 @@ fn list_by<'i, V: ValueVisitor>(
 ) -> Result<&'i [u8], VisitError<V::Error>>
     requires { 1 ≤ left }
     ensures ok { IfOk result (λ rest. HasVisited V.visited
-        (list_by table.now (Some definition.now) count)
-        (in_turn (replicate count (definition_within left table.now definition.now)) input.now)
+        (list_by (T.table table.now) (Some definition.now) count)
+        (in_turn (replicate count (definition_within left (T.table table.now) definition.now))
+        input.now)
         rest.now visitor.old visitor.new) }
     ensures err { IfErr result (IsVisitErrorOf V.visited V.stopped
-        (list_by table.now (Some definition.now) count)
-        (in_turn (replicate count (definition_within left table.now definition.now)) input.now)
+        (list_by (T.table table.now) (Some definition.now) count)
+        (in_turn (replicate count (definition_within left (T.table table.now) definition.now))
+        input.now)
         visitor.old visitor.new) }
 {
     if is_byte(definition) {
@@ -376,8 +383,8 @@ fn list_by<'i, V: ValueVisitor>(
 
 /// Shows a list of so many values that are no bytes, by the definition of their type.
 #[cycle(visit)]
-fn list_of_items<'i, V: ValueVisitor>(
-    table: &PortableRegistry,
+fn list_of_items<'i, T: Definitions, V: ValueVisitor>(
+    table: &T,
     definition: &TypeDef<PortableForm>,
     count: u32,
     left: u8,
@@ -386,14 +393,16 @@ fn list_of_items<'i, V: ValueVisitor>(
 ) -> Result<&'i [u8], VisitError<V::Error>>
     requires { 1 ≤ left }
     ensures ok { IfOk result (λ rest. HasVisited V.visited
-        (bracketed (begin_list count) (items_by table.now (Some definition.now) count)
+        (bracketed (begin_list count) (items_by (T.table table.now) (Some definition.now) count)
         end_list)
-        (in_turn (replicate count (definition_within left table.now definition.now)) input.now)
+        (in_turn (replicate count (definition_within left (T.table table.now) definition.now))
+        input.now)
         rest.now visitor.old visitor.new) }
     ensures err { IfErr result (IsVisitErrorOf V.visited V.stopped
-        (bracketed (begin_list count) (items_by table.now (Some definition.now) count)
+        (bracketed (begin_list count) (items_by (T.table table.now) (Some definition.now) count)
         end_list)
-        (in_turn (replicate count (definition_within left table.now definition.now)) input.now)
+        (in_turn (replicate count (definition_within left (T.table table.now) definition.now))
+        input.now)
         visitor.old visitor.new) }
 {
     shown(visitor.begin_list(count as usize))?;
@@ -405,8 +414,8 @@ fn list_of_items<'i, V: ValueVisitor>(
 /// Shows so many values by the definition of their type.
 #[cycle(visit)]
 #[inline(never)]
-fn items<'i, V: ValueVisitor>(
-    table: &PortableRegistry,
+fn items<'i, T: Definitions, V: ValueVisitor>(
+    table: &T,
     definition: &TypeDef<PortableForm>,
     count: u32,
     left: u8,
@@ -415,12 +424,14 @@ fn items<'i, V: ValueVisitor>(
 ) -> Result<&'i [u8], VisitError<V::Error>>
     requires { 1 ≤ left }
     ensures ok { IfOk result (λ rest. HasVisited V.visited
-        (items_by table.now (Some definition.now) count)
-        (in_turn (replicate count (definition_within left table.now definition.now)) input.now)
+        (items_by (T.table table.now) (Some definition.now) count)
+        (in_turn (replicate count (definition_within left (T.table table.now) definition.now))
+        input.now)
         rest.now visitor.old visitor.new) }
     ensures err { IfErr result (IsVisitErrorOf V.visited V.stopped
-        (items_by table.now (Some definition.now) count)
-        (in_turn (replicate count (definition_within left table.now definition.now)) input.now)
+        (items_by (T.table table.now) (Some definition.now) count)
+        (in_turn (replicate count (definition_within left (T.table table.now) definition.now))
+        input.now)
         visitor.old visitor.new) }
 {
     if let TypeDef::Primitive(kind) = definition {
@@ -435,8 +446,8 @@ fn items<'i, V: ValueVisitor>(
 
 /// Shows the list of a value of each type in order.
 #[cycle(visit)]
-fn members<'i, V: ValueVisitor>(
-    table: &PortableRegistry,
+fn members<'i, T: Definitions, V: ValueVisitor>(
+    table: &T,
     types: &[UntrackedSymbol<TypeId>],
     left: u8,
     input: &'i [u8],
@@ -444,12 +455,14 @@ fn members<'i, V: ValueVisitor>(
 ) -> Result<&'i [u8], VisitError<V::Error>>
     requires { 1 ≤ left }
     ensures ok { IfOk result (λ rest. HasVisited V.visited
-        (bracketed (begin_list (length types.now)) (members_by table.now types.now) end_list)
-        (members_within left table.now types.now input.now)
+        (bracketed (begin_list (length types.now))
+        (members_by (T.table table.now) types.now) end_list)
+        (members_within left (T.table table.now) types.now input.now)
         rest.now visitor.old visitor.new) }
     ensures err { IfErr result (IsVisitErrorOf V.visited V.stopped
-        (bracketed (begin_list (length types.now)) (members_by table.now types.now) end_list)
-        (members_within left table.now types.now input.now)
+        (bracketed (begin_list (length types.now))
+        (members_by (T.table table.now) types.now) end_list)
+        (members_within left (T.table table.now) types.now input.now)
         visitor.old visitor.new) }
 {
     shown(visitor.begin_list(types.len()))?;
@@ -460,8 +473,8 @@ fn members<'i, V: ValueVisitor>(
 
 /// Shows a value of each type in order.
 #[cycle(visit)]
-fn each_member<'i, V: ValueVisitor>(
-    table: &PortableRegistry,
+fn each_member<'i, T: Definitions, V: ValueVisitor>(
+    table: &T,
     types: &[UntrackedSymbol<TypeId>],
     left: u8,
     input: &'i [u8],
@@ -469,12 +482,12 @@ fn each_member<'i, V: ValueVisitor>(
 ) -> Result<&'i [u8], VisitError<V::Error>>
     requires { 1 ≤ left }
     ensures ok { IfOk result (λ rest. HasVisited V.visited
-        (members_by table.now types.now)
-        (members_within left table.now types.now input.now)
+        (members_by (T.table table.now) types.now)
+        (members_within left (T.table table.now) types.now input.now)
         rest.now visitor.old visitor.new) }
     ensures err { IfErr result (IsVisitErrorOf V.visited V.stopped
-        (members_by table.now types.now)
-        (members_within left table.now types.now input.now)
+        (members_by (T.table table.now) types.now)
+        (members_within left (T.table table.now) types.now input.now)
         visitor.old visitor.new) }
 {
     let mut rest = input;
@@ -486,8 +499,8 @@ fn each_member<'i, V: ValueVisitor>(
 
 /// Shows the list of so many pairs of a key and a value.
 #[cycle(visit)]
-fn pairs<'i, V: ValueVisitor>(
-    table: &PortableRegistry,
+fn pairs<'i, T: Definitions, V: ValueVisitor>(
+    table: &T,
     key: &UntrackedSymbol<TypeId>,
     value: &UntrackedSymbol<TypeId>,
     count: u32,
@@ -498,13 +511,13 @@ fn pairs<'i, V: ValueVisitor>(
     requires { 1 ≤ left }
     ensures ok { IfOk result (λ rest. HasVisited V.visited
         (bracketed (begin_list count)
-        (items_by table.now (Some (pair_of key.now value.now)) count) end_list)
-        (pairs_within left table.now key.now value.now count input.now)
+        (items_by (T.table table.now) (Some (pair_of key.now value.now)) count) end_list)
+        (pairs_within left (T.table table.now) key.now value.now count input.now)
         rest.now visitor.old visitor.new) }
     ensures err { IfErr result (IsVisitErrorOf V.visited V.stopped
         (bracketed (begin_list count)
-        (items_by table.now (Some (pair_of key.now value.now)) count) end_list)
-        (pairs_within left table.now key.now value.now count input.now)
+        (items_by (T.table table.now) (Some (pair_of key.now value.now)) count) end_list)
+        (pairs_within left (T.table table.now) key.now value.now count input.now)
         visitor.old visitor.new) }
 {
     shown(visitor.begin_list(count as usize))?;
@@ -515,8 +528,8 @@ fn pairs<'i, V: ValueVisitor>(
 
 /// Shows so many pairs of a key and a value.
 #[cycle(visit)]
-fn each_pair<'i, V: ValueVisitor>(
-    table: &PortableRegistry,
+fn each_pair<'i, T: Definitions, V: ValueVisitor>(
+    table: &T,
     key: &UntrackedSymbol<TypeId>,
     value: &UntrackedSymbol<TypeId>,
     count: u32,
@@ -526,12 +539,12 @@ fn each_pair<'i, V: ValueVisitor>(
 ) -> Result<&'i [u8], VisitError<V::Error>>
     requires { 1 ≤ left }
     ensures ok { IfOk result (λ rest. HasVisited V.visited
-        (items_by table.now (Some (pair_of key.now value.now)) count)
-        (pairs_within left table.now key.now value.now count input.now)
+        (items_by (T.table table.now) (Some (pair_of key.now value.now)) count)
+        (pairs_within left (T.table table.now) key.now value.now count input.now)
         rest.now visitor.old visitor.new) }
     ensures err { IfErr result (IsVisitErrorOf V.visited V.stopped
-        (items_by table.now (Some (pair_of key.now value.now)) count)
-        (pairs_within left table.now key.now value.now count input.now)
+        (items_by (T.table table.now) (Some (pair_of key.now value.now)) count)
+        (pairs_within left (T.table table.now) key.now value.now count input.now)
         visitor.old visitor.new) }
 {
     let mut rest = input;
@@ -543,8 +556,8 @@ fn each_pair<'i, V: ValueVisitor>(
 
 /// Shows the list of a key and a value.
 #[cycle(visit)]
-fn pair<'i, V: ValueVisitor>(
-    table: &PortableRegistry,
+fn pair<'i, T: Definitions, V: ValueVisitor>(
+    table: &T,
     key: &UntrackedSymbol<TypeId>,
     value: &UntrackedSymbol<TypeId>,
     left: u8,
@@ -553,12 +566,14 @@ fn pair<'i, V: ValueVisitor>(
 ) -> Result<&'i [u8], VisitError<V::Error>>
     requires { 1 ≤ left }
     ensures ok { IfOk result (λ rest. HasVisited V.visited
-        (bracketed (begin_list 2) (members_by table.now (key.now ∷ value.now ∷ [])) end_list)
-        (in_turn (key_then_value left table.now key.now value.now) input.now)
+        (bracketed (begin_list 2)
+        (members_by (T.table table.now) (key.now ∷ value.now ∷ [])) end_list)
+        (in_turn (key_then_value left (T.table table.now) key.now value.now) input.now)
         rest.now visitor.old visitor.new) }
     ensures err { IfErr result (IsVisitErrorOf V.visited V.stopped
-        (bracketed (begin_list 2) (members_by table.now (key.now ∷ value.now ∷ [])) end_list)
-        (in_turn (key_then_value left table.now key.now value.now) input.now)
+        (bracketed (begin_list 2)
+        (members_by (T.table table.now) (key.now ∷ value.now ∷ [])) end_list)
+        (in_turn (key_then_value left (T.table table.now) key.now value.now) input.now)
         visitor.old visitor.new) }
 {
     shown(visitor.begin_list(2))?;
@@ -569,8 +584,8 @@ fn pair<'i, V: ValueVisitor>(
 
 /// Shows a key and a value.
 #[cycle(visit)]
-fn key_and_value<'i, V: ValueVisitor>(
-    table: &PortableRegistry,
+fn key_and_value<'i, T: Definitions, V: ValueVisitor>(
+    table: &T,
     key: &UntrackedSymbol<TypeId>,
     value: &UntrackedSymbol<TypeId>,
     left: u8,
@@ -579,12 +594,12 @@ fn key_and_value<'i, V: ValueVisitor>(
 ) -> Result<&'i [u8], VisitError<V::Error>>
     requires { 1 ≤ left }
     ensures ok { IfOk result (λ rest. HasVisited V.visited
-        (members_by table.now (key.now ∷ value.now ∷ []))
-        (in_turn (key_then_value left table.now key.now value.now) input.now)
+        (members_by (T.table table.now) (key.now ∷ value.now ∷ []))
+        (in_turn (key_then_value left (T.table table.now) key.now value.now) input.now)
         rest.now visitor.old visitor.new) }
     ensures err { IfErr result (IsVisitErrorOf V.visited V.stopped
-        (members_by table.now (key.now ∷ value.now ∷ []))
-        (in_turn (key_then_value left table.now key.now value.now) input.now)
+        (members_by (T.table table.now) (key.now ∷ value.now ∷ []))
+        (in_turn (key_then_value left (T.table table.now) key.now value.now) input.now)
         visitor.old visitor.new) }
 {
     let inner = left.saturating_sub(2);

@@ -12,10 +12,10 @@ ghost use Rattle.scale_info_visit.specs.Visits.{HasVisited};
 
 use crate::visit::visit_value;
 use crate::visitor::{ValueVisitor, VisitError};
-use scale_info_tables::portable::PortableRegistry;
 use scale_info_types::form::PortableForm;
 use scale_info_types::ty::Field;
 use scale_info_types::ty::variant::Variant;
+use scale_info_value::definition::Definitions;
 use scale_info_value::value::Failure;
 use std::fmt;
 use thiserror::Error;
@@ -175,22 +175,22 @@ impl<'v, V: ValueVisitor> ValueVisitor for Limited<'v, V> {
 /// Errors: `Failed`, where the bytes are no value of the type; `TooLarge`, at the first value past
 /// the limit; `Stopped`, where the visitor stopped. After an error the visitor has been shown some
 /// events.
-pub fn visit_value_within<'i, V: ValueVisitor>(
-    table: &PortableRegistry,
+pub fn visit_value_within<'i, T: Definitions, V: ValueVisitor>(
+    table: &T,
     id: u32,
     limit: u64,
     input: &'i [u8],
     visitor: &mut V,
 ) -> Result<&'i [u8], WithinError<V::Error>>
     ensures ok { IfOk result (λ rest. HasVisited V.visited
-        (events table.now id)
-        (reading table.now id 1 input.now)
+        (events (T.table table.now) id)
+        (reading (T.table table.now) id 1 input.now)
         rest.now visitor.old visitor.new) }
     ensures fits { IfOk result (λ _. (value : dyns.Dyn) (rest : List ℕ)
-        → reading table.now id 1 input.now ≡ decoded value rest → size value ≤ limit) }
+        → reading (T.table table.now) id 1 input.now ≡ decoded value rest → size value ≤ limit) }
     ensures err { IfErr result (IsWithinErrorOf V.visited V.stopped
-        (events table.now id) size
-        (reading table.now id 1 input.now)
+        (events (T.table table.now) id) size
+        (reading (T.table table.now) id 1 input.now)
         limit visitor.old visitor.new) }
 {
     let mut limited = Limited {

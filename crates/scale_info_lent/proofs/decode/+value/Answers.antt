@@ -17,60 +17,60 @@ use Rattle.scale_info_lent.proofs.InTurn.{one_more_done, one_more_read, first_of
 use Rattle.scale_info_lent.proofs.decode.+value.Goals as goal
 
 pub value_within-returns-in_err-definition-clause-err : goal.value_within-returns-in_err-definition-clause-err
-value_within-returns-in_err-definition-clause-err t c =
+value_within-returns-in_err-definition-clause-err g t c =
     failed_as c.from_residual.result c.in_err-definition.field-0.0 c.from_residual.ensures.1 _
     (c.in_err-definition.ensures.unknown c.args.input.now).0
 
 pub list-returns-in_err-definition-clause-err : goal.list-returns-in_err-definition-clause-err
-list-returns-in_err-definition-clause-err t c =
-    let read = value_within (c.args.left - 1) c.args.table.now c.args.ty.now.id in
+list-returns-in_err-definition-clause-err g t c =
+    let read = value_within (c.args.left - 1) (g.T.Definitions.table c.args.table.now) c.args.ty.now.id in
     failed_as c.from_residual.result c.in_err-definition.field-0.0 c.from_residual.ensures.1 _
     (all_fail c.args.count read c.args.input.now _ (omega arith)
     (c.in_err-definition.ensures.unknown c.args.input.now).0)
 
 pub list-returns-clause-ok : goal.list-returns-clause-ok
-list-returns-clause-ok t c =
+list-returns-clause-ok g t c =
     rw (alike c.args.count c.args.input.now (λ bytes. (c.in_ok-definition.ensures.known bytes).0)) c.list_by.ensures.ok
 
 pub list-returns-clause-err : goal.list-returns-clause-err
-list-returns-clause-err t c =
+list-returns-clause-err g t c =
     rw (alike c.args.count c.args.input.now (λ bytes. (c.in_ok-definition.ensures.known bytes).0)) c.list_by.ensures.err
 
 pub list_by-returns-in-Primitive-clause-err : goal.list_by-returns-in-Primitive-clause-err
-list_by-returns-in-Primitive-clause-err t c =
-    rw (primitives_are c.args.left c.args.table.now c.args.definition.now c.in-Primitive.kind c.args.count
+list_by-returns-in-Primitive-clause-err g t c =
+    rw (primitives_are c.args.left (g.T.Definitions.table c.args.table.now) c.args.definition.now c.in-Primitive.kind c.args.count
     c.args.input.now c.in-Primitive.is)
     c.primitives.ensures.err
 
 pub items-returns-in_err-value-clause-err : goal.items-returns-in_err-value-clause-err
-items-returns-in_err-value-clause-err t c =
-    repeat_fails c.args.count (definition_within c.args.left c.args.table.now c.args.definition.now)
+items-returns-in_err-value-clause-err g t c =
+    repeat_fails c.args.count (definition_within c.args.left (g.T.Definitions.table c.args.table.now) c.args.definition.now)
     c.args.input.now c.loop.counter (map dyn_of c.loop.values) c.loop.rest.now c.from_residual.result
     c.in_err-value.field-0.0 c.from_residual.ensures.1 (omega arith) c.loop.invariant c.in_err-value.ensures.err
 
 pub items-loop-preserved : goal.items-loop-preserved
-items-loop-preserved t c =
-    let read = definition_within c.args.left c.args.table.now c.args.definition.now in
+items-loop-preserved g t c =
+    let read = definition_within c.args.left (g.T.Definitions.table c.args.table.now) c.args.definition.now in
     rw c.in_ok-push_towards.ensures.list
     (one_more_done dyn_of c.args.count read c.args.input.now c.loop.counter c.loop.values c.loop.rest.now
     c.in_ok-value.value c.in_ok-value.after.now (omega arith) c.loop.invariant c.in_ok-value.ensures.ok)
 
 pub pairs-returns-in_err-pair-clause-err : goal.pairs-returns-in_err-pair-clause-err
-pairs-returns-in_err-pair-clause-err t c =
-    repeat_fails c.args.count (pair_within c.args.left c.args.table.now c.args.key.now c.args.value.now)
+pairs-returns-in_err-pair-clause-err g t c =
+    repeat_fails c.args.count (pair_within c.args.left (g.T.Definitions.table c.args.table.now) c.args.key.now c.args.value.now)
     c.args.input.now c.loop.counter (map dyn_of c.loop.values) c.loop.rest.now c.from_residual.result
     c.in_err-pair.field-0.0 c.from_residual.ensures.1 (omega arith) c.loop.invariant c.in_err-pair.ensures.err
 
 pub pairs-loop-preserved : goal.pairs-loop-preserved
-pairs-loop-preserved t c =
-    let read = pair_within c.args.left c.args.table.now c.args.key.now c.args.value.now in
+pairs-loop-preserved g t c =
+    let read = pair_within c.args.left (g.T.Definitions.table c.args.table.now) c.args.key.now c.args.value.now in
     rw c.in_ok-push_towards.ensures.list
     (one_more_done dyn_of c.args.count read c.args.input.now c.loop.counter c.loop.values c.loop.rest.now
     c.in_ok-pair.pair c.in_ok-pair.after.now (omega arith) c.loop.invariant c.in_ok-pair.ensures.ok)
 
 pub members-loop-ty-preserved : goal.members-loop-ty-preserved
-members-loop-ty-preserved t c =
-    let part = part_within c.args.left c.args.table.now in
+members-loop-ty-preserved g t c =
+    let part = part_within c.args.left (g.T.Definitions.table c.args.table.now) in
     let readers : List Id → List (Decoder Dyn) = λ ids. map (λ p. p.value) (map part ids) in
     let whole = in_turn (readers c.args.types.now) c.args.input.now in
     rw c.in_ok-push_towards.ensures.list
@@ -83,8 +83,8 @@ members-loop-ty-preserved t c =
     c.in_ok-value.ensures.ok)
 
 pub fields-loop-field-preserved : goal.fields-loop-field-preserved
-fields-loop-field-preserved t c =
-    let part = part_within c.args.left c.args.table.now in
+fields-loop-field-preserved g t c =
+    let part = part_within c.args.left (g.T.Definitions.table c.args.table.now) in
     let reader : Field → Decoder (Option Text × Dyn) = λ f. field (map_field {G = Unit {0}} part (λ t. t) f) in
     let readers : List Field → List (Decoder (Option Text × Dyn)) =
     λ fs. map field (map (map_field {G = Unit {0}} part (λ t. t)) fs) in
@@ -96,41 +96,41 @@ fields-loop-field-preserved t c =
     (subst (λ fs. whole ≡ preceded (map field_of c.loop-field.values) (in_turn (readers fs) c.loop-field.rest.now))
     (first_of c.args.all.now c.loop-field.field-index c.field-item.result c.loop-field-test.true c.field-item.is)
     c.loop-field.invariant)
-    (named_value c.args.left c.args.table.now c.field-item.result c.loop-field.rest.now c.name_of.result
+    (named_value c.args.left (g.T.Definitions.table c.args.table.now) c.field-item.result c.loop-field.rest.now c.name_of.result
     c.in_ok-value.value c.in_ok-value.after.now c.name_of.ensures c.in_ok-value.ensures.ok))
 
 pub composite_value-returns-clause-ok : goal.composite_value-returns-clause-ok
-composite_value-returns-clause-ok t c =
-    composite_is c.args.left c.args.table.now c.args.composite.now c.as_slice.result.now c.args.input.now
+composite_value-returns-clause-ok g t c =
+    composite_is c.args.left (g.T.Definitions.table c.args.table.now) c.args.composite.now c.as_slice.result.now c.args.input.now
     c.as_slice.ensures
     ∙ ap (λ o. outcome_map dyn.Record o) c.in_ok-values.ensures.ok
     ∙ ap (λ v. decoded v c.in_ok-values.rest.now) (sym (record_copied c.in_ok-values.values))
 
 pub variant_value-returns-in-None-clause-err : goal.variant_value-returns-in-None-clause-err
-variant_value-returns-in-None-clause-err t c =
+variant_value-returns-in-None-clause-err g t c =
     let none : find (λ v. v.index == c.in_ok-index.index) c.args.choice.now.variants ≡ None = grind (arith, common_steps) in
-    variant_missing c.args.left c.args.table.now c.args.choice.now.variants c.args.input.now c.in_ok-index.rest.now
+    variant_missing c.args.left (g.T.Definitions.table c.args.table.now) c.args.choice.now.variants c.args.input.now c.in_ok-index.rest.now
     c.in_ok-index.index c.in_ok-index.ensures.ok none
 
 pub variant_value-returns-in_err-fields-in-Some-clause-err : goal.variant_value-returns-in_err-fields-in-Some-clause-err
-variant_value-returns-in_err-fields-in-Some-clause-err t c =
+variant_value-returns-in_err-fields-in-Some-clause-err g t c =
     let some : find (λ v. v.index == c.in_ok-index.index) c.args.choice.now.variants ≡ Some c.in-Some.variant.now =
     grind (arith, common_steps) in
     passed c.from_residual-in_err-fields-in-Some.result c.in_err-fields-in-Some.field-0.0
     c.from_residual-in_err-fields-in-Some.ensures.1
-    (fields_within c.args.left c.args.table.now c.as_slice-in-Some.result.now c.in_ok-index.rest.now) _
+    (fields_within c.args.left (g.T.Definitions.table c.args.table.now) c.as_slice-in-Some.result.now c.in_ok-index.rest.now) _
     (λ why e.
-    variant_found c.args.left c.args.table.now c.args.choice.now.variants c.args.input.now c.in_ok-index.rest.now
+    variant_found c.args.left (g.T.Definitions.table c.args.table.now) c.args.choice.now.variants c.args.input.now c.in_ok-index.rest.now
     c.in_ok-index.index c.in-Some.variant.now c.as_slice-in-Some.result.now c.in_ok-index.ensures.ok some c.as_slice-in-Some.ensures
     ∙ ap (λ o. outcome_map (λ values. dyn.Variant c.in-Some.variant.now.name c.in_ok-index.index values) o) e)
     c.in_err-fields-in-Some.ensures.err
 
 pub variant_value-returns-in_ok-fields-in-Some-clause-ok : goal.variant_value-returns-in_ok-fields-in-Some-clause-ok
-variant_value-returns-in_ok-fields-in-Some-clause-ok t c =
+variant_value-returns-in_ok-fields-in-Some-clause-ok g t c =
     let some : find (λ v. v.index == c.in_ok-index.index) c.args.choice.now.variants ≡ Some c.in-Some.variant.now =
     grind (arith, common_steps) in
     let fields = c.in_ok-fields-in-Some.fields in
-    variant_found c.args.left c.args.table.now c.args.choice.now.variants c.args.input.now c.in_ok-index.rest.now
+    variant_found c.args.left (g.T.Definitions.table c.args.table.now) c.args.choice.now.variants c.args.input.now c.in_ok-index.rest.now
     c.in_ok-index.index c.in-Some.variant.now c.as_slice-in-Some.result.now c.in_ok-index.ensures.ok some c.as_slice-in-Some.ensures
     ∙ ap (λ o. outcome_map (λ values. dyn.Variant c.in-Some.variant.now.name c.in_ok-index.index values) o)
     c.in_ok-fields-in-Some.ensures.ok

@@ -5,61 +5,61 @@ use Rattle.scale_info_value.proofs.InOrder.{preceded, Done}
 use Rattle.scale_info_value.proofs.decode.+value.Given as goal
 
 abbrev pub decreases-value_within : goal.decreases-value_within
-decreases-value_within l = 5 * l.left
+decreases-value_within g l = 5 * l.left
 
 abbrev pub decreases-value_by : goal.decreases-value_by
-decreases-value_by l = 5 * l.left - 1
+decreases-value_by g l = 5 * l.left - 1
 
 abbrev pub decreases-composite_value : goal.decreases-composite_value
-decreases-composite_value l = 5 * l.left - 2
+decreases-composite_value g l = 5 * l.left - 2
 
 abbrev pub decreases-sequence_value : goal.decreases-sequence_value
-decreases-sequence_value l = 5 * l.left - 2
+decreases-sequence_value g l = 5 * l.left - 2
 
 abbrev pub decreases-array_value : goal.decreases-array_value
-decreases-array_value l = 5 * l.left - 2
+decreases-array_value g l = 5 * l.left - 2
 
 abbrev pub decreases-tuple_value : goal.decreases-tuple_value
-decreases-tuple_value l = 5 * l.left - 2
+decreases-tuple_value g l = 5 * l.left - 2
 
 abbrev pub decreases-map_value : goal.decreases-map_value
-decreases-map_value l = 5 * l.left - 2
+decreases-map_value g l = 5 * l.left - 2
 
 abbrev pub decreases-variant_value : goal.decreases-variant_value
-decreases-variant_value l = 5 * l.left - 2
+decreases-variant_value g l = 5 * l.left - 2
 
 abbrev pub decreases-items : goal.decreases-items
-decreases-items l = 5 * l.left - 3
+decreases-items g l = 5 * l.left - 3
 
 abbrev pub decreases-items_by : goal.decreases-items_by
-decreases-items_by l = 5 * l.left
+decreases-items_by g l = 5 * l.left
 
 abbrev pub decreases-members : goal.decreases-members
-decreases-members l = 5 * l.left - 3
+decreases-members g l = 5 * l.left - 3
 
 abbrev pub decreases-fields : goal.decreases-fields
-decreases-fields l = 5 * l.left - 3
+decreases-fields g l = 5 * l.left - 3
 
 abbrev pub decreases-pairs : goal.decreases-pairs
-decreases-pairs l = 5 * l.left - 3
+decreases-pairs g l = 5 * l.left - 3
 
 abbrev pub decreases-pair : goal.decreases-pair
-decreases-pair l = 5 * l.left - 4
+decreases-pair g l = 5 * l.left - 4
 
 abbrev pub invariant-items_by-loop : goal.invariant-items_by-loop
-invariant-items_by-loop l =
-    Done l.count (definition_within l.left l.table l.definition) l.input l.counter l.values l.rest
+invariant-items_by-loop g l =
+    Done l.count (definition_within l.left (g.T.Definitions.table l.table) l.definition) l.input l.counter l.values l.rest
 
 abbrev pub invariant-members-loop-ty : goal.invariant-members-loop-ty
-invariant-members-loop-ty l =
-    members_within l.left l.table l.types l.input
-    ≡ preceded l.values (members_within l.left l.table (drop l.ty-index l.types) l.rest)
+invariant-members-loop-ty g l =
+    members_within l.left (g.T.Definitions.table l.table) l.types l.input
+    ≡ preceded l.values (members_within l.left (g.T.Definitions.table l.table) (drop l.ty-index l.types) l.rest)
 
 abbrev pub invariant-fields-loop-field : goal.invariant-fields-loop-field
-invariant-fields-loop-field l =
-    fields_within l.left l.table l.all l.input
-    ≡ preceded l.values (fields_within l.left l.table (drop l.field-index l.all) l.rest)
+invariant-fields-loop-field g l =
+    fields_within l.left (g.T.Definitions.table l.table) l.all l.input
+    ≡ preceded l.values (fields_within l.left (g.T.Definitions.table l.table) (drop l.field-index l.all) l.rest)
 
 abbrev pub invariant-pairs-loop : goal.invariant-pairs-loop
-invariant-pairs-loop l =
-    Done l.count (pair_within l.left l.table l.key l.value) l.input l.counter l.values l.rest
+invariant-pairs-loop g l =
+    Done l.count (pair_within l.left (g.T.Definitions.table l.table) l.key l.value) l.input l.counter l.values l.rest

@@ -2,7 +2,7 @@ use Rattle.std.proofs.Common.{rules}
 use Rattle.scale_info_value.proofs.decode.decode_value.Goals as goal
 
 pub returns-clause-err : goal.returns-clause-err
-returns-clause-err c = search rules
+returns-clause-err g c = search rules
 
 pub returns-clause-ok : goal.returns-clause-ok
-returns-clause-ok c = search rules
+returns-clause-ok g c = search rules

@@ -58,24 +58,24 @@ decreases-key_and_value g l = 7 * l.left - 5
 
 abbrev pub invariant-items-loop : goal.invariant-items-loop
 invariant-items-loop g l =
-    IsRepeating g.V.ValueVisitor.visited (items_by l.table (Some l.definition) l.count) l.count
-    (definition_within l.left l.table l.definition) l.input l.counter l.rest l.fn.visitor l.visitor
+    IsRepeating g.V.ValueVisitor.visited (items_by (g.T.Definitions.table l.table) (Some l.definition) l.count) l.count
+    (definition_within l.left (g.T.Definitions.table l.table) l.definition) l.input l.counter l.rest l.fn.visitor l.visitor
 
 abbrev pub invariant-each_member-loop-ty : goal.invariant-each_member-loop-ty
 invariant-each_member-loop-ty g l =
-    IsVisiting g.V.ValueVisitor.visited (members_by l.table l.types) l.ty-index
-    (members_within l.left l.table l.types l.input)
-    (members_within l.left l.table (drop l.ty-index l.types) l.rest)
+    IsVisiting g.V.ValueVisitor.visited (members_by (g.T.Definitions.table l.table) l.types) l.ty-index
+    (members_within l.left (g.T.Definitions.table l.table) l.types l.input)
+    (members_within l.left (g.T.Definitions.table l.table) (drop l.ty-index l.types) l.rest)
     l.fn.visitor l.visitor
 
 abbrev pub invariant-fields-loop-next : goal.invariant-fields-loop-next
 invariant-fields-loop-next g l =
-    IsVisiting g.V.ValueVisitor.visited (fields_by l.table l.named l.all) l.next-index
-    (fields_within l.left l.table l.all l.input)
-    (fields_within l.left l.table (drop l.next-index l.all) l.rest)
+    IsVisiting g.V.ValueVisitor.visited (fields_by (g.T.Definitions.table l.table) l.named l.all) l.next-index
+    (fields_within l.left (g.T.Definitions.table l.table) l.all l.input)
+    (fields_within l.left (g.T.Definitions.table l.table) (drop l.next-index l.all) l.rest)
     l.fn.visitor l.visitor
 
 abbrev pub invariant-each_pair-loop : goal.invariant-each_pair-loop
 invariant-each_pair-loop g l =
-    IsRepeating g.V.ValueVisitor.visited (items_by l.table (Some (pair_of l.key l.value)) l.count) l.count
-    (pair_within l.left l.table l.key l.value) l.input l.counter l.rest l.fn.visitor l.visitor
+    IsRepeating g.V.ValueVisitor.visited (items_by (g.T.Definitions.table l.table) (Some (pair_of l.key l.value)) l.count) l.count
+    (pair_within l.left (g.T.Definitions.table l.table) l.key l.value) l.input l.counter l.rest l.fn.visitor l.visitor
