@@ -3,3 +3,4 @@ pub mod ViewReferences
 pub mod Viewed
 pub mod EntriesFound
 pub mod ClosedEntries
+pub mod Indexed

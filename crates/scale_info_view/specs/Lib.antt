@@ -1,3 +1,4 @@
 pub mod BoundLaws
+pub mod ViewEntries
 pub mod ViewLaws
 pub mod Views

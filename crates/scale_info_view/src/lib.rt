@@ -6,6 +6,7 @@
 #![tactic(auto)]
 
 mod closed;
+pub mod entries;
 pub mod laws;
 mod numbering;
 mod offsets;

@@ -5,12 +5,14 @@ ghost use Rattle.scale_info_bytes.specs.Encodings.{HasNoPrefix, HasPrefix, IfMal
 ghost use Rattle.scale_info_references.specs.Conversions.{ids_in};
 ghost use Rattle.scale_info_segments.specs.TypePaths.{texts};
 ghost use Rattle.scale_info_tables.specs.ClosedTables.{IsClosed};
+ghost use Rattle.scale_info_tables.specs.IndexedEntries.{indexed_from};
 ghost use Rattle.scale_info_tables.specs.TableEncoding.{EncodesRegistry};
 ghost use Rattle.scale_info_view.specs.ViewLaws.{view_prop};
 ghost use Rattle.scale_info_view.specs.Views.{BeginsWithEntry, HasPathAtNone, IsFirstWithPath};
 ghost use Rattle.scale_info_view.specs.Views.{IsTableView};
 
 use crate::closed::are_closed_entries;
+use crate::entries::Entries;
 use crate::offsets::find_entries;
 use crate::path::has_path;
 use scale_info_codec::{DecodeError, Scale};
@@ -112,6 +114,28 @@ impl<'i> TableView<'i> {
             Ok((entry, _)) => Ok(Some(entry)),
             Err(DecodeError::Memory) => Err(AllocError),
             Err(DecodeError::Malformed) => unreachable!(),
+        }
+    }
+
+    /// The descriptions in order, each with its index: the number by which references and
+    /// [`resolve`](TableView::resolve) go. Each is decoded when it comes.
+    ///
+    /// An item is an `AllocError` where an allocation for its description failed.
+    ///
+    /// ```text
+    /// for entry in view.entries(alloc) {
+    ///     let (index, ty) = entry?;
+    ///     ..
+    /// }
+    /// ```
+    pub fn entries(&self, alloc: Global) -> Entries<'_, 'i>
+        ensures { result ≡ indexed_from 0 self.now.types }
+    {
+        Entries {
+            view: self,
+            alloc,
+            index: 0,
+            end: self.offsets.len(),
         }
     }
 

@@ -1,0 +1,278 @@
+-- Values are shown alike by a table and by a part of it.
+use Rattle.std.proofs.Common.{◌≡◌, ℕ, zero, suc, ◌==◌, Bool, true, false, List, [], ◌∷◌, ◌++◌, cond}
+use Rattle.std.proofs.Common.{Contains, Option, Some, None, option_map, find, length, map, replicate}
+use Rattle.std.proofs.Common.{slice_get, refl, ap, sym, subst, ◌∙◌}
+use Rattle.std.specs.List.{flat_map}
+use Rattle.std.proofs.lemmas.List.Elements.{Contains-append_left, Contains-append_right}
+use Rattle.scale_info_loaded.proofs.Parts.{definition_refers, reached_next}
+use Rattle.scale_info_loaded.specs.LoadedTables.{IsPartOf}
+use Rattle.scale_info_numberings.proofs.Places.{contains_head, contains_tail}
+use Rattle.scale_info_numberings.specs.Systems.{IsReached}
+use Rattle.scale_info_tables.specs.TableSystems.{system_of}
+use Rattle.scale_info_tables.specs.declared.portable.PortableRegistry.{PortableRegistry}
+use Rattle.scale_info_types.specs.Portable.{Field, Id, Text, TypeDef, Variant}
+use Rattle.scale_info_types.specs.References.{definition_references, field_references}
+use Rattle.scale_info_types.specs.declared.ty.PortableType.{PortableType}
+use Rattle.scale_info_types.specs.declared.ty.TypeDef.TheVariants as def
+use Rattle.scale_info_value.specs.declared.value.Dyn.{Dyn}
+use Rattle.scale_info_value.specs.declared.value.Dyn.TheFolds.{fold-roll-Dyn, ind-Dyn, map-Dyn}
+use Rattle.scale_info_value.specs.declared.value.Dyn.TheOpen as layer
+use Rattle.scale_info_value.specs.declared.value.Dyn.TheOpen.{Dyn-F}
+use Rattle.scale_info_value.specs.declared.value.Dyn.TheVariants as dyn
+use Rattle.scale_info_value.specs.declared.value.Dyn.TheVariants.{rolls-List, rolls-Record, rolls-Variant}
+use Rattle.scale_info_value.specs.declared.value.Dyn.TheViews.{roll-Dyn}
+use Rattle.scale_info_visit.proofs.Events.{list_typed, record_typed, variant_typed}
+use Rattle.scale_info_visit.specs.Events.{Event, all_named, are_bytes, begin_record, begin_variant}
+use Rattle.scale_info_visit.specs.Events.{definition_at, end_record, end_variant, events, events_by}
+use Rattle.scale_info_visit.specs.Events.{field, field_types, fields_of, in_place, is_byte, keys}
+use Rattle.scale_info_visit.specs.Events.{list_events, pair_of, part_types, shared_in, step_by}
+use Rattle.scale_info_visit.specs.Visits.{bracketed, field_by, placed, value_by}
+use Rattle.scale_info_walk.specs.TypeSystems.{entry_of}
+
+-- each id of these references is one with R
+abbrev Each : (ℕ → Type 0) → List Id → Type 0
+Each R rs = (r : Id) → Contains rs r → R r.id
+
+-- each reference of a definition, if there is one, has R
+abbrev Refers : (ℕ → Type 0) → Option TypeDef → Type 0
+Refers R None = Unit {0}
+Refers R (Some d) = Each R (definition_references d)
+
+-- so it is of each of these
+abbrev AllRefer : (ℕ → Type 0) → List (Option TypeDef) → Type 0
+AllRefer R [] = Unit {0}
+AllRefer R (t ∷ types) = Refers R t × AllRefer R types
+
+-- parts that are shown alike at definitions whose references have R
+in_place_alike :
+    {K P A : Type 0} (R : ℕ → Type 0) (f g : P → Option TypeDef → A) (part : K → P)
+    → ((k : K) (t : Option TypeDef) → Refers R t → f (part k) t ≡ g (part k) t)
+    → (ks : List K) (types : List (Option TypeDef)) → AllRefer R types
+    → in_place f (map part ks) types ≡ in_place g (map part ks) types
+in_place_alike R f g part law [] types all = refl
+in_place_alike R f g part law (k ∷ ks) [] all =
+    let first = law k None tt in
+    let rest = in_place_alike R f g part law ks [] tt in
+    λ i. first i ∷ rest i
+in_place_alike R f g part law (k ∷ ks) (t ∷ types) all =
+    let first = law k t all.0 in
+    let rest = in_place_alike R f g part law ks types all.1 in
+    λ i. first i ∷ rest i
+
+-- the fields of the first variant with an index are among those of all variants
+found_fields :
+    (index : ℕ) (vs : List Variant) (r : Id)
+    → Contains (field_references (fields_of (find (λ v. v.index == index) vs))) r
+    → Contains (flat_map (λ (v : Variant). field_references v.fields) vs) r
+found_fields index [] r c = c
+found_fields index (v ∷ vs) r c = by (v.index == index) c
+  where
+    by :
+        (b : Bool)
+        → Contains (field_references (fields_of (cond b (Some v) (find (λ w. w.index == index) vs)))) r
+        → Contains (field_references v.fields ++ flat_map (λ (w : Variant). field_references w.fields) vs) r
+    by true c =
+        Contains-append_left (field_references v.fields) (flat_map (λ (w : Variant). field_references w.fields) vs) r c
+    by false c =
+        Contains-append_right (field_references v.fields) (flat_map (λ (w : Variant). field_references w.fields) vs) r
+        (found_fields index vs r c)
+
+module _ (table part : PortableRegistry) (ids : List ℕ) (is : IsPartOf table ids part) where
+  -- an id is reached
+  abbrev Reached : ℕ → Type 0
+  Reached id = IsReached (system_of table) ids id
+
+  -- the definition of a type that is reached is in the part
+  known : (id : ℕ) → Reached id → definition_at table id ≡ definition_at part id
+  known id reached =
+      ap (λ o. option_map (λ d. d.type_def) (option_map (λ (e : PortableType). e.ty) o)) (sym (is.loaded id reached))
+
+  -- what it refers to is reached
+  refers : (id : ℕ) → Reached id → Refers Reached (definition_at table id)
+  refers id reached = by (slice_get table.types id) refl
+    where
+      by :
+          (o : Option PortableType) → slice_get table.types id ≡ o
+          → Refers Reached (option_map (λ d. d.type_def) (option_map (λ (e : PortableType). e.ty) o))
+      by None there = tt
+      by (Some entry) there = λ r c.
+          reached_next (system_of table) ids id r.id (entry_of entry) reached
+          (ap (option_map entry_of) there) (definition_refers entry.ty r c)
+
+  -- so many of one definition
+  many : (n : ℕ) (t : Option TypeDef) → Refers Reached t → AllRefer Reached (replicate n t)
+  many zero t h = tt
+  many (suc n) t h = (h, many n t h)
+
+  -- the definitions of fields that are reached
+  fields_known : (fs : List Field) → Each Reached (field_references fs) → field_types table fs ≡ field_types part fs
+  fields_known [] h = refl
+  fields_known (f ∷ fs) h =
+      let first = known f.ty.id (h f.ty (contains_head f.ty (field_references fs))) in
+      let rest = fields_known fs (λ r c. h r (contains_tail f.ty (field_references fs) r c)) in
+      λ i. first i ∷ rest i
+
+  fields_refer : (fs : List Field) → Each Reached (field_references fs) → AllRefer Reached (field_types table fs)
+  fields_refer [] h = tt
+  fields_refer (f ∷ fs) h = (
+    refers f.ty.id (h f.ty (contains_head f.ty (field_references fs))),
+    fields_refer fs (λ r c. h r (contains_tail f.ty (field_references fs) r c)),
+  )
+
+  -- those of members
+  members_known :
+      (rs : List Id) → Each Reached rs
+      → map (λ (t : Id). definition_at table t.id) rs ≡ map (λ (t : Id). definition_at part t.id) rs
+  members_known [] h = refl
+  members_known (r ∷ rs) h =
+      let first = known r.id (h r (contains_head r rs)) in
+      let rest = members_known rs (λ s c. h s (contains_tail r rs s c)) in
+      λ i. first i ∷ rest i
+
+  members_refer :
+      (rs : List Id) → Each Reached rs → AllRefer Reached (map (λ (t : Id). definition_at table t.id) rs)
+  members_refer [] h = tt
+  members_refer (r ∷ rs) h = (
+    refers r.id (h r (contains_head r rs)),
+    members_refer rs (λ s c. h s (contains_tail r rs s c)),
+  )
+
+  -- the definitions of the parts of a value are those of the table
+  parts_known :
+      (type : Option TypeDef) (index count : ℕ) → Refers Reached type
+      → part_types table type index count ≡ part_types part type index count
+  parts_known None index count h = refl
+  parts_known (Some (def.Composite d)) index count h = fields_known d.fields h
+  parts_known (Some (def.Variant d)) index count h =
+      fields_known (fields_of (find (λ v. v.index == index) d.variants))
+      (λ r c. h r (found_fields index d.variants r c))
+  parts_known (Some (def.Sequence d)) index count h =
+      ap (replicate count) (known d.type_param.id (h d.type_param (contains_head d.type_param [])))
+  parts_known (Some (def.Array d)) index count h =
+      ap (replicate count) (known d.type_param.id (h d.type_param (contains_head d.type_param [])))
+  parts_known (Some (def.Tuple d)) index count h = members_known d.fields h
+  parts_known (Some (def.Primitive p)) index count h = refl
+  parts_known (Some (def.Compact d)) index count h = refl
+  parts_known (Some (def.BitSequence d)) index count h = refl
+  parts_known (Some (def.Map d)) index count h = refl
+
+  -- and what they refer to is reached
+  parts_refer :
+      (type : Option TypeDef) (index count : ℕ) → Refers Reached type
+      → AllRefer Reached (part_types table type index count)
+  parts_refer None index count h = tt
+  parts_refer (Some (def.Composite d)) index count h = fields_refer d.fields h
+  parts_refer (Some (def.Variant d)) index count h =
+      fields_refer (fields_of (find (λ v. v.index == index) d.variants))
+      (λ r c. h r (found_fields index d.variants r c))
+  parts_refer (Some (def.Sequence d)) index count h =
+      many count (definition_at table d.type_param.id)
+      (refers d.type_param.id (h d.type_param (contains_head d.type_param [])))
+  parts_refer (Some (def.Array d)) index count h =
+      many count (definition_at table d.type_param.id)
+      (refers d.type_param.id (h d.type_param (contains_head d.type_param [])))
+  parts_refer (Some (def.Tuple d)) index count h = members_refer d.fields h
+  parts_refer (Some (def.Primitive p)) index count h = tt
+  parts_refer (Some (def.Compact d)) index count h = tt
+  parts_refer (Some (def.BitSequence d)) index count h = tt
+  parts_refer (Some (def.Map d)) index count h = many count (Some (pair_of d.key d.value)) h
+
+  -- which lists are bytes
+  bytes_known : (type : Option TypeDef) → Refers Reached type → are_bytes table type ≡ are_bytes part type
+  bytes_known None h = refl
+  bytes_known (Some (def.Composite d)) h = refl
+  bytes_known (Some (def.Variant d)) h = refl
+  bytes_known (Some (def.Sequence d)) h =
+      ap is_byte (known d.type_param.id (h d.type_param (contains_head d.type_param [])))
+  bytes_known (Some (def.Array d)) h =
+      ap is_byte (known d.type_param.id (h d.type_param (contains_head d.type_param [])))
+  bytes_known (Some (def.Tuple d)) h = refl
+  bytes_known (Some (def.Primitive p)) h = refl
+  bytes_known (Some (def.Compact d)) h = refl
+  bytes_known (Some (def.BitSequence d)) h = refl
+  bytes_known (Some (def.Map d)) h = refl
+
+  -- a value is shown alike by each definition whose references are reached
+  abbrev Alike : Dyn → Type 0
+  Alike d = (type : Option TypeDef) → Refers Reached type → events_by table type d ≡ events_by part type d
+
+  -- a value of which that is known
+  abbrev Known : Type 0
+  Known = (d : Dyn) × Alike d
+
+  -- a layer of such values
+  abbrev lower : Dyn-F Known → Dyn-F Dyn
+  lower y = map-Dyn Known Dyn (λ e. e.0) y
+
+  -- a layer with no parts
+  by_layer :
+      (x : Dyn-F Dyn) (type : Option TypeDef)
+      → step_by table (map-Dyn Dyn (Option TypeDef → List Event) (value_by table) x) type
+      ≡ step_by part (map-Dyn Dyn (Option TypeDef → List Event) (value_by part) x) type
+      → events_by table type (roll-Dyn x) ≡ events_by part type (roll-Dyn x)
+  by_layer x type e =
+      ap (λ h. h type) (fold-roll-Dyn (Option TypeDef → List Event) (step_by table) x)
+      ∙ e ∙ sym (ap (λ h. h type) (fold-roll-Dyn (Option TypeDef → List Event) (step_by part) x))
+
+  -- a list
+  lists_alike : (ks : List Known) → Alike (dyn.List (map (λ k. k.0) ks))
+  lists_alike ks type h =
+      let vs : List Dyn = map (λ k. k.0) ks in
+      let types = part_types table type 0 (length vs) in
+      list_typed table type vs
+      ∙ ap (λ b. list_events b (in_place (value_by table) vs types)) (bytes_known type h)
+      ∙ ap (list_events (are_bytes part type))
+      (in_place_alike Reached (value_by table) (value_by part) (λ (k : Known). k.0) (λ k t r. k.1 t r) ks types
+      (parts_refer type 0 (length vs) h))
+      ∙ ap (λ ts. list_events (are_bytes part type) (in_place (value_by part) vs ts)) (parts_known type 0 (length vs) h)
+      ∙ sym (list_typed part type vs)
+
+  -- fields between two events
+  fields_alike :
+      (first last : Event) (named : Bool) (ks : List (Option Text × Known)) (type : Option TypeDef) (index count : ℕ)
+      → Refers Reached type
+      → bracketed first (placed (field_by table named) (part_types table type index count)) last
+      (map (λ k. (k.0, k.1.0)) ks)
+      ≡ bracketed first (placed (field_by part named) (part_types part type index count)) last
+      (map (λ k. (k.0, k.1.0)) ks)
+  fields_alike first last named ks type index count h =
+      let fs : List (Option Text × Dyn) = map (λ k. (k.0, k.1.0)) ks in
+      let types = part_types table type index count in
+      ap (λ es. first ∷ flat_map (λ e. e) es ++ last ∷ [])
+      (in_place_alike Reached (field_by table named) (field_by part named)
+      (λ (k : Option Text × Known). (k.0, k.1.0)) (λ k t r. ap (λ es. field k.0 named ∷ es) (k.1.1 t r)) ks types
+      (parts_refer type index count h))
+      ∙ ap (λ ts. bracketed first (placed (field_by part named) ts) last fs) (parts_known type index count h)
+
+  -- each layer of values that are shown alike
+  layers_alike : (y : Dyn-F Known) → Alike (roll-Dyn (lower y))
+  layers_alike (layer.Bool b) type h = by_layer (layer.Bool b) type refl
+  layers_alike (layer.Unsigned n) type h = by_layer (layer.Unsigned n) type refl
+  layers_alike (layer.Signed n) type h = by_layer (layer.Signed n) type refl
+  layers_alike (layer.Text t) type h = by_layer (layer.Text t) type refl
+  layers_alike (layer.List ks) type h =
+      subst (λ d. events_by table type d ≡ events_by part type d) (sym (rolls-List (map (λ k. k.0) ks)))
+      (lists_alike ks type h)
+  layers_alike (layer.Record ks) type h =
+      let fs : List (Option Text × Dyn) = map (λ k. (k.0, k.1.0)) ks in
+      subst (λ d. events_by table type d ≡ events_by part type d) (sym (rolls-Record fs))
+      (record_typed table type fs
+      ∙ fields_alike (begin_record (keys fs)) (end_record (keys fs)) (all_named (keys fs)) ks type 0 (length fs) h
+      ∙ sym (record_typed part type fs))
+  layers_alike (layer.Variant name index ks) type h =
+      let fs : List (Option Text × Dyn) = map (λ k. (k.0, k.1.0)) ks in
+      subst (λ d. events_by table type d ≡ events_by part type d) (sym (rolls-Variant name index fs))
+      (variant_typed table type name index fs
+      ∙ fields_alike (begin_variant name index (keys fs) (shared_in type name))
+      (end_variant name index (keys fs) (shared_in type name)) (all_named (keys fs)) ks type index (length fs) h
+      ∙ sym (variant_typed part type name index fs))
+
+  -- each value is shown alike
+  all_alike : (d : Dyn) → Alike d
+  all_alike = ind-Dyn Alike (λ x y joined. subst (λ z. Alike (roll-Dyn z)) joined (layers_alike y))
+
+  -- by each type that is reached
+  pub shows_alike : (id : ℕ) → Reached id → (value : Dyn) → events part id value ≡ events table id value
+  shows_alike id reached value =
+      sym (all_alike value (definition_at table id) (refers id reached)
+      ∙ ap (λ t. events_by part t value) (known id reached))
