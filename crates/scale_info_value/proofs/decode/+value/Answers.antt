@@ -37,6 +37,12 @@ items_by-returns-in_err-value-clause-err g t c =
     c.args.input.now c.loop.counter c.loop.values c.loop.rest.now c.from_residual.result
     c.in_err-value.field-0.0 c.from_residual.ensures.1 (omega arith) c.loop.invariant c.in_err-value.ensures.err
 
+pub items_by-returns-in-Primitive-clause-ok : goal.items_by-returns-in-Primitive-clause-ok
+items_by-returns-in-Primitive-clause-ok g t c =
+    rw (primitives_are c.args.left (g.T.Definitions.table c.args.table.now) c.args.definition.now c.in-Primitive.kind
+    c.args.count c.args.input.now c.in-Primitive.is)
+    c.primitives.ensures.ok
+
 pub items_by-returns-in-Primitive-clause-err : goal.items_by-returns-in-Primitive-clause-err
 items_by-returns-in-Primitive-clause-err g t c =
     rw (primitives_are c.args.left (g.T.Definitions.table c.args.table.now) c.args.definition.now c.in-Primitive.kind c.args.count

@@ -1,4 +1,5 @@
-use Rattle.std.proofs.Common.{◌≡◌, None, Some, option_map, sym, arith}
+use Rattle.std.proofs.Common.{◌≡◌, None, Some, ap, option_map, sym, ◌∙◌, arith}
+use Rattle.std.specs.Option.{option_copied}
 use Rattle.scale_info_value.specs.Readings.{type_at}
 use Rattle.scale_info_value.proofs.Steps.{nothing_left, no_type, type_known}
 use Rattle.scale_info_value.proofs.definition.definition_of.Goals as goal
@@ -9,12 +10,14 @@ returns-then-left-eq0-clause-unknown g c =
 
 pub returns-in-None-clause-unknown : goal.returns-in-None-clause-unknown
 returns-in-None-clause-unknown g c =
-    let none : option_map (λ d. d.type_def) (type_at (g.T.Definitions.table c.args.table.now) c.args.id) ≡ None = cc in
+    let none : option_map (λ d. d.type_def) (type_at (g.T.Definitions.table c.args.table.now) c.args.id) ≡ None =
+    sym c.definition.ensures ∙ ap option_copied c.in-None.is in
     λ input. no_type c.args.left (g.T.Definitions.table c.args.table.now) c.args.id input (omega arith) none
 
 pub returns-in-Some-clause-known : goal.returns-in-Some-clause-known
 returns-in-Some-clause-known g c =
     let some : option_map (λ d. d.type_def) (type_at (g.T.Definitions.table c.args.table.now) c.args.id)
-    ≡ Some c.in-Some.definition.now = cc in
+    ≡ Some c.in-Some.definition.now =
+    sym c.definition.ensures ∙ ap option_copied c.in-Some.is in
     λ input. type_known c.args.left (g.T.Definitions.table c.args.table.now) c.args.id input c.in-Some.definition.now
     (omega arith) some
