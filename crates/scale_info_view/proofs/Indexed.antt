@@ -1,9 +1,12 @@
 -- The entries from an index on.
 use Rattle.std.proofs.Common.{◌≡◌, ℕ, zero, suc, ◌+◌, ◌<◌, ◌≤◌, List, [], ◌∷◌, length, drop, Some, slice_get}
-use Rattle.std.proofs.Common.{refl, ap, sym, subst, ◌∙◌, arith}
+use Rattle.std.proofs.Common.{Option, None, refl, ap, ◌∙◌, arith}
 use Rattle.std.proofs.lemmas.Option.{same_Some}
+use Rattle.std.specs.Iterator.{MakesProgress, item_count}
+use Rattle.std.specs.Prelude.{Result, Ok, Err}
 use Rattle.scale_info_tables.specs.IndexedEntries.{indexed_from}
 use Rattle.scale_info_types.specs.declared.ty.PortableType.{PortableType}
+use Rattle.scale_info_view.specs.ViewEntries.{YieldsFirstOrFails}
 
 -- an entry that is found comes first from its index on
 entry_first :
@@ -25,10 +28,19 @@ indexed_first types index next entry there after =
     ∙ ap (λ n. (index, entry.ty) ∷ indexed_from n (drop (suc index) types)) more
     ∙ ap (λ n. (index, entry.ty) ∷ indexed_from next (drop n types)) suc_next
 
--- past the last entry nothing is left
-pub indexed_past :
-    (types : List PortableType) (index first : ℕ) → length types ≤ index → indexed_from first (drop index types) ≡ []
-indexed_past [] zero first past = refl
-indexed_past [] (suc index) first past = refl
-indexed_past (e ∷ types) zero first past = absurd (omega arith)
-indexed_past (e ∷ types) (suc index) first past = indexed_past types index first (omega arith)
+-- with the first of what was left gone, less is left
+pub goes_on :
+    {A E : Type 0} (can : List A → Type 0) (before after : List A) (r : Option (Result A E))
+    → ((rest : List A) → can rest) → YieldsFirstOrFails before r after
+    → MakesProgress can (item_count (λ rest. rest)) before r after
+goes_on can before after None all h = record { on = λ _. tt; keeps = tt; rests = λ _. tt }
+goes_on can before after (Some (Ok item)) all h = record {
+  on = λ _. (all after, tt, omega (arith, ap length h));
+  keeps = all after;
+  rests = λ _. tt;
+}
+goes_on can before after (Some (Err e)) all h = record {
+  on = λ _. (all after, tt, omega (arith, ap length h.1));
+  keeps = all after;
+  rests = λ _. tt;
+}

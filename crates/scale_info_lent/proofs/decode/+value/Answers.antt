@@ -36,6 +36,12 @@ pub list-returns-clause-err : goal.list-returns-clause-err
 list-returns-clause-err g t c =
     rw (alike c.args.count c.args.input.now (λ bytes. (c.in_ok-definition.ensures.known bytes).0)) c.list_by.ensures.err
 
+pub list_by-returns-in-Primitive-clause-ok : goal.list_by-returns-in-Primitive-clause-ok
+list_by-returns-in-Primitive-clause-ok g t c =
+    rw (primitives_are c.args.left (g.T.Definitions.table c.args.table.now) c.args.definition.now c.in-Primitive.kind
+    c.args.count c.args.input.now c.in-Primitive.is)
+    c.primitives.ensures.ok
+
 pub list_by-returns-in-Primitive-clause-err : goal.list_by-returns-in-Primitive-clause-err
 list_by-returns-in-Primitive-clause-err g t c =
     rw (primitives_are c.args.left (g.T.Definitions.table c.args.table.now) c.args.definition.now c.in-Primitive.kind c.args.count

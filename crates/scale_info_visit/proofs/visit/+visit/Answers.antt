@@ -15,7 +15,7 @@ use Rattle.scale_info_value.proofs.Steps.{variant_missing, primitives_are}
 use Rattle.scale_info_visit.specs.Events.{begin_list, end_list, begin_record, end_record, names, begin_of, end_of}
 use Rattle.scale_info_visit.specs.Events.{definition_at, field_types, pair_of, is_byte, events_by}
 use Rattle.scale_info_visit.specs.Visits.{field_within, value_by, field_by, fields_by, members_by, list_by}
-use Rattle.scale_info_visit.proofs.Visiting.{IsVisiting, begins, goes_on, ends, next_part, repeats, next_repeated, adds_placed, part_returned, part_passed, part_fails, by_answer}
+use Rattle.scale_info_visit.proofs.Visiting.{IsVisiting, begins, starts, goes_on, ends, next_part, repeats, next_repeated, adds_placed, part_returned, part_passed, part_fails, by_answer}
 use Rattle.scale_info_visit.proofs.Visiting.{refusal_passed, refusal, passed_on, fails_first, failure_passed, between, at_first, in_parts, at_last}
 use Rattle.scale_info_visit.proofs.Visiting.{made_of, parts_next, shown_as, next_as, shown_whole, whole_next}
 use Rattle.scale_info_visit.proofs.Events.{unsigned_by}
@@ -400,6 +400,11 @@ pair-returns-in_err-shown-2-clause-err g t c =
     (by_answer _ c.in_ok-shown.ensures.ok c.begin_list.ensures.ok) c.in_ok-rest.ensures.ok)
     c.in_err-shown-2.ensures.err c.end_list.ensures.err
 
+pub items-loop-init : goal.items-loop-init
+items-loop-init g t c =
+    starts c.args.count (definition_within c.args.left (g.T.Definitions.table c.args.table.now) c.args.definition.now)
+    c.args.input.now refl (g.met.V.ValueVisitor.visited_none c.args.visitor.now)
+
 pub items-loop-preserved : goal.items-loop-preserved
 items-loop-preserved g t c =
     repeats c.args.count (definition_within c.args.left (g.T.Definitions.table c.args.table.now) c.args.definition.now) c.args.input.now
@@ -416,6 +421,12 @@ items-returns-in_err-rest-clause-err g t c =
     (adds_items (g.T.Definitions.table c.args.table.now) (Some c.args.definition.now) c.args.count c.loop.counter c.loop-test.true)
     c.loop-test.true c.loop.invariant)
     c.in_err-rest.ensures.err
+
+pub each_pair-loop-init : goal.each_pair-loop-init
+each_pair-loop-init g t c =
+    starts c.args.count
+    (pair_within c.args.left (g.T.Definitions.table c.args.table.now) c.args.key.now c.args.value.now)
+    c.args.input.now refl (g.met.V.ValueVisitor.visited_none c.args.visitor.now)
 
 pub each_pair-loop-preserved : goal.each_pair-loop-preserved
 each_pair-loop-preserved g t c =
