@@ -1,3 +1,3 @@
 pub mod Parts
-pub mod Loaded
+pub mod WalkedPart
 pub mod Shown

@@ -65,17 +65,19 @@ found_fields :
     → Contains (field_references (fields_of (find (λ v. v.index == index) vs))) r
     → Contains (flat_map (λ (v : Variant). field_references v.fields) vs) r
 found_fields index [] r c = c
-found_fields index (v ∷ vs) r c = by (v.index == index) c
+found_fields index (v ∷ vs) r c = by (v.index == index) (λ h. found_fields index vs r h) c
   where
     by :
         (b : Bool)
+        → (Contains (field_references (fields_of (find (λ w. w.index == index) vs))) r
+        → Contains (flat_map (λ (w : Variant). field_references w.fields) vs) r)
         → Contains (field_references (fields_of (cond b (Some v) (find (λ w. w.index == index) vs)))) r
         → Contains (field_references v.fields ++ flat_map (λ (w : Variant). field_references w.fields) vs) r
-    by true c =
+    by true more c =
         Contains-append_left (field_references v.fields) (flat_map (λ (w : Variant). field_references w.fields) vs) r c
-    by false c =
+    by false more c =
         Contains-append_right (field_references v.fields) (flat_map (λ (w : Variant). field_references w.fields) vs) r
-        (found_fields index vs r c)
+        (more c)
 
 module _ (table part : PortableRegistry) (ids : List ℕ) (is : IsPartOf table ids part) where
   -- an id is reached

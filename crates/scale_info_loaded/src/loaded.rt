@@ -48,7 +48,7 @@ impl Model for LoadedTypes {
     ghost Value = { tables.PortableRegistry };
 
     ghost view = { λ loaded. record {
-        types = map (entry_numbered loaded.entries.items) loaded.numbers.items;
+      types = map (entry_numbered loaded.entries.items) loaded.numbers.items;
     } };
 
     ghost invariant = { λ loaded. loaded.not_loaded ≡ not_decoded };
