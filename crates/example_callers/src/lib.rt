@@ -14,4 +14,5 @@ pub mod pruning;
 pub mod register;
 pub mod temperature;
 pub mod transfers;
+pub mod viewed;
 pub mod written;

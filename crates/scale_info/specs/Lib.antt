@@ -60,6 +60,7 @@ pub use Rattle.scale_info_tables.specs.ClosedTables
 pub use Rattle.scale_info_tables.specs.BuiltTables
 pub use Rattle.scale_info_tables.specs.Pruned
 pub use Rattle.scale_info_tables.specs.IndexedEntries
+pub use Rattle.scale_info_view.specs.ViewEntries
 pub use Rattle.scale_info_view.specs.Views
 pub use Rattle.scale_info_tables.specs.TableExamples
 pub use Rattle.scale_info_export.specs.Exports
@@ -89,6 +90,8 @@ pub use Rattle.scale_info_visit.specs.EachEvent
 pub use Rattle.scale_info_visit.specs.Events
 pub use Rattle.scale_info_visit.specs.Sizes
 pub use Rattle.scale_info_visit.specs.Visits
+pub use Rattle.scale_info_loaded.specs.LoadedLaws
+pub use Rattle.scale_info_loaded.specs.LoadedTables
 pub use Rattle.scale_info_lent.specs.IntegerLists
 pub use Rattle.scale_info_lent.specs.LentValues
 pub use Rattle.scale_info_lent.specs.ValueParts

@@ -23,6 +23,7 @@ pub use scale_info_interner::interner;
 pub use scale_info_json::{JsonError, append_json, from_json, to_json};
 pub use scale_info_json_text::{JsonTextError, from_json_text};
 pub use scale_info_lent::lent;
+pub use scale_info_loaded::loaded;
 pub use scale_info_prune::prune::{PruneError, append_pruned, prune};
 pub use scale_info_registry::registry;
 pub use scale_info_registry::registry::{IntoPortable, Registry};

@@ -30,11 +30,11 @@ use std::alloc::Global;
 /// Decodes one value of the type with this id from the start of the input, and returns it with the
 /// rest: a value that borrows names from the table, and texts and lists of integers from the input.
 ///
-/// It decodes what `decode_value` decodes, in the same order, at most 128 values deep, and has the
-/// same errors; [`Lent::to_dyn`] makes the same value of it. Allocates for the items of lists that
-/// are no integers, for fields, members and pairs, as they are decoded, never for an announced
-/// count. As there, nothing else bounds the work: values of some types take no bytes, so bound the
-/// lengths of arrays in tables from outside first.
+/// It decodes what `decode_value` decodes, by the same tables, in the same order, at most 128
+/// values deep, and has the same errors; [`Lent::to_dyn`] makes the same value of it. Allocates for
+/// the items of lists that are no integers, for fields, members and pairs, as they are decoded,
+/// never for an announced count. As there, nothing else bounds the work: values of some types take
+/// no bytes, so bound the lengths of arrays in tables from outside first.
 ///
 /// Errors: `TooDeep`, where a value is more than 128 deep; `NoSuchType`, where an id is no index of
 /// the table; `Unsupported`, where values of a type are not decoded; `Malformed`, where no prefix

@@ -1,11 +1,11 @@
 -- A part of a table unfolds as the table does, and so is read as it is.
 use Rattle.std.proofs.Common.{◌≡◌, ℕ, zero, suc, ◌-◌, List, [], ◌∷◌, Option, Some, None, option_map}
-use Rattle.std.proofs.Common.{Contains, slice_get, map, refl, ap, sym, ◌∙◌}
+use Rattle.std.proofs.Common.{Contains, map, refl, ap, sym, ◌∙◌}
 use Rattle.std.proofs.lemmas.List.Elements.{Contains-append_right}
 use Rattle.std.proofs.lemmas.Option.{none-some, slice_get-map}
 use Rattle.scale_info_loaded.specs.LoadedTables.{IsPartOf}
 use Rattle.scale_info_numberings.proofs.Places.{contains_at, contains_head, contains_tail, place_of}
-use Rattle.scale_info_numberings.specs.Systems.{Entry, System, IsReached, IsReachedPast, next}
+use Rattle.scale_info_numberings.specs.Systems.{Entry, System, IsReached, next}
 use Rattle.scale_info_numberings.specs.Unfoldings.{node, tree, trees, Tree, tree_of, unfold_to}
 use Rattle.scale_info_references.specs.Conversions.{ids_in}
 use Rattle.scale_info_tables.specs.TableSystems.{system_of}
@@ -13,7 +13,6 @@ use Rattle.scale_info_tables.specs.declared.portable.PortableRegistry.{PortableR
 use Rattle.scale_info_types.specs.Portable.{Description, Id}
 use Rattle.scale_info_types.specs.References.{definition_references, parameter_references}
 use Rattle.scale_info_types.specs.References.{references}
-use Rattle.scale_info_types.specs.Shapes.{Shape}
 use Rattle.scale_info_value.proofs.Unfolded.{unfolding_decides}
 use Rattle.scale_info_value.specs.Readings.{reading}
 use Rattle.scale_info_walk.specs.TypeSystems.{entry_of}

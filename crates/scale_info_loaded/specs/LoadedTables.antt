@@ -1,5 +1,5 @@
 -- What is loaded of a table.
-use Rattle.std.specs.Prelude.{◌≡◌, ℕ, ◌<◌, List, [], Some, length, slice_get, slice_index_or}
+use Rattle.std.specs.Prelude.{◌≡◌, ℕ, ◌<◌, List, Some, length, slice_get, slice_index_or}
 use Rattle.scale_info_numberings.specs.Systems.{IsReached}
 use Rattle.scale_info_primitives.specs.declared.primitive.TypeDefPrimitive.TheVariants as kind
 use Rattle.scale_info_tables.specs.TableSystems.{system_of}
@@ -26,7 +26,8 @@ entry_numbered entries number = slice_index_or entries number not_loaded
 
 -- the part of a table that is reached from these ids: as long as the table, with its entry at each
 -- index that is reached, and at no other one
-pub record IsPartOf (table : PortableRegistry) (ids : List ℕ) (part : PortableRegistry) : Type 0 where
+pub record IsPartOf (table : PortableRegistry) (ids : List ℕ)
+    (part : PortableRegistry) : Type 0 where
   pub long : length part.types ≡ length table.types
   pub loaded :
       (id : ℕ) → IsReached (system_of table) ids id
@@ -37,5 +38,7 @@ pub record IsPartOf (table : PortableRegistry) (ids : List ℕ) (part : Portable
 
 -- values of the type with this id are read by both tables alike, at each depth, and shown alike
 pub record IsAlikeAt (table part : PortableRegistry) (id : ℕ) : Type 0 where
-  pub reads : (depth : ℕ) (input : List ℕ) → reading part id depth input ≡ reading table id depth input
+  pub reads :
+      (depth : ℕ) (input : List ℕ)
+      → reading part id depth input ≡ reading table id depth input
   pub shows : (value : Dyn) → events part id value ≡ events table id value

@@ -30,9 +30,11 @@ use std::alloc::Global;
 /// Decodes one value of the type with this id from the start of the input, and returns it with the
 /// rest.
 ///
-/// An id is an index of the table, as for `PortableRegistry::resolve`. The parts of a value are
-/// decoded in order, and the first error is returned. Allocates for parts already decoded, and for
-/// the integers of a list once all their bytes are there, never for an announced count.
+/// `table` is a `PortableRegistry`, or what is loaded of one: see
+/// [`Definitions`](crate::definition::Definitions). An id is an index of the table, as for
+/// `PortableRegistry::resolve`. The parts of a value are decoded in order, and the first error is
+/// returned. Allocates for parts already decoded, and for the integers of a list once all their
+/// bytes are there, never for an announced count.
 ///
 /// A value has depth 1, and each part of a value is one deeper than the value; at most 128 is
 /// decoded. Nothing else bounds the work: values of some types take no bytes, so an array of

@@ -44,6 +44,8 @@ fn value_error(error: VisitError<AllocError>) -> ValueError
 /// The text goes by the type (`docs/FORMATS.md` has it byte by byte): integers up to 2^53 - 1 are
 /// numbers and others strings of their digits, bytes are a string of `0x` and hexadecimal digits.
 ///
+/// `table` is what it is to `decode_value`: a `PortableRegistry`, or what is loaded of one.
+///
 /// Errors: those of `decode_value`. The output is then as it was.
 ///
 /// With a table that has `Vec<u32>` at index 0:

@@ -90,7 +90,8 @@ impl ValueVisitor for Skipping {
 /// The rest of the input after one value of the type with this id, which is at its start. It does
 /// not allocate, and makes no value.
 ///
-/// It goes over what `decode_value` decodes, and has the same errors but `Memory`.
+/// It goes over what `decode_value` decodes, by the same tables, and has the same errors but
+/// `Memory`.
 ///
 /// With a table that has `Vec<u32>` at index 0:
 ///

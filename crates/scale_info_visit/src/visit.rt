@@ -29,7 +29,8 @@ use scale_info_value::variants::variant_with_index;
 /// Shows the visitor one value of the type with this id, at the start of the input, and returns the
 /// rest. It does not allocate.
 ///
-/// It decodes what `decode_value` decodes, in the same order, and has the same errors.
+/// It decodes what `decode_value` decodes, by the same tables, in the same order, and has the same
+/// errors.
 pub fn visit_value<'i, T: Definitions, V: ValueVisitor>(
     table: &T,
     id: u32,

@@ -1,4 +1,4 @@
-use Rattle.std.proofs.Common.{◌≡◌, Some, ap, map, slice_get, ◌∙◌}
+use Rattle.std.proofs.Common.{ap, map, slice_get, ◌∙◌}
 use Rattle.scale_info_loaded.proofs.WalkedPart.{is_alike, is_part, reached_within}
 use Rattle.scale_info_loaded.proofs.loaded.LoadedTypes.load.Goals as goal
 

@@ -1,0 +1,8 @@
+use Rattle.std.proofs.Common.{sym, ◌∙◌}
+use Rattle.scale_info.specs.LoadedLaws.{alone_reached}
+use Rattle.example_callers.proofs.viewed.decode_by_view.Goals as goal
+
+pub returns : goal.returns
+returns c =
+    let alike = c.in_ok-types.ensures.alike c.args.id (alone_reached c.args.view.now c.args.id) in
+    sym (alike.reads 1 c.args.input.now) ∙ c.in_ok-found.ensures.ok
