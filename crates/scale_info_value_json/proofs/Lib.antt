@@ -1,0 +1,16 @@
+pub mod Numbers
+pub mod Trees
+pub mod SoFar
+pub mod Steps
+pub mod OneLevel
+pub mod Shown
+pub mod ShownSingle
+pub mod Leaves
+pub mod OwnNames
+pub mod ShownParts
+pub mod ShownFields
+pub mod ShownLists
+pub mod ShownVariants
+pub mod ShownChoices
+pub mod ShownDefinitions
+pub mod ShownLevels

@@ -1,0 +1,47 @@
+//! Laws of the values that are taken from trees. A law does nothing when it runs: its contract is
+//! the law.
+ghost use Rattle.std.specs.Prelude.{◌≡◌, ◌↔◌, IsTrue, List, ℕ, true};
+ghost use Rattle.std.specs.List.{AllByRecursion};
+ghost use Rattle.scale_info_bytes.specs.Encodings.{IsByte};
+ghost use Rattle.scale_info_tables.specs.declared.portable.PortableRegistry.{PortableRegistry};
+ghost use Rattle.scale_info_value.specs.declared.value.Dyn.{Dyn};
+ghost use Rattle.scale_info_value.specs.Outcomes.{decoded};
+ghost use Rattle.scale_info_value.specs.Readings.{reading};
+ghost use Rattle.scale_info_encode.specs.Writers.{written};
+ghost use Rattle.scale_info_encode.specs.Writings.{writing};
+ghost use Rattle.scale_info_value_json.specs.declared.error.ValueJsonError as errors;
+ghost use Rattle.scale_info_value_json.specs.declared.error.Refusal as refusals;
+ghost use Rattle.scale_info_value_json.specs.TreesOfTexts.{IsTakenFrom, has_own_names};
+
+use crate::error::{Refusal, ValueJsonError};
+
+/// The tree of the text of a value that was decoded is taken as that value, where each name comes
+/// once among the fields of each record and of each variant in it.
+///
+/// `08 01 00 00 00 02 00 00 00` is decoded by `Vec<u32>` as the list of 1 and 2, its text is
+/// `[1,2]`, and from the tree of that text the list of 1 and 2 is taken.
+pub fn text_taken_back()
+    ensures { (table : PortableRegistry) (id depth : ℕ) (input : List ℕ) (value : Dyn)
+        (rest : List ℕ) → AllByRecursion IsByte input
+        → reading table id depth input ≡ decoded value rest → has_own_names value ≡ true
+        → IsTakenFrom table id depth value }
+{}
+
+/// So is the tree of the text of a value that is encoded, which need not have been decoded.
+pub fn encoded_text_taken_back()
+    ensures { (table : PortableRegistry) (id depth : ℕ) (value : Dyn) (bytes : List ℕ)
+        → writing table id depth value ≡ written bytes → AllByRecursion IsByte bytes
+        → has_own_names value ≡ true → IsTakenFrom table id depth value }
+{}
+
+/// Errors of taking values are equal exactly where they are one value.
+pub fn equal_value_json_errors()
+    ensures { (a b : errors.ValueJsonError)
+        → IsTrue (⟦<ValueJsonError as PartialEq>⟧.eq a b) ↔ (a ≡ b) }
+{}
+
+/// Refusals of trees are equal exactly where they are one value.
+pub fn equal_refusals()
+    ensures { (a b : refusals.Refusal)
+        → IsTrue (⟦<Refusal as PartialEq>⟧.eq a b) ↔ (a ≡ b) }
+{}
