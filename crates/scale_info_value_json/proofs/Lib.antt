@@ -14,3 +14,4 @@ pub mod ShownVariants
 pub mod ShownChoices
 pub mod ShownDefinitions
 pub mod ShownLevels
+pub mod OneTree

@@ -36,6 +36,10 @@ use Rattle.scale_info_value_json.specs.Takers.{Taker, taken, too_deep, if_found}
 use Rattle.scale_info_value_json.specs.DefinitionTakers as takers
 use Rattle.scale_info_value_json.specs.DefinitionTakers.{Takers}
 use Rattle.scale_info_value_json.specs.Takings as taken_values
+use Rattle.serde_json.specs.Read.{read}
+use Rattle.scale_info_value_text.specs.ValueTexts.{value_text}
+use Rattle.scale_info_value_json.proofs.OneTree.{read_as}
+use Rattle.scale_info_value_json.specs.Takings.{taking}
 use Rattle.scale_info_value_json.specs.TreesOfTexts.{has_own_names, IsTakenFrom}
 use Rattle.scale_info_value_json.proofs.Shown.{IsShown}
 use Rattle.scale_info_value_json.proofs.ShownDefinitions.{values_back, compacts_back}
@@ -201,3 +205,16 @@ read_taken_back table id depth input value rest all e own =
     let p = written_as_read table id depth input value rest all e in
     let bytes = first_bytes p.encoding rest (subst (AllByRecursion IsByte) p.parts all) in
     written_taken_back table id depth value p.encoding p.encodes bytes own
+
+-- what is read of the text of a value that was read is taken as that value, which has the bytes that were read
+pub json_and_bytes :
+    (table : PortableRegistry) (id depth : ℕ) (input : List ℕ) (value : Dyn) (rest : List ℕ) (tree : Data)
+    → AllByRecursion IsByte input → reading table id depth input ≡ decoded value rest → has_own_names value ≡ true
+    → read (value_text table id value) ≡ Some tree
+    → (taking table id depth tree ≡ taken value)
+    × HasPrefix (λ bytes. written_values.writing table id depth value ≡ written bytes) input rest
+json_and_bytes table id depth input value rest tree all e own r =
+    let t = read_taken_back table id depth input value rest all e own in (
+      ap (taking table id depth) (read_as (value_text table id value) t.tree tree t.of_text r) ∙ t.is,
+      written_as_read table id depth input value rest all e,
+    )

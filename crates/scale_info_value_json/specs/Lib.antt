@@ -3,3 +3,4 @@ pub mod TreeParts
 pub mod DefinitionTakers
 pub mod Takings
 pub mod TreesOfTexts
+pub mod TreeExamples
