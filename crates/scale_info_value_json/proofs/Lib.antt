@@ -15,3 +15,4 @@ pub mod ShownChoices
 pub mod ShownDefinitions
 pub mod ShownLevels
 pub mod OneTree
+pub mod Encoded

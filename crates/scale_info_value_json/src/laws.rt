@@ -1,6 +1,6 @@
 //! Laws of the values that are taken from trees. A law does nothing when it runs: its contract is
 //! the law.
-ghost use Rattle.std.specs.Prelude.{◌≡◌, ◌↔◌, ◌≤◌, IsTrue, List, ℕ, Some, true};
+ghost use Rattle.std.specs.Prelude.{◌≡◌, ◌↔◌, ◌≤◌, ◌++◌, IsTrue, List, ℕ, Some, true};
 ghost use Rattle.std.specs.List.{AllByRecursion};
 ghost use Rattle.json.specs.Tree.{depth};
 ghost use Rattle.serde_json.specs.Data.{Data};
@@ -64,6 +64,15 @@ pub fn json_and_bytes()
         → read (value_text table id value) ≡ Some tree
         → (taking table id depth tree ≡ taken value)
         × HasPrefix (λ bytes. writing table id depth value ≡ written bytes) input rest }
+{}
+
+/// From JSON to bytes and back. A value that is taken from a tree has an encoding, which is decoded
+/// as that value, whatever follows it.
+pub fn taken_is_encoded()
+    ensures { (table : PortableRegistry) (id depth : ℕ) (tree : Data) (value : Dyn)
+        → taking table id depth tree ≡ taken value
+        → (bytes : List ℕ) × (writing table id depth value ≡ written bytes)
+        × ((rest : List ℕ) → reading table id depth (bytes ++ rest) ≡ decoded value rest) }
 {}
 
 /// Errors of taking values are equal exactly where they are one value.
