@@ -218,8 +218,8 @@ one_written :
 one_written first write more writes one others [] values e = cc
 one_written first write more writes one others (tree ∷ trees) values e =
     let p = both_parts (first tree) (in_turn more trees) values e in
-    let h = follow (write p.0) (writing.in_turn writes p.1) (one tree p.0 p.2) (others trees p.1 p.3) in
-    record { bytes = h.bytes; is = ap (writing.in_turn (write ∷ writes)) (sym p.4) ∙ h.is }
+    subst (λ vs. HasBytes (writing.in_turn (write ∷ writes) vs)) p.4
+    (follow (write p.0) (writing.in_turn writes p.1) (one tree p.0 p.2) (others trees p.1 p.3))
 
 -- nothing in turn
 no_more_written : {A : Type 0} (trees : List Data) → IsWrittenAs {A = List A} (writing.in_turn []) (in_turn [] trees)
@@ -309,10 +309,9 @@ module _ (takers_of : Id → Takers) (writers_of : Id → Writers) (part : (r : 
   members_written (f ∷ all) tree values e =
       let p = both_parts (named_field tree (taken_field f)) (all_taken (map (named_field tree) (map taken_field all))) values e in
       let q = found_parts (member_in (option_map (λ t. t) f.name) tree) (takers.field (taken_field f)) p.0 p.2 in
-      let h =
-      follow (writers.field (written_field f) p.0) (writers.fields (map written_field all) p.1) (field_written f q.0 p.0 q.2)
-      (members_written all tree p.1 p.3) in
-      record { bytes = h.bytes; is = ap (writers.fields (map written_field (f ∷ all))) (sym p.4) ∙ h.is }
+      subst (λ vs. HasBytes (writers.fields (map written_field (f ∷ all)) vs)) p.4
+      (follow (writers.field (written_field f) p.0) (writers.fields (map written_field all) p.1) (field_written f q.0 p.0 q.2)
+      (members_written all tree p.1 p.3))
 
   -- fields are written
   fields_written :

@@ -4,8 +4,8 @@ use Rattle.std.proofs.Common.{Result, Ok, Err}
 use Rattle.std.proofs.lemmas.List.{append-nil}
 use Rattle.std.specs.Prelude.{IfErr}
 use Rattle.std.specs.Result.{IsErrAnd}
-use Rattle.scale_info_value_json.specs.declared.error.Refusal.{Refusal}
-use Rattle.scale_info_value_json.specs.declared.error.Refusal.TheVariants as refusal
+use Rattle.scale_info_value_json.specs.declared.error.TreeRefusal.{TreeRefusal}
+use Rattle.scale_info_value_json.specs.declared.error.TreeRefusal.TheVariants as refusal
 use Rattle.scale_info_value_json.specs.declared.error.ValueJsonError.{ValueJsonError}
 use Rattle.scale_info_value_json.specs.declared.error.ValueJsonError.TheVariants as error
 use Rattle.scale_info_value_json.specs.Takers.{Taken, taken, refused, taken_map, and_then, IsErrorOf, error_of}
@@ -52,13 +52,13 @@ pub ends : {A : Type 0} (whole left : Taken (List A)) (done : List A) → SoFar 
 ends whole left done s e = s.is ∙ ap (preceded done) e ∙ ap taken (append-nil done)
 
 -- a refusal of what is left is one of the whole
-pub stops : {A : Type 0} (whole left : Taken (List A)) (done : List A) (why : Refusal) → SoFar whole left done → left ≡ refused why → whole ≡ refused why
+pub stops : {A : Type 0} (whole left : Taken (List A)) (done : List A) (why : TreeRefusal) → SoFar whole left done → left ≡ refused why → whole ≡ refused why
 stops whole left done why s e = s.is ∙ ap (preceded done) e
 
 -- an error of a part is one of the whole, where its refusal is
 pub passes :
     {A B : Type 0} (part : Taken A) (whole : Taken B) (e : ValueJsonError)
-    → ((why : Refusal) → part ≡ refused why → whole ≡ refused why) → IsErrorOf part e → IsErrorOf whole e
+    → ((why : TreeRefusal) → part ≡ refused why → whole ≡ refused why) → IsErrorOf part e → IsErrorOf whole e
 passes part whole error.NoSuchType f h = f _ h
 passes part whole error.Unsupported f h = f _ h
 passes part whole error.TooDeep f h = f _ h
@@ -73,7 +73,7 @@ fails whole left more first done e s is h =
     passes first whole e (λ why r. stops whole left done why s (is ∙ ap (λ o. then_more o more) r)) h
 
 -- a refusal is the error that it becomes
-refused_as : {A : Type 0} (whole : Taken A) (why : Refusal) → whole ≡ refused why → IsErrorOf whole (error_of why)
+refused_as : {A : Type 0} (whole : Taken A) (why : TreeRefusal) → whole ≡ refused why → IsErrorOf whole (error_of why)
 refused_as whole refusal.NoSuchType e = e
 refused_as whole refusal.Unsupported e = e
 refused_as whole refusal.TooDeep e = e
@@ -88,6 +88,6 @@ passed (Err d) e whole h p = subst (IsErrorOf whole) (sym h) p
 
 -- a refusal that is passed on as an error
 pub passed_as :
-    {A X : Type 0} (r : Result X ValueJsonError) (why : Refusal) (whole : Taken A)
+    {A X : Type 0} (r : Result X ValueJsonError) (why : TreeRefusal) (whole : Taken A)
     → IsErrAnd r (λ d. d ≡ error_of why) → whole ≡ refused why → IfErr r (IsErrorOf whole)
 passed_as r why whole h e = passed r (error_of why) whole h (refused_as whole why e)

@@ -6,7 +6,7 @@ ghost use Rattle.scale_info_value_json.specs.Takers.{refused};
 ghost use Rattle.scale_info_value_json.specs.Takings.{value_within, compact_within};
 ghost use Rattle.scale_info_value_json.specs.Takings.{definition_within, compact_definition_within};
 
-use crate::error::Refusal;
+use crate::error::TreeRefusal;
 use scale_info_tables::portable::PortableRegistry;
 use scale_info_types::form::PortableForm;
 use scale_info_types::ty::{TypeDef, TypeDefPrimitive};
@@ -19,7 +19,7 @@ pub fn definition_of(
     table: &PortableRegistry,
     id: u32,
     left: u8,
-) -> Result<&TypeDef<PortableForm>, Refusal>
+) -> Result<&TypeDef<PortableForm>, TreeRefusal>
     ensures level { IfOk result (λ _. 1 ≤ left) }
     ensures known { IfOk result (λ found. (tree : Data)
         → (value_within left table.now id tree
@@ -31,10 +31,10 @@ pub fn definition_of(
         × (compact_within left table.now id tree ≡ refused why)) }
 {
     if left == 0 {
-        return Err(Refusal::TooDeep);
+        return Err(TreeRefusal::TooDeep);
     }
     match table.resolve(id) {
-        None => Err(Refusal::NoSuchType),
+        None => Err(TreeRefusal::NoSuchType),
         Some(ty) => Ok(&ty.type_def),
     }
 }

@@ -8,7 +8,7 @@ use thiserror::Error;
 
 /// Why a tree is no value of a type.
 #[derive(Clone, Copy, Debug, PartialEq, Eq, Error)]
-pub enum Refusal {
+pub enum TreeRefusal {
     /// An id is no index of the table.
     #[error("NoSuchType")]
     NoSuchType,
@@ -45,15 +45,15 @@ pub enum ValueJsonError {
     Memory,
 }
 
-impl From<Refusal> for ValueJsonError {
+impl From<TreeRefusal> for ValueJsonError {
     ghost from_gives = { λ why e. e ≡ error_of why };
 
-    fn from(why: Refusal) -> ValueJsonError {
+    fn from(why: TreeRefusal) -> ValueJsonError {
         match why {
-            Refusal::NoSuchType => ValueJsonError::NoSuchType,
-            Refusal::Unsupported => ValueJsonError::Unsupported,
-            Refusal::TooDeep => ValueJsonError::TooDeep,
-            Refusal::Mismatch => ValueJsonError::Mismatch,
+            TreeRefusal::NoSuchType => ValueJsonError::NoSuchType,
+            TreeRefusal::Unsupported => ValueJsonError::Unsupported,
+            TreeRefusal::TooDeep => ValueJsonError::TooDeep,
+            TreeRefusal::Mismatch => ValueJsonError::Mismatch,
         }
     }
 }

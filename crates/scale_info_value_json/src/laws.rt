@@ -13,7 +13,7 @@ ghost use Rattle.scale_info_value.specs.Readings.{reading};
 ghost use Rattle.scale_info_encode.specs.Writers.{written};
 ghost use Rattle.scale_info_encode.specs.Writings.{writing};
 ghost use Rattle.scale_info_value_json.specs.declared.error.ValueJsonError as errors;
-ghost use Rattle.scale_info_value_json.specs.declared.error.Refusal as refusals;
+ghost use Rattle.scale_info_value_json.specs.declared.error.TreeRefusal as refusals;
 ghost use Rattle.scale_info_value_json.specs.Takers.{taken};
 ghost use Rattle.scale_info_value_json.specs.Takings.{taking};
 ghost use Rattle.scale_info_value_json.specs.TreesOfTexts.{IsTakenFrom, has_own_names};
@@ -22,7 +22,7 @@ ghost use Rattle.scale_info_value_text.specs.ValueTexts.{value_text};
 
 pub mod examples;
 
-use crate::error::{Refusal, ValueJsonError};
+use crate::error::{TreeRefusal, ValueJsonError};
 
 /// The tree of the text of a value that was decoded is taken as that value, where each name comes
 /// once among the fields of each record and of each variant in it.
@@ -82,7 +82,7 @@ pub fn equal_value_json_errors()
 {}
 
 /// Refusals of trees are equal exactly where they are one value.
-pub fn equal_refusals()
-    ensures { (a b : refusals.Refusal)
-        → IsTrue (⟦<Refusal as PartialEq>⟧.eq a b) ↔ (a ≡ b) }
+pub fn equal_tree_refusals()
+    ensures { (a b : refusals.TreeRefusal)
+        → IsTrue (⟦<TreeRefusal as PartialEq>⟧.eq a b) ↔ (a ≡ b) }
 {}

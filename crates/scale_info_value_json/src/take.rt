@@ -38,8 +38,8 @@ use std::alloc::Global;
 /// Takes a value of the type with this id from a JSON tree.
 ///
 /// An id is an index of the table, as for [`PortableRegistry::resolve`]. From the tree of the text
-/// of a value, as `append_value_json` writes it, that value is taken; and what people write by hand
-/// is taken too:
+/// of a value, as `append_value_json` writes it, that value is taken, unless a name comes twice
+/// among the fields of a record or a variant. What people write by hand is taken too:
 ///
 /// - an integer as a number, or as a string of its decimal digits after a minus sign if any;
 /// - a list of bytes as a string of two hexadecimal digits for each, in either case, with `0x`
