@@ -1,5 +1,5 @@
 -- What is taken from trees has an encoding.
-use Rattle.std.proofs.Common.{◌≡◌, ℕ, zero, suc, ◌+◌, ◌*◌, ◌-◌, ◌<◌, ◌≤◌, ◌^◌, ◌==◌, ◌&&◌, Bool, true, false, List, [], ◌∷◌, ◌++◌, map, length, replicate, find}
+use Rattle.std.proofs.Common.{◌≡◌, ℕ, zero, suc, ◌*◌, ◌-◌, ◌<◌, ◌≤◌, ◌^◌, ◌==◌, ◌&&◌, Bool, true, false, List, [], ◌∷◌, ◌++◌, map, length, replicate, find}
 use Rattle.std.proofs.Common.{Option, Some, None, option_map, refl, ap, sym, ◌∙◌, subst, arith}
 use Rattle.std.proofs.lemmas.Bool.{and_parts, lt-ltb, ltb-true, eqb-true}
 use Rattle.std.proofs.lemmas.Slice.Eq.{bytes_eq-Decides}
@@ -11,13 +11,12 @@ use Rattle.serde_json.specs.Data.{Data}
 use Rattle.serde_json.specs.Find.{as_bool}
 use Rattle.scale_info_types.specs.Portable.{Id, Text, Field, Variant, TypeDef, Description}
 use Rattle.scale_info_types.specs.declared.ty.fields.Field.{Field as AnyField}
-use Rattle.scale_info_types.specs.declared.ty.variant.Variant.{Variant as AnyVariant}
 use Rattle.scale_info_types.specs.declared.ty.TypeDef.TheVariants as def
 use Rattle.scale_info_types.specs.Shapes.{map_definition, map_field, map_variant}
 use Rattle.scale_info_primitives.specs.declared.primitive.TypeDefPrimitive.{TypeDefPrimitive}
 use Rattle.scale_info_primitives.specs.declared.primitive.TypeDefPrimitive.TheVariants as kind
 use Rattle.scale_info_tables.specs.declared.portable.PortableRegistry.{PortableRegistry}
-use Rattle.scale_info_value.specs.declared.value.Dyn.{Dyn, out-Dyn}
+use Rattle.scale_info_value.specs.declared.value.Dyn.{Dyn}
 use Rattle.scale_info_value.specs.declared.value.Dyn.TheOpen.{Dyn-F}
 use Rattle.scale_info_value.specs.declared.value.Dyn.TheVariants as dyn
 use Rattle.scale_info_value.specs.Outcomes.{decoded}
@@ -31,14 +30,14 @@ use Rattle.scale_info_encode.specs.Writings as written_values
 use Rattle.scale_info_encode.proofs.Levels.{read_back}
 use Rattle.scale_info_encode.proofs.ValueKinds.{IsKind, lists, records, truths, texts, unsigned_integers, signed_integers, variants, chosen as made_variant}
 use Rattle.scale_info_visit.specs.Events.{definition_at, is_byte}
-use Rattle.scale_info_value_json.specs.Takers.{Taken, Taker, taken, refused as not_taken, mismatch, taken_map, and_then, if_found, all_taken, in_turn, too_deep}
+use Rattle.scale_info_value_json.specs.Takers.{Taken, Taker, taken, refused as not_taken, mismatch, taken_map, if_found, all_taken, in_turn, too_deep}
 use Rattle.scale_info_value_json.specs.DefinitionTakers as takers
 use Rattle.scale_info_value_json.specs.DefinitionTakers.{Takers, each, counted, has_count, named_field, object_fields, variant_of, variant_fields}
 use Rattle.scale_info_value_json.specs.TreeParts.{natural_in, integer_in, below, within, is_within, items_in, list_in, has_members, member_in, is_object_of, text_in as text_of_tree, variant_in, is_nothing}
 use Rattle.scale_info_value_json.specs.Takings as taken_values
 use Rattle.scale_info_value_json.specs.Takings.{taking}
 use Rattle.scale_info_value_json.proofs.SoFar.{then_more}
-use Rattle.scale_info_value_json.proofs.ShownVariants.{first_with_index, found_passes}
+use Rattle.scale_info_value_json.proofs.ShownVariants.{first_with_index}
 
 -- the value has some bytes
 pub record HasBytes (outcome : Written) : Type 0 where

@@ -1,13 +1,13 @@
 -- Tokens of integers, texts and bytes.
-use Rattle.std.proofs.Common.{◌≡◌, ℕ, suc, ◌^◌, ◌<◌, ◌≤◌, ◌==◌, Bool, true, false, List, [], ◌∷◌, ◌++◌, length, get_or, drop, Option, Some, option_map, Ok}
-use Rattle.std.proofs.Common.{refl, ap, sym, ◌∙◌, arith, decimal}
-use Rattle.std.proofs.lemmas.Bool.{ltb-true, ltb-false, ne_eqb}
+use Rattle.std.proofs.Common.{◌≡◌, ℕ, suc, ◌^◌, ◌<◌, Bool, true, false, List, [], ◌∷◌, ◌++◌, get_or, drop, Some, option_map}
+use Rattle.std.proofs.Common.{refl, ap, ◌∙◌, arith, decimal}
+use Rattle.std.proofs.lemmas.Bool.{ltb-true, ne_eqb}
 use Rattle.std.proofs.lemmas.Fmt.{decimal_is_IsNumeral_wide}
 use Rattle.std.specs.Prelude.{ℤ, pos, negsuc, neg_ℤ, nat_lt, codes, unsigned_abs, if◌then◌else◌}
 use Rattle.std.specs.Char.{digit_value}
 use Rattle.std.specs.Fmt.{signed_decimal}
 use Rattle.std.specs.Result.{result_ok}
-use Rattle.std.specs.Str.Parse.{AllDigits, IsNumeral}
+use Rattle.std.specs.Str.Parse.{IsNumeral}
 use Rattle.hex.specs.Hex.{encode_lower, IsBytes}
 use Rattle.hex.proofs.HexLemmas.{decode_of-encode_lower}
 use Rattle.json.specs.Token as token

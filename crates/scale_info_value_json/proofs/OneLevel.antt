@@ -1,9 +1,9 @@
 -- Lists of bytes and fields, one level.
-use Rattle.std.proofs.Common.{◌≡◌, ℕ, zero, suc, ◌+◌, ◌-◌, ◌<◌, ◌≤◌, ◌^◌, ◌==◌, Bool, true, false, List, [], ◌∷◌, map, length}
-use Rattle.std.proofs.Common.{Option, Some, None, option_map, refl, ap, sym, ◌∙◌, subst, arith}
+use Rattle.std.proofs.Common.{◌≡◌, ℕ, suc, ◌-◌, ◌<◌, ◌≤◌, ◌^◌, Bool, true, false, List, [], ◌∷◌, map, length}
+use Rattle.std.proofs.Common.{Option, Some, None, option_map, refl, ap, sym, ◌∙◌, arith}
 use Rattle.std.proofs.lemmas.Bool.{lt-ltb}
 use Rattle.std.proofs.lemmas.List.{length-map}
-use Rattle.std.specs.Prelude.{if◌then◌else◌, nat_lt}
+use Rattle.std.specs.Prelude.{if◌then◌else◌}
 use Rattle.hex.specs.Hex.{IsBytes, decode_of}
 use Rattle.hex.specs.declared.error.FromHexError.{FromHexError}
 use Rattle.std.proofs.Common.{Result, Ok, Err}
@@ -13,16 +13,15 @@ use Rattle.serde_json.specs.Data.{Data, number, unsigned, string}
 use Rattle.scale_info_types.specs.Portable.{Id, Text, Field, TypeDef, Description}
 use Rattle.scale_info_types.specs.declared.ty.TypeDef.TheVariants as def
 use Rattle.scale_info_types.specs.Shapes.{map_definition, map_field}
-use Rattle.scale_info_primitives.specs.declared.primitive.TypeDefPrimitive.{TypeDefPrimitive}
 use Rattle.scale_info_primitives.specs.declared.primitive.TypeDefPrimitive.TheVariants as kind
 use Rattle.scale_info_tables.specs.declared.portable.PortableRegistry.{PortableRegistry}
 use Rattle.scale_info_value.specs.declared.value.Dyn.{Dyn}
 use Rattle.scale_info_value.specs.declared.value.Dyn.TheVariants as dyn
 use Rattle.scale_info_value.specs.Readings.{type_at}
 use Rattle.scale_info_visit.specs.Events.{definition_at, is_byte, names}
-use Rattle.scale_info_value_json.specs.Takers.{Taken, Taker, taken, refused, mismatch, too_deep, taken_map, if_found, in_turn}
+use Rattle.scale_info_value_json.specs.Takers.{taken, refused, mismatch, too_deep, taken_map, if_found, in_turn}
 use Rattle.scale_info_value_json.specs.TreeParts.{bytes_in, list_in, items_in, is_object_of, without_prefix}
-use Rattle.scale_info_value_json.specs.DefinitionTakers.{Takers, value_by, each, counted, items, object_fields, field}
+use Rattle.scale_info_value_json.specs.DefinitionTakers.{Takers, value_by, each, counted, object_fields, field}
 use Rattle.scale_info_value_json.specs.Takings.{value_within, part_within, items_within, is_count_of}
 use Rattle.scale_info_value_json.specs.Takings.{fields_within, object_fields_within, array_fields_within}
 use Rattle.scale_info_value_json.proofs.SoFar.{then_more}

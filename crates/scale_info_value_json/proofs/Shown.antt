@@ -1,10 +1,9 @@
 -- Tokens of JSON that reads as trees from which values are taken.
 use Rattle.std.proofs.Common.{◌≡◌, ℕ, suc, ◌+◌, Bool, true, false, ◌||◌, List, [], ◌∷◌, ◌++◌, length, map, Option, Some, None, option_map}
-use Rattle.std.proofs.Common.{Ordering, Less, Equal, Greater, refl, ap, sym, subst, ◌∙◌, append_assoc, arith}
+use Rattle.std.proofs.Common.{Ordering, Less, Equal, Greater, refl, ap, sym, ◌∙◌, append_assoc, arith}
 use Rattle.std.proofs.lemmas.Slice.Eq.{bytes_eq-Decides}
 use Rattle.std.specs.Ordering.{nat_cmp, match_ordering}
 use Rattle.std.specs.Cmp.Lexicographic.{slice_cmp}
-use Rattle.std.specs.Option.{option_eq}
 use Rattle.std.specs.Prelude.{option_and_then}
 use Rattle.std.specs.Str.{bytes_eq}
 use Rattle.json.specs.Token.{Token, begin_array, end_array, begin_object, end_object, key}
@@ -16,7 +15,7 @@ use Rattle.serde_json.specs.Events.{members_len}
 use Rattle.serde_json.specs.Find.{get_member}
 use Rattle.serde_json.specs.Read.{of_json, of_items, of_members}
 use Rattle.serde_json.proofs.Views.{get_member-put, get_member-put_other}
-use Rattle.scale_info_value_json.specs.Takers.{Taken, Taker, taken, taken_map, if_found, all_taken, in_turn}
+use Rattle.scale_info_value_json.specs.Takers.{Taken, Taker, taken, taken_map, if_found, all_taken}
 use Rattle.scale_info_value_json.specs.TreeParts.{listed, has_name, member_in}
 use Rattle.scale_info_value_json.proofs.SoFar.{then_more}
 

@@ -1,8 +1,8 @@
 -- Values of enums that are taken back from the text.
-use Rattle.std.proofs.Common.{◌≡◌, ℕ, ◌<◌, ◌^◌, ◌==◌, Bool, true, false, ◌&&◌, List, [], ◌∷◌, ◌++◌, map, length, find, cond}
+use Rattle.std.proofs.Common.{◌≡◌, ℕ, ◌<◌, ◌^◌, ◌==◌, Bool, true, false, ◌&&◌, List, [], ◌∷◌, ◌++◌, map, find}
 use Rattle.std.proofs.Common.{Option, Some, None, option_map, refl, ap, sym, ◌∙◌, subst, arith, decimal, append_assoc}
 use Rattle.std.proofs.lemmas.Bool.{lt-ltb, eqb-true}
-use Rattle.std.proofs.lemmas.Grind.{common_steps, flat_map-append}
+use Rattle.std.proofs.lemmas.Grind.{flat_map-append}
 use Rattle.std.proofs.lemmas.Slice.Eq.{bytes_eq-Decides}
 use Rattle.std.specs.List.{flat_map, AllByRecursion}
 use Rattle.std.specs.Prelude.{if◌then◌else◌, nat_lt, option_and_then}
@@ -29,14 +29,13 @@ use Rattle.scale_info_visit.specs.Events as event
 use Rattle.scale_info_visit.specs.Visits.{placed, field_by, bracketed}
 use Rattle.scale_info_visit.proofs.Events.{variant_typed}
 use Rattle.scale_info_value_text.specs.ValueTexts.{event_tokens, opening, closing, variant_opening, variant_closing}
-use Rattle.scale_info_value_json.specs.Takers.{Taken, Taker, taken, refused, mismatch, taken_map, if_found}
-use Rattle.scale_info_value_json.specs.DefinitionTakers as takers
+use Rattle.scale_info_value_json.specs.Takers.{taken, refused, mismatch, taken_map, if_found}
 use Rattle.scale_info_value_json.specs.DefinitionTakers.{Takers, variant_fields, is_shared, chosen, variant_of, variant}
-use Rattle.scale_info_value_json.specs.TreeParts.{is_nothing, index_and_fields, natural_in, below}
+use Rattle.scale_info_value_json.specs.TreeParts.{index_and_fields}
 use Rattle.scale_info_value_json.specs.TreesOfTexts.{own_names, has_own_names}
 use Rattle.scale_info_value_json.proofs.OwnNames.{fields_own, variant_own}
 use Rattle.scale_info_value_json.proofs.Shown.{IsShown}
-use Rattle.scale_info_value_json.proofs.ShownFields.{written_field, taken_field, fields_back}
+use Rattle.scale_info_value_json.proofs.ShownFields.{fields_back}
 use Rattle.scale_info_value_json.proofs.ShownParts.{tokens_by, AreTakenBack, PartIsTakenBack, held_parts, passed_test, parted_bytes}
 use Rattle.scale_info_value_json.proofs.ShownSingle.{ReadsAs, reads_as, shown_as, string_reads, number_reads, single_reads, one_reads, two_read}
 use Rattle.scale_info_value_json.proofs.ShownVariants.{first_with_index, first_with_name, shared_alike, found_by_name, found_passes}

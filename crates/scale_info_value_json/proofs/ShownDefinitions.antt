@@ -1,15 +1,15 @@
 -- Values of each kind of definition are taken back from the text.
-use Rattle.std.proofs.Common.{◌≡◌, ℕ, zero, suc, ◌+◌, ◌*◌, ◌<◌, ◌≤◌, ◌^◌, ◌==◌, Bool, true, false, ◌&&◌, List, [], ◌∷◌, ◌++◌, map, length, replicate}
-use Rattle.std.proofs.Common.{Option, Some, None, option_map, refl, ap, sym, ◌∙◌, subst, arith}
+use Rattle.std.proofs.Common.{◌≡◌, ℕ, ◌*◌, ◌<◌, ◌≤◌, ◌^◌, ◌==◌, Bool, true, false, ◌&&◌, List, [], ◌∷◌, ◌++◌, map, length, replicate}
+use Rattle.std.proofs.Common.{Option, Some, None, refl, ap, sym, ◌∙◌, subst, arith}
 use Rattle.std.proofs.lemmas.Bool.{and_parts, lt-ltb, ltb-true, eq-eqb}
 use Rattle.std.proofs.lemmas.Grind.{flat_map-append}
 use Rattle.std.specs.Int.{Width, w8, w16, w32, w64, w128, byte_len, to_le_bytes, cast_unsigned}
 use Rattle.std.specs.List.{flat_map, AllByRecursion}
 use Rattle.std.specs.Prelude.{ℤ, pos, negsuc, if◌then◌else◌, nat_lt}
 use Rattle.std.specs.Str.{is_utf8}
-use Rattle.serde_json.specs.Data.{Data, array, boolean, string, number, unsigned, Items}
+use Rattle.serde_json.specs.Data.{Data}
 use Rattle.scale_info_bytes.specs.Encodings.{IsByte}
-use Rattle.scale_info_types.specs.Portable.{Id, Text, Field, Variant, TypeDef}
+use Rattle.scale_info_types.specs.Portable.{Id, Field, TypeDef}
 use Rattle.scale_info_types.specs.declared.ty.TypeDef.TheVariants as def
 use Rattle.scale_info_types.specs.Shapes.{map_definition, map_field}
 use Rattle.scale_info_primitives.specs.declared.primitive.TypeDefPrimitive.{TypeDefPrimitive}
@@ -33,10 +33,10 @@ use Rattle.scale_info_value_text.specs.ValueTexts.{event_tokens, unsigned_token,
 use Rattle.scale_info_value_json.specs.Takers.{Taken, Taker, taken, refused as not_taken, mismatch, taken_map, if_found, in_turn}
 use Rattle.scale_info_value_json.specs.DefinitionTakers as takers
 use Rattle.scale_info_value_json.specs.DefinitionTakers.{Takers, each, counted, items, members, has_count}
-use Rattle.scale_info_value_json.specs.TreeParts.{natural_in, integer_in, below, within, is_within, listed, items_in}
-use Rattle.scale_info_value_json.specs.TreesOfTexts.{own_names, has_own_names}
+use Rattle.scale_info_value_json.specs.TreeParts.{below, within, is_within, listed, items_in}
+use Rattle.scale_info_value_json.specs.TreesOfTexts.{has_own_names}
 use Rattle.scale_info_value_json.proofs.Leaves.{natural_shown, integer_shown, string_shown, truth_shown}
-use Rattle.scale_info_value_json.proofs.OwnNames.{all_own, fields_own, list_own, record_own}
+use Rattle.scale_info_value_json.proofs.OwnNames.{all_own, list_own, record_own}
 use Rattle.scale_info_value_json.proofs.Shown.{IsShown, AreShown, none_shown}
 use Rattle.scale_info_value_json.proofs.ShownChoices.{variant_back}
 use Rattle.scale_info_value_json.proofs.ShownFields.{fields_back}

@@ -1,6 +1,6 @@
 -- Fields that are taken back from the text.
-use Rattle.std.proofs.Common.{◌≡◌, ℕ, ◌==◌, Bool, true, false, ◌&&◌, ◌||◌, List, [], ◌∷◌, ◌++◌, map, length, Option, Some, None, option_map}
-use Rattle.std.proofs.Common.{refl, ap, sym, ◌∙◌, subst, append_assoc}
+use Rattle.std.proofs.Common.{◌≡◌, ℕ, Bool, true, false, ◌&&◌, ◌||◌, List, [], ◌∷◌, ◌++◌, map, Option, Some, None, option_map}
+use Rattle.std.proofs.Common.{refl, ap, sym, ◌∙◌, subst}
 use Rattle.std.proofs.lemmas.Bool.{and_parts, eq-eqb}
 use Rattle.std.proofs.lemmas.Grind.{flat_map-append}
 use Rattle.std.proofs.lemmas.List.{length-map}
@@ -11,24 +11,24 @@ use Rattle.std.specs.Prelude.{if◌then◌else◌, not}
 use Rattle.std.specs.Str.{bytes_eq}
 use Rattle.json.specs.Token as token
 use Rattle.json.specs.Token.{Token}
-use Rattle.serde_json.specs.Data.{Data, array, object, Items, Members, no_members, put}
+use Rattle.serde_json.specs.Data.{Data, array, object, Members, no_members, put}
 use Rattle.scale_info_types.specs.Portable.{Id, Text, Field}
 use Rattle.scale_info_types.specs.declared.ty.fields.Field.{Field as AnyField}
 use Rattle.scale_info_types.specs.Shapes.{map_field}
 use Rattle.scale_info_tables.specs.declared.portable.PortableRegistry.{PortableRegistry}
 use Rattle.scale_info_value.specs.declared.value.Dyn.{Dyn}
-use Rattle.scale_info_encode.specs.Writers.{written, followed_by}
+use Rattle.scale_info_encode.specs.Writers.{written}
 use Rattle.scale_info_encode.specs.DefinitionWriters as writers
 use Rattle.scale_info_encode.specs.DefinitionWriters.{Writers}
 use Rattle.scale_info_encode.proofs.Inverse.{parted}
 use Rattle.scale_info_bytes.specs.Encodings.{IsByte}
-use Rattle.scale_info_visit.specs.Events.{Event, field, definition_at, field_types, all_named, keys, names, events_by}
+use Rattle.scale_info_visit.specs.Events.{definition_at, field_types, all_named, keys, names}
 use Rattle.scale_info_visit.specs.Visits.{placed, field_by}
 use Rattle.scale_info_value_text.specs.ValueTexts.{event_tokens, field_opening, opening, closing}
-use Rattle.scale_info_value_json.specs.Takers.{Taken, Taker, taken, refused, mismatch, taken_map, if_found, all_taken, in_turn}
+use Rattle.scale_info_value_json.specs.Takers.{Taker, refused, mismatch, taken_map, if_found, all_taken, in_turn}
 use Rattle.scale_info_value_json.specs.DefinitionTakers as takers
 use Rattle.scale_info_value_json.specs.DefinitionTakers.{Takers, object_fields, named_field}
-use Rattle.scale_info_value_json.specs.TreeParts.{listed, items_in, has_name, are_distinct, is_object_of, member_in}
+use Rattle.scale_info_value_json.specs.TreeParts.{items_in, has_name, are_distinct, is_object_of}
 use Rattle.scale_info_value_json.specs.TreesOfTexts.{own_names, has_own_names}
 use Rattle.scale_info_value_json.proofs.OwnNames.{fields_own}
 use Rattle.scale_info_value_json.proofs.Shown.{IsShown, AreShown, AreMembersShown, none_shown, one_shown, array_shown}

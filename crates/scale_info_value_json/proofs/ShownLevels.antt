@@ -1,5 +1,5 @@
 -- Values of each number of levels are taken back from the text.
-use Rattle.std.proofs.Common.{◌≡◌, ℕ, zero, suc, ◌-◌, ◌<◌, ◌^◌, Bool, true, false, List, [], ◌∷◌, ◌++◌, Option, Some, None, option_map}
+use Rattle.std.proofs.Common.{◌≡◌, ℕ, zero, suc, ◌-◌, ◌<◌, ◌^◌, Bool, true, false, List, Option, Some, None, option_map}
 use Rattle.std.proofs.Common.{refl, ap, sym, ◌∙◌, subst, arith}
 use Rattle.std.proofs.lemmas.Bool.{lt-ltb, ltb-true}
 use Rattle.std.specs.Int.{w8}
@@ -10,12 +10,11 @@ use Rattle.json.specs.Print.{print}
 use Rattle.json.specs.Tree.{json_tokens}
 use Rattle.json.proofs.Printed.Tokens.{tokens-print}
 use Rattle.json.proofs.Printed.Trees.{ArePrintable-json_tokens}
-use Rattle.serde_json.specs.Data.{Data, number, unsigned}
+use Rattle.serde_json.specs.Data.{Data}
 use Rattle.scale_info_bytes.specs.Encodings.{HasPrefix, IsByte}
 use Rattle.scale_info_types.specs.Portable.{Id, TypeDef, Description}
 use Rattle.scale_info_types.specs.declared.ty.TypeDef.TheVariants as def
 use Rattle.scale_info_types.specs.Shapes.{map_definition}
-use Rattle.scale_info_primitives.specs.declared.primitive.TypeDefPrimitive.{TypeDefPrimitive}
 use Rattle.scale_info_primitives.specs.declared.primitive.TypeDefPrimitive.TheVariants as kind
 use Rattle.scale_info_tables.specs.declared.portable.PortableRegistry.{PortableRegistry}
 use Rattle.scale_info_value.specs.declared.value.Dyn.{Dyn}
@@ -41,9 +40,8 @@ use Rattle.scale_info_value_text.specs.ValueTexts.{value_text}
 use Rattle.scale_info_value_json.proofs.OneTree.{read_as}
 use Rattle.scale_info_value_json.specs.Takings.{taking}
 use Rattle.scale_info_value_json.specs.TreesOfTexts.{has_own_names, IsTakenFrom}
-use Rattle.scale_info_value_json.proofs.Shown.{IsShown}
 use Rattle.scale_info_value_json.proofs.ShownDefinitions.{values_back, compacts_back}
-use Rattle.scale_info_value_json.proofs.ShownParts.{tokens_by, AreTakenBack, PartIsTakenBack, IsByteBack, nothing_back, held_parts}
+use Rattle.scale_info_value_json.proofs.ShownParts.{tokens_by, AreTakenBack, PartIsTakenBack, IsByteBack, held_parts}
 
 -- compact integers by a description are taken back
 compacts_by_type :

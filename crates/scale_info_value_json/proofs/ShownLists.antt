@@ -1,7 +1,7 @@
 -- Lists that are taken back from the text.
-use Rattle.std.proofs.Common.{◌≡◌, ℕ, zero, suc, ◌<◌, ◌==◌, Bool, true, false, ◌&&◌, List, [], ◌∷◌, ◌++◌, map, length, replicate, get_or}
-use Rattle.std.proofs.Common.{Option, Some, None, option_map, refl, ap, sym, ◌∙◌, subst, arith}
-use Rattle.std.proofs.lemmas.Bool.{and_parts, lt-ltb, eq-eqb}
+use Rattle.std.proofs.Common.{◌≡◌, ℕ, zero, suc, ◌<◌, Bool, true, false, List, [], ◌∷◌, ◌++◌, map, length, replicate}
+use Rattle.std.proofs.Common.{Option, Some, option_map, refl, ap, sym, ◌∙◌, subst, arith}
+use Rattle.std.proofs.lemmas.Bool.{and_parts}
 use Rattle.std.proofs.lemmas.Grind.{flat_map-append}
 use Rattle.std.proofs.lemmas.List.{length-map}
 use Rattle.std.specs.List.{flat_map, AllByRecursion}
@@ -11,22 +11,22 @@ use Rattle.json.specs.Token as token
 use Rattle.scale_info_bytes.specs.Encodings.{IsByte}
 use Rattle.json.specs.Token.{Token}
 use Rattle.serde_json.specs.Data.{Data, array, string, number, unsigned, Items}
-use Rattle.scale_info_types.specs.Portable.{Id, TypeDef}
+use Rattle.scale_info_types.specs.Portable.{TypeDef}
 use Rattle.scale_info_tables.specs.declared.portable.PortableRegistry.{PortableRegistry}
 use Rattle.scale_info_value.specs.declared.value.Dyn.{Dyn}
 use Rattle.scale_info_value.specs.declared.value.Dyn.TheVariants as dyn
 use Rattle.scale_info_encode.specs.Writers as writing
 use Rattle.scale_info_encode.specs.Writers.{Writer, written}
 use Rattle.scale_info_encode.specs.DefinitionWriters.{Writers}
-use Rattle.scale_info_encode.proofs.Inverse.{parted, as_many}
+use Rattle.scale_info_encode.proofs.Inverse.{parted}
 use Rattle.scale_info_visit.specs.Events as event
 use Rattle.scale_info_visit.specs.Events.{Event, definition_at, events_by, list_events, items_events, in_place, joined, integers_in}
 use Rattle.scale_info_visit.specs.Visits.{placed, value_by}
 use Rattle.scale_info_visit.proofs.Events.{integers_alone, integers_joined}
 use Rattle.scale_info_value_text.specs.ValueTexts.{event_tokens}
-use Rattle.scale_info_value_json.specs.Takers.{Taken, Taker, taken, refused, mismatch, taken_map, if_found, all_taken, in_turn}
-use Rattle.scale_info_value_json.specs.DefinitionTakers.{Takers, each, counted, items, members}
-use Rattle.scale_info_value_json.specs.TreeParts.{listed, items_in, list_in, bytes_in}
+use Rattle.scale_info_value_json.specs.Takers.{Taken, Taker, taken, refused, mismatch, taken_map, if_found}
+use Rattle.scale_info_value_json.specs.DefinitionTakers.{Takers, each, counted, items}
+use Rattle.scale_info_value_json.specs.TreeParts.{listed, list_in}
 use Rattle.scale_info_value_json.specs.TreesOfTexts.{has_own_names}
 use Rattle.scale_info_value_json.proofs.Leaves.{string_shown, bytes_back}
 use Rattle.scale_info_value_json.proofs.OwnNames.{all_own}

@@ -1,5 +1,5 @@
 -- Tokens of JSON that reads as a tree.
-use Rattle.std.proofs.Common.{◌≡◌, ℕ, ◌<◌, ◌^◌, List, [], ◌∷◌, ◌++◌, Option, Some, option_map, refl, ap, ◌∙◌, arith, decimal, append_assoc}
+use Rattle.std.proofs.Common.{◌≡◌, ℕ, ◌<◌, List, [], ◌∷◌, ◌++◌, Some, option_map, refl, ap, ◌∙◌, arith, decimal}
 use Rattle.std.specs.Prelude.{option_and_then}
 use Rattle.json.specs.Token as token
 use Rattle.json.specs.Token.{Token}
@@ -7,7 +7,7 @@ use Rattle.json.specs.Json as json
 use Rattle.json.specs.Json.{Json}
 use Rattle.json.specs.Tree.{json_tokens, HasNumbers}
 use Rattle.json.proofs.Printed.Decimals.{IsNumber-decimal}
-use Rattle.serde_json.specs.Data.{Data, number, unsigned, string, array, object, Items, no_items, item, no_members, member, put}
+use Rattle.serde_json.specs.Data.{Data, number, unsigned, string, array, object, no_items, item, no_members, member, put}
 use Rattle.serde_json.specs.Read.{of_json, of_items, of_members}
 use Rattle.serde_json.proofs.Numbers.{number_of-decimal}
 use Rattle.scale_info_value_json.specs.Takers.{Taker, taken}

@@ -1,28 +1,22 @@
 -- Variants that are taken back from the text.
-use Rattle.std.proofs.Common.{◌≡◌, ℕ, suc, ◌+◌, ◌<◌, ◌≤◌, ◌==◌, Bool, true, false, ◌&&◌, List, [], ◌∷◌, ◌++◌, map, length, find, cond}
-use Rattle.std.proofs.Common.{Option, Some, None, option_map, refl, ap, sym, ◌∙◌, subst, arith}
-use Rattle.std.proofs.lemmas.Bool.{ltb-false, le-ltb, and_parts}
+use Rattle.std.proofs.Common.{◌≡◌, ℕ, ◌+◌, ◌≤◌, ◌==◌, Bool, true, false, List, [], ◌∷◌, map, find, cond}
+use Rattle.std.proofs.Common.{Option, Some, None, option_map, refl, ap, sym, ◌∙◌, arith}
+use Rattle.std.proofs.lemmas.Bool.{ltb-false, le-ltb}
 use Rattle.std.proofs.lemmas.List.Sums.{sum_by-cons}
-use Rattle.std.proofs.lemmas.Grind.{common_steps, flat_map-append}
 use Rattle.std.proofs.lemmas.Slice.Eq.{bytes_eq-Decides}
-use Rattle.std.specs.List.{flat_map, count_by}
+use Rattle.std.specs.List.{count_by}
 use Rattle.std.specs.Prelude.{if◌then◌else◌, nat_lt, option_and_then}
 use Rattle.std.specs.Str.{bytes_eq}
-use Rattle.json.specs.Token as token
-use Rattle.json.specs.Token.{Token}
-use Rattle.json.specs.Json as json
-use Rattle.serde_json.specs.Data.{Data, array, object, string, number, Items, no_items, item, no_members, member}
-use Rattle.scale_info_types.specs.Portable.{Id, Text, Field, Variant}
-use Rattle.scale_info_types.specs.declared.ty.fields.Field.{Field as AnyField}
+use Rattle.serde_json.specs.Data.{Data}
+use Rattle.scale_info_types.specs.Portable.{Id, Text, Variant}
 use Rattle.scale_info_types.specs.declared.ty.variant.Variant.{Variant as AnyVariant}
-use Rattle.scale_info_types.specs.Shapes.{map_field, map_variant}
+use Rattle.scale_info_types.specs.Shapes.{map_variant}
 use Rattle.scale_info_value.specs.declared.value.Dyn.TheVariants as dyn
-use Rattle.scale_info_value.specs.declared.value.Dyn.{Dyn}
-use Rattle.scale_info_value_json.specs.Takers.{Taken, Taker, taken, refused, mismatch, taken_map, if_found}
-use Rattle.scale_info_value_json.specs.DefinitionTakers.{Takers, fields, variant_fields, is_shared, chosen, variant_of, variant}
+use Rattle.scale_info_value_json.specs.Takers.{refused, mismatch, taken_map, if_found}
+use Rattle.scale_info_value_json.specs.DefinitionTakers.{Takers, is_shared, chosen, variant_of, variant}
 use Rattle.scale_info_tables.specs.declared.portable.PortableRegistry.{PortableRegistry}
 use Rattle.scale_info_value_json.specs.Takings.{part_within, variant_fields_within}
-use Rattle.scale_info_value_json.specs.TreeParts.{is_nothing, index_and_fields, variant_in, natural_in}
+use Rattle.scale_info_value_json.specs.TreeParts.{index_and_fields, variant_in}
 
 -- the first variant with an index stays the first where references stand for something else
 pub first_with_index :

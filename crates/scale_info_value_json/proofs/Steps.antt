@@ -1,5 +1,5 @@
 -- One level of a taking.
-use Rattle.std.proofs.Common.{◌≡◌, ℕ, zero, suc, ◌-◌, ◌≤◌, Option, Some, None, refl, ap, ◌∙◌, arith}
+use Rattle.std.proofs.Common.{◌≡◌, ℕ, zero, suc, ◌-◌, ◌≤◌, Some, None, refl, ap, ◌∙◌, arith}
 use Rattle.serde_json.specs.Data.{Data}
 use Rattle.scale_info_types.specs.Portable.{Description}
 use Rattle.scale_info_tables.specs.declared.portable.PortableRegistry.{PortableRegistry}

@@ -1,10 +1,9 @@
 -- What the accessors of a tree give.
-use Rattle.std.proofs.Common.{◌≡◌, ◌≢◌, ℕ, ◌==◌, Bool, false, List, [], ◌∷◌, length, map, Option, Some, None, option_map, String, Global}
+use Rattle.std.proofs.Common.{◌≡◌, ◌≢◌, ℕ, ◌==◌, List, [], ◌∷◌, length, map, Some, None, option_map, String, Global}
 use Rattle.std.proofs.Common.{refl, ap, sym, ◌∙◌, arith, string_bytes}
 use Rattle.std.specs.Prelude.{slice_get}
-use Rattle.serde_json.specs.Data.{Data, null, boolean, number, string, array, object, Items, Members, no_members, member}
-use Rattle.serde_json.specs.Events.{members_len}
-use Rattle.serde_json.specs.Find.{as_object, as_array, as_str}
+use Rattle.serde_json.specs.Data.{Data, null, boolean, number, string, array, object, Members, no_members, member}
+use Rattle.serde_json.specs.Find.{as_object, as_array}
 use Rattle.serde_json.specs.View.{view, items_view, members_view}
 use Rattle.serde_json.specs.declared.value.Value.{Value}
 use Rattle.serde_json.proofs.Views.{Entry, members_len-members_view}

@@ -15,7 +15,7 @@ use Rattle.scale_info_primitives.specs.declared.primitive.TypeDefPrimitive.TheVa
 use Rattle.scale_info_value.specs.declared.value.Dyn.{Dyn}
 use Rattle.scale_info_value.specs.declared.value.Dyn.TheVariants as dyn
 use Rattle.scale_info_value_json.specs.Takers.{Taken, Taker, taken, refused, mismatch, unsupported}
-use Rattle.scale_info_value_json.specs.Takers.{taken_map, and_then, if_found, all_taken, in_turn}
+use Rattle.scale_info_value_json.specs.Takers.{taken_map, if_found, all_taken, in_turn}
 use Rattle.scale_info_value_json.specs.TreeParts.{natural_in, integer_in, below, within, text_in}
 use Rattle.scale_info_value_json.specs.TreeParts.{items_in, list_in, is_object_of, has_members}
 use Rattle.scale_info_value_json.specs.TreeParts.{member_in, variant_in, is_nothing}

@@ -5,8 +5,8 @@ use Rattle.std.specs.Borrow.{Bor}
 use Rattle.serde_json.specs.Data.{Data}
 use Rattle.serde_json.specs.View.{view}
 use Rattle.serde_json.specs.declared.value.Value.{Value}
-use Rattle.scale_info_types.specs.Portable.{Id, Field, Variant, TypeDef, Description}
-use Rattle.scale_info_types.specs.Shapes.{map_definition, map_field, map_variant}
+use Rattle.scale_info_types.specs.Portable.{Id, Field, TypeDef, Description}
+use Rattle.scale_info_types.specs.Shapes.{map_definition, map_field}
 use Rattle.scale_info_tables.specs.declared.portable.PortableRegistry.{PortableRegistry}
 use Rattle.scale_info_value.specs.declared.value.Dyn.{Dyn}
 use Rattle.scale_info_value.specs.Readings.{type_at}

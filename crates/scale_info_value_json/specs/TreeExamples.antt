@@ -1,6 +1,6 @@
 -- Small tables and trees, on which the definition of takings is tried.
 use Rattle.std.specs.Prelude.{ℕ, List, [], ◌∷◌, codes}
-use Rattle.serde_json.specs.Data.{Data, number, unsigned, string, array, object, Members}
+use Rattle.serde_json.specs.Data.{Data, number, unsigned, array, object}
 use Rattle.serde_json.specs.Data.{no_members, member}
 use Rattle.serde_json.specs.View.{items_of}
 use Rattle.scale_info_types.specs.TypeExamples.{id}

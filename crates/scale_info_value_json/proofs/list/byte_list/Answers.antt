@@ -1,8 +1,7 @@
-use Rattle.std.proofs.Common.{◌≡◌, ◌<◌, ◌≤◌, Some, true, length, map, sym, ap, ◌∙◌, arith}
+use Rattle.std.proofs.Common.{◌≡◌, ◌<◌, ◌≤◌, Some, true, length, sym, ap, ◌∙◌, arith}
 use Rattle.std.proofs.lemmas.Grind.{common_steps}
-use Rattle.scale_info_value.specs.declared.value.Dyn.TheVariants as dyn
 use Rattle.scale_info_value_json.specs.Takings.{is_count_of}
-use Rattle.scale_info_value_json.proofs.OneLevel.{bytes_too_deep, bytes_taken, no_bytes_taken, bytes_miscounted}
+use Rattle.scale_info_value_json.proofs.OneLevel.{bytes_too_deep, bytes_taken, no_bytes_taken}
 use Rattle.scale_info_value_json.proofs.list.byte_list.Goals as goal
 use Rattle.scale_info_value_json.proofs.list.byte_list.Goals.{else-left-eq1-via-then-left-eq1+else-not-is_empty, else-left-eq1-via-else-left-eq1}
 

@@ -1,4 +1,4 @@
-use Rattle.std.proofs.Common.{◌≡◌, ◌==◌, true, false, subst, sym, Some, None, ◌∙◌, ap, map, find}
+use Rattle.std.proofs.Common.{◌≡◌, ◌==◌, subst, sym, ◌∙◌, ap, map, find}
 use Rattle.std.specs.Str.{bytes_eq}
 use Rattle.scale_info_value.specs.declared.value.Dyn.TheVariants as dyn
 use Rattle.std.specs.Prelude.{IfOk, IfErr}
