@@ -52,9 +52,9 @@ use std::alloc::Global;
 ///   of the name with an array of the index and then, if any, the fields.
 ///
 /// A number that the tree holds as a float, as `1.0` or `-0`, is no integer. A value has depth 1,
-/// and each part of a value is one deeper than the value; at most 128 is taken. What is taken has an
-/// encoding by the same type. The work is bounded by the tree and by the names of the fields, which
-/// are compared with one another.
+/// and each part of a value is one deeper than the value; at most 128 is taken. What is taken has
+/// an encoding by the same type. The work is bounded by the tree and by the names of the fields,
+/// which are compared with one another.
 ///
 /// Errors: `TooDeep`, where a value is more than 128 deep; `NoSuchType`, where an id is no index of
 /// the table; `Unsupported`, where values of a type are not taken; `Mismatch`, where the tree is no
