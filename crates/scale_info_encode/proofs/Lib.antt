@@ -13,3 +13,4 @@ pub mod Steps
 pub mod Texts
 pub mod ValueKinds
 pub mod Widths
+pub mod Pruned

@@ -1,8 +1,11 @@
 //! Laws of the values that are encoded by a table. A law does nothing when it runs: its contract is
 //! the law.
-ghost use Rattle.std.specs.Prelude.{◌≡◌, ◌↔◌, ◌++◌, IsTrue, List, ℕ, []};
+ghost use Rattle.std.specs.Prelude.{◌≡◌, ◌↔◌, ◌++◌, IsTrue, List, ℕ, [], Some, map, slice_get};
 ghost use Rattle.std.specs.List.{AllByRecursion};
 ghost use Rattle.scale_info_bytes.specs.Encodings.{HasPrefix, IsByte};
+ghost use Rattle.scale_info_numberings.specs.Tables.{IsTable};
+ghost use Rattle.scale_info_tables.specs.TableSystems.{system_of};
+ghost use Rattle.scale_info_walk.specs.TypeSystems.{entry_of};
 ghost use Rattle.scale_info_tables.specs.declared.portable.PortableRegistry.{PortableRegistry};
 ghost use Rattle.scale_info_value.specs.declared.value.Dyn.{Dyn};
 ghost use Rattle.scale_info_value.specs.Outcomes.{decoded};
@@ -44,6 +47,21 @@ pub fn never_read()
     ensures { (table : PortableRegistry) (id depth : ℕ) (value : Dyn) (why : refusals.Refusal)
         (input rest : List ℕ) → writing table id depth value ≡ refused why
         → AllByRecursion IsByte input → reading table id depth input ≡ decoded value rest → ⊥ }
+{}
+
+/// Pruning a table changes no encoding. Where a new table is the table of a list of nodes of an old
+/// one, bytes are the encoding of a value by the new table, at the index of a node in that list,
+/// exactly where they are by the old table at the node.
+///
+/// `[bool, Vec<u32>, text, u32]` pruned to the vector is `[Vec<u32>, u32]`. There a value is encoded
+/// at id 0 as it was at id 1 before.
+pub fn writes_alike()
+    ensures { (old new : PortableRegistry) (kept : List ℕ)
+        → IsTable (system_of old) kept (map entry_of new.types)
+        → (index id : ℕ) → slice_get kept index ≡ Some id
+        → (depth : ℕ) (value : Dyn) (bytes : List ℕ) → AllByRecursion IsByte bytes
+        → (writing new index depth value ≡ written bytes)
+        ↔ (writing old id depth value ≡ written bytes) }
 {}
 
 /// Errors of encoding values are equal exactly where they are one value.

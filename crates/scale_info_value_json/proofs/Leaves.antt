@@ -1,0 +1,132 @@
+-- Tokens of integers, texts and bytes.
+use Rattle.std.proofs.Common.{◌≡◌, ℕ, suc, ◌^◌, ◌<◌, Bool, true, false, List, [], ◌∷◌, ◌++◌, get_or, drop, Some, option_map}
+use Rattle.std.proofs.Common.{refl, ap, ◌∙◌, arith, decimal}
+use Rattle.std.proofs.lemmas.Bool.{ltb-true, ne_eqb}
+use Rattle.std.proofs.lemmas.Fmt.{decimal_is_IsNumeral_wide}
+use Rattle.std.specs.Prelude.{ℤ, pos, negsuc, neg_ℤ, nat_lt, codes, unsigned_abs, if◌then◌else◌}
+use Rattle.std.specs.Char.{digit_value}
+use Rattle.std.specs.Fmt.{signed_decimal}
+use Rattle.std.specs.Result.{result_ok}
+use Rattle.std.specs.Str.Parse.{IsNumeral}
+use Rattle.hex.specs.Hex.{encode_lower, IsBytes}
+use Rattle.hex.proofs.HexLemmas.{decode_of-encode_lower}
+use Rattle.json.specs.Token as token
+use Rattle.json.specs.Token.{Token}
+use Rattle.json.specs.Json as json
+use Rattle.json.proofs.Printed.Decimals.{IsNumber-decimal, IsNumber-signed_decimal}
+use Rattle.serde_json.specs.Data.{Data, boolean, number, string, unsigned, negative}
+use Rattle.serde_json.proofs.Numbers.{number_of-decimal, number_of-negative}
+use Rattle.scale_info_value_json.specs.Takers.{Taker, taken}
+use Rattle.scale_info_value_json.specs.TreeParts.{natural_in, integer_in, decimal_in, signed_decimal_in, bytes_in, is_within}
+use Rattle.scale_info_value_json.proofs.Numbers.{decimal_of}
+use Rattle.scale_info_value_json.proofs.Shown.{IsShown}
+
+-- the digits of an integer write it
+decimal_back : (n : ℕ) → n < 10 ^ 64 → decimal_in (decimal n) ≡ Some n
+decimal_back n h = let d = decimal_is_IsNumeral_wide n h in decimal_of (decimal n) d.0 ∙ ap Some d.1
+
+-- digits do not begin with a minus sign
+no_minus : (ds : List ℕ) → IsNumeral 10 ds → get_or ds 0 0 ≡ 45 → ⊥
+no_minus [] h e = omega (arith, h.0)
+no_minus (d ∷ ds) h e = let digit : digit_value d < 10 = h.1.0 in let is : d ≡ 45 = e in grind arith
+
+-- the digits of an integer with its sign write it
+signed_back : (z : ℤ) → unsigned_abs z < 10 ^ 64 → signed_decimal_in (signed_decimal z) ≡ Some z
+signed_back (pos n) h =
+    let d = decimal_is_IsNumeral_wide n h in
+    ap (λ (b : Bool). if b then option_map (λ n. neg_ℤ (pos n)) (decimal_in (drop 1 (decimal n))) else option_map pos (decimal_in (decimal n)))
+    (ne_eqb (get_or (decimal n) 0 0) 45 (no_minus (decimal n) d.0))
+    ∙ ap (option_map pos) (decimal_back n h)
+signed_back (negsuc n) h = ap (option_map (λ n. neg_ℤ (pos n))) (decimal_back (suc n) h)
+
+-- an integer of an unsigned type
+pub natural_shown :
+    {A : Type 0} (n : ℕ) (take : Taker A) (value : A) → n < 2 ^ 128
+    → ((tree : Data) → natural_in tree ≡ Some n → take tree ≡ taken value)
+    → IsShown ((if nat_lt n (2 ^ 53) then token.number (decimal n) else token.string (decimal n)) ∷ []) take value
+natural_shown {A} n take value h by = by_size (nat_lt n (2 ^ 53)) refl
+  where
+    by_size :
+        (small : Bool) → nat_lt n (2 ^ 53) ≡ small
+        → IsShown ((if small then token.number (decimal n) else token.string (decimal n)) ∷ []) take value
+    by_size true e =
+        let less : n < 2 ^ 53 = ltb-true _ _ e in
+        record {
+          json = json.number (decimal n);
+          tree = number (unsigned n);
+          prints = refl;
+          numbers = IsNumber-decimal n (omega arith);
+          reads = ap (option_map number) (number_of-decimal n (omega arith));
+          is = by (number (unsigned n)) refl;
+        }
+    by_size false e =
+        record {
+          json = json.string (decimal n);
+          tree = string (decimal n);
+          prints = refl;
+          numbers = tt;
+          reads = refl;
+          is = by (string (decimal n)) (decimal_back n (omega arith));
+        }
+
+-- an integer of a signed type
+pub integer_shown :
+    {A : Type 0} (z : ℤ) (take : Taker A) (value : A) → is_within (2 ^ 127) z ≡ true
+    → ((tree : Data) → integer_in tree ≡ Some z → take tree ≡ taken value)
+    → IsShown
+    ((if nat_lt (unsigned_abs z) (2 ^ 53) then token.number (signed_decimal z) else token.string (signed_decimal z)) ∷ [])
+    take value
+integer_shown {A} z take value h by = by_size (nat_lt (unsigned_abs z) (2 ^ 53)) refl
+  where
+    small_shown : (z : ℤ) → unsigned_abs z < 2 ^ 53 → ((tree : Data) → integer_in tree ≡ Some z → take tree ≡ taken value)
+        → IsShown (token.number (signed_decimal z) ∷ []) take value
+    small_shown (pos n) less by =
+        record {
+          json = json.number (decimal n);
+          tree = number (unsigned n);
+          prints = refl;
+          numbers = IsNumber-decimal n (omega arith);
+          reads = ap (option_map number) (number_of-decimal n (omega arith));
+          is = by (number (unsigned n)) refl;
+        }
+    small_shown (negsuc n) less by =
+        record {
+          json = json.number (signed_decimal (negsuc n));
+          tree = number (negative (negsuc n));
+          prints = refl;
+          numbers = IsNumber-signed_decimal (negsuc n) (omega arith);
+          reads = ap (option_map number) (number_of-negative n (omega arith));
+          is = by (number (negative (negsuc n))) refl;
+        }
+
+    bounded : (z : ℤ) → is_within (2 ^ 127) z ≡ true → unsigned_abs z < 10 ^ 64
+    bounded (pos n) e = let less : n < 2 ^ 127 = ltb-true _ _ e in omega arith
+    bounded (negsuc n) e = let less : n < 2 ^ 127 = ltb-true _ _ e in omega arith
+
+    by_size :
+        (small : Bool) → nat_lt (unsigned_abs z) (2 ^ 53) ≡ small
+        → IsShown ((if small then token.number (signed_decimal z) else token.string (signed_decimal z)) ∷ []) take value
+    by_size true e = small_shown z (ltb-true _ _ e) by
+    by_size false e =
+        record {
+          json = json.string (signed_decimal z);
+          tree = string (signed_decimal z);
+          prints = refl;
+          numbers = tt;
+          reads = refl;
+          is = by (string (signed_decimal z)) (signed_back z (bounded z h));
+        }
+
+-- a string
+pub string_shown : {A : Type 0} (s : List ℕ) (take : Taker A) (value : A) → take (string s) ≡ taken value → IsShown (token.string s ∷ []) take value
+string_shown s take value e =
+    record { json = json.string s; tree = string s; prints = refl; numbers = tt; reads = refl; is = e }
+
+-- a truth value
+pub truth_shown : {A : Type 0} (b : Bool) (take : Taker A) (value : A) → take (boolean b) ≡ taken value → IsShown (token.boolean b ∷ []) take value
+truth_shown b take value e =
+    record { json = json.boolean b; tree = boolean b; prints = refl; numbers = tt; reads = refl; is = e }
+
+-- the hexadecimal digits of bytes write them
+pub bytes_back : (bytes : List ℕ) → IsBytes bytes → bytes_in (codes "0x" ++ encode_lower bytes) ≡ Some bytes
+bytes_back bytes all = ap result_ok (decode_of-encode_lower bytes all)

@@ -1,0 +1,176 @@
+-- Lists of bytes and fields, one level.
+use Rattle.std.proofs.Common.{◌≡◌, ℕ, suc, ◌-◌, ◌<◌, ◌≤◌, ◌^◌, Bool, true, false, List, [], ◌∷◌, map, length}
+use Rattle.std.proofs.Common.{Option, Some, None, option_map, refl, ap, sym, ◌∙◌, arith}
+use Rattle.std.proofs.lemmas.Bool.{lt-ltb}
+use Rattle.std.proofs.lemmas.List.{length-map}
+use Rattle.std.specs.Prelude.{if◌then◌else◌}
+use Rattle.hex.specs.Hex.{IsBytes, decode_of}
+use Rattle.hex.specs.declared.error.FromHexError.{FromHexError}
+use Rattle.std.proofs.Common.{Result, Ok, Err}
+use Rattle.hex.proofs.HexLemmas.{decode_of-ok}
+use Rattle.std.specs.Result.{result_ok}
+use Rattle.serde_json.specs.Data.{Data, number, unsigned, string}
+use Rattle.scale_info_types.specs.Portable.{Id, Text, Field, TypeDef, Description}
+use Rattle.scale_info_types.specs.declared.ty.TypeDef.TheVariants as def
+use Rattle.scale_info_types.specs.Shapes.{map_definition, map_field}
+use Rattle.scale_info_primitives.specs.declared.primitive.TypeDefPrimitive.TheVariants as kind
+use Rattle.scale_info_tables.specs.declared.portable.PortableRegistry.{PortableRegistry}
+use Rattle.scale_info_value.specs.declared.value.Dyn.{Dyn}
+use Rattle.scale_info_value.specs.declared.value.Dyn.TheVariants as dyn
+use Rattle.scale_info_value.specs.Readings.{type_at}
+use Rattle.scale_info_visit.specs.Events.{definition_at, is_byte, names}
+use Rattle.scale_info_value_json.specs.Takers.{taken, refused, mismatch, too_deep, taken_map, if_found, in_turn}
+use Rattle.scale_info_value_json.specs.TreeParts.{bytes_in, list_in, items_in, is_object_of, without_prefix}
+use Rattle.scale_info_value_json.specs.DefinitionTakers.{Takers, value_by, each, counted, object_fields, field}
+use Rattle.scale_info_value_json.specs.Takings.{value_within, part_within, items_within, is_count_of}
+use Rattle.scale_info_value_json.specs.Takings.{fields_within, object_fields_within, array_fields_within}
+use Rattle.scale_info_value_json.proofs.SoFar.{then_more}
+use Rattle.scale_info_value_json.proofs.Steps.{nothing_left, type_known}
+
+-- ---- bytes
+
+-- a number below 256 is a byte, by the definition of bytes
+byte_by :
+    (part : Id → Takers) (d : TypeDef) (n : ℕ) → is_byte (Some d) ≡ true → n < 256
+    → value_by (map_definition {G = Unit {0}} part (λ t. t) d) (number (unsigned n)) ≡ taken (dyn.Unsigned n)
+byte_by part (def.Primitive kind.U8) n is h =
+    ap (λ (t : Bool). if_found (if t then Some n else None) (λ n. taken (dyn.Unsigned n))) (lt-ltb n (2 ^ 8) (omega arith))
+byte_by part (def.Primitive _) n is h = cc
+byte_by part _ n is h = cc
+
+-- by a type
+pub byte_taken :
+    (left : ℕ) (table : PortableRegistry) (id n : ℕ) → 1 ≤ left → is_byte (definition_at table id) ≡ true → n < 256
+    → value_within left table id (number (unsigned n)) ≡ taken (dyn.Unsigned n)
+byte_taken left table id n level is h = by_type (type_at table id) refl is
+  where
+    by_type :
+        (o : Option Description) → type_at table id ≡ o → is_byte (option_map (λ d. d.type_def) o) ≡ true
+        → value_within left table id (number (unsigned n)) ≡ taken (dyn.Unsigned n)
+    by_type None e f = cc
+    by_type (Some d) e f =
+        (type_known left table id (number (unsigned n)) d level e).0 ∙ byte_by (part_within left table) d.type_def n f h
+
+-- bytes that a text writes are bytes
+written_bytes : (t bytes : List ℕ) → bytes_in t ≡ Some bytes → IsBytes bytes
+written_bytes t bytes e = by_result (decode_of (without_prefix t)) refl e
+  where
+    by_result : (r : Result (List ℕ) FromHexError) → decode_of (without_prefix t) ≡ r → result_ok r ≡ Some bytes → IsBytes bytes
+    by_result (Ok b) is f =
+        let same : b ≡ bytes = cc in
+        (decode_of-ok (without_prefix t) bytes (is ∙ ap Ok same)).3
+    by_result (Err x) is f = cc
+
+-- the numbers of bytes are taken as bytes
+each_byte :
+    (left : ℕ) (table : PortableRegistry) (id : ℕ) (bytes : List ℕ) → 1 ≤ left → is_byte (definition_at table id) ≡ true
+    → IsBytes bytes
+    → each (value_within left table id) (map (λ n. number (unsigned n)) bytes) ≡ taken (map dyn.Unsigned bytes)
+each_byte left table id [] level is all = refl
+each_byte left table id (n ∷ bytes) level is all =
+    ap (λ o. then_more o (each (value_within left table id) (map (λ n. number (unsigned n)) bytes)))
+    (byte_taken left table id n level is (all 0))
+    ∙ ap (taken_map (λ vs. dyn.Unsigned n ∷ vs)) (each_byte left table id bytes level is (λ i. all (suc i)))
+
+module _ (left : ℕ) (table : PortableRegistry) (ty : Id) (count : Option ℕ) (text : List ℕ)
+    (of_bytes : is_byte (definition_at table ty.id) ≡ true) where
+  -- a text that writes bytes is the list of their numbers
+  pub bytes_are :
+      (bytes : List ℕ) → bytes_in text ≡ Some bytes
+      → items_within left table ty count (string text)
+      ≡ taken_map dyn.List (counted (is_count_of count) (value_within (left - 1) table ty.id) (map (λ n. number (unsigned n)) bytes))
+  bytes_are bytes e =
+      ap (λ t. taken_map dyn.List (if_found (list_in t (string text)) (counted (is_count_of count) (value_within (left - 1) table ty.id))))
+      of_bytes
+      ∙ ap (λ o. taken_map dyn.List (if_found (option_map (map (λ n. number (unsigned n))) o)
+      (counted (is_count_of count) (value_within (left - 1) table ty.id)))) e
+
+  -- as many as there are to be
+  pub bytes_counted :
+      (bytes : List ℕ) → bytes_in text ≡ Some bytes → is_count_of count (length bytes) ≡ true
+      → items_within left table ty count (string text)
+      ≡ taken_map dyn.List (each (value_within (left - 1) table ty.id) (map (λ n. number (unsigned n)) bytes))
+  bytes_counted bytes e fits =
+      bytes_are bytes e
+      ∙ ap (λ (t : Bool). taken_map dyn.List
+      (if t then each (value_within (left - 1) table ty.id) (map (λ n. number (unsigned n)) bytes) else refused mismatch))
+      (ap (is_count_of count) (length-map bytes (λ n. number (unsigned n))) ∙ fits)
+
+  -- another number of bytes is none of the type
+  pub bytes_miscounted :
+      (bytes : List ℕ) → bytes_in text ≡ Some bytes → is_count_of count (length bytes) ≡ false
+      → items_within left table ty count (string text) ≡ refused mismatch
+  bytes_miscounted bytes e fits =
+      bytes_are bytes e
+      ∙ ap (λ (t : Bool). taken_map dyn.List
+      (if t then each (value_within (left - 1) table ty.id) (map (λ n. number (unsigned n)) bytes) else refused mismatch))
+      (ap (is_count_of count) (length-map bytes (λ n. number (unsigned n))) ∙ fits)
+
+  -- where no level is left for them, bytes are too deep
+  pub bytes_too_deep :
+      (bytes : List ℕ) → bytes_in text ≡ Some bytes → is_count_of count (length bytes) ≡ true → left ≡ 1 → 0 < length bytes
+      → items_within left table ty count (string text) ≡ refused too_deep
+  bytes_too_deep [] e fits last some = absurd (omega arith)
+  bytes_too_deep (n ∷ bytes) e fits last some =
+      bytes_counted (n ∷ bytes) e fits
+      ∙ ap (λ o. taken_map dyn.List (then_more o (each (value_within (left - 1) table ty.id) (map (λ n. number (unsigned n)) bytes))))
+      (nothing_left (left - 1) table ty.id (number (unsigned n)) (omega arith)).0
+
+  -- else they are taken
+  pub bytes_taken :
+      (bytes : List ℕ) (values : List Dyn) → bytes_in text ≡ Some bytes → is_count_of count (length bytes) ≡ true
+      → 2 ≤ left → values ≡ map dyn.Unsigned bytes
+      → items_within left table ty count (string text) ≡ taken (dyn.List values)
+  bytes_taken bytes values e fits level is =
+      bytes_counted bytes e fits
+      ∙ ap (taken_map dyn.List) (each_byte (left - 1) table ty.id bytes (omega arith) of_bytes (written_bytes text bytes e))
+      ∙ ap (λ vs. taken (dyn.List vs)) (sym is)
+
+  -- no bytes are taken at each level
+  pub no_bytes_taken :
+      (bytes : List ℕ) (values : List Dyn) → bytes_in text ≡ Some bytes → is_count_of count (length bytes) ≡ true
+      → length bytes ≡ 0 → values ≡ map dyn.Unsigned bytes
+      → items_within left table ty count (string text) ≡ taken (dyn.List values)
+  no_bytes_taken [] values e fits none is = bytes_counted [] e fits ∙ ap (λ vs. taken (dyn.List vs)) (sym is)
+  no_bytes_taken (n ∷ bytes) values e fits none is = absurd (omega arith)
+
+-- ---- fields
+
+-- names that are read as they are
+name_stays : (name : Option Text) → option_map (λ (t : Text). t) name ≡ name
+name_stays None = refl
+name_stays (Some t) = refl
+
+module _ (left : ℕ) (table : PortableRegistry) (all : List Field) where
+  -- the names of fields stay where references stand for takers
+  names_stay : (fs : List Field) → map (λ f. f.name) (map (map_field {G = Unit {0}} (part_within left table) (λ t. t)) fs) ≡ names fs
+  names_stay [] = refl
+  names_stay (f ∷ fs) = λ i. name_stays f.name i ∷ names_stay fs i
+
+  -- fields that are the members of an object
+  pub object_is :
+      (tree : Data) → is_object_of (names all) ≡ true → fields_within left table all tree ≡ object_fields_within left table all tree
+  object_is tree e =
+      let fs = map (map_field {G = Unit {0}} (part_within left table) (λ t. t)) all in
+      ap (λ (t : Bool). if t then object_fields fs tree else if_found (items_in tree) (in_turn (map field fs)))
+      (ap is_object_of (names_stay all) ∙ e)
+
+  -- fields that are the items of an array
+  pub array_is :
+      (tree : Data) → is_object_of (names all) ≡ false
+      → fields_within left table all tree ≡ if_found (items_in tree) (array_fields_within left table all)
+  array_is tree e =
+      let fs = map (map_field {G = Unit {0}} (part_within left table) (λ t. t)) all in
+      ap (λ (t : Bool). if t then object_fields fs tree else if_found (items_in tree) (in_turn (map field fs)))
+      (ap is_object_of (names_stay all) ∙ e)
+
+  -- of these items
+  pub array_items_are :
+      (tree : Data) (trees : List Data) → is_object_of (names all) ≡ false → Some trees ≡ items_in tree
+      → fields_within left table all tree ≡ array_fields_within left table all trees
+  array_items_are tree trees e f = array_is tree e ∙ ap (λ o. if_found o (array_fields_within left table all)) (sym f)
+
+  -- there are none
+  pub no_array :
+      (tree : Data) → is_object_of (names all) ≡ false → None ≡ items_in tree → fields_within left table all tree ≡ refused mismatch
+  no_array tree e f = array_is tree e ∙ ap (λ o. if_found o (array_fields_within left table all)) (sym f)

@@ -1,0 +1,6 @@
+pub mod Takers
+pub mod TreeParts
+pub mod DefinitionTakers
+pub mod Takings
+pub mod TreesOfTexts
+pub mod TreeExamples

@@ -1,0 +1,50 @@
+//! The definitions that ids stand for.
+ghost use Rattle.std.specs.Prelude.{◌≡◌, ◌≤◌, IfOk, IfErr};
+ghost use Rattle.serde_json.specs.Data.{Data};
+ghost use Rattle.scale_info_visit.specs.Events.{definition_at, is_byte};
+ghost use Rattle.scale_info_value_json.specs.Takers.{refused};
+ghost use Rattle.scale_info_value_json.specs.Takings.{value_within, compact_within};
+ghost use Rattle.scale_info_value_json.specs.Takings.{definition_within, compact_definition_within};
+
+use crate::error::TreeRefusal;
+use scale_info_tables::portable::PortableRegistry;
+use scale_info_types::form::PortableForm;
+use scale_info_types::ty::{TypeDef, TypeDefPrimitive};
+
+/// The definition of the type with this id, where so many levels are left for a value of it.
+///
+/// Errors: `TooDeep`, where none is left; `NoSuchType`, where the id is no index.
+#[inline(always)]
+pub fn definition_of(
+    table: &PortableRegistry,
+    id: u32,
+    left: u8,
+) -> Result<&TypeDef<PortableForm>, TreeRefusal>
+    ensures level { IfOk result (λ _. 1 ≤ left) }
+    ensures known { IfOk result (λ found. (tree : Data)
+        → (value_within left table.now id tree
+        ≡ definition_within left table.now found.now tree)
+        × (compact_within left table.now id tree
+        ≡ compact_definition_within left table.now found.now tree)) }
+    ensures unknown { IfErr result (λ why. (tree : Data)
+        → (value_within left table.now id tree ≡ refused why)
+        × (compact_within left table.now id tree ≡ refused why)) }
+{
+    if left == 0 {
+        return Err(TreeRefusal::TooDeep);
+    }
+    match table.resolve(id) {
+        None => Err(TreeRefusal::NoSuchType),
+        Some(ty) => Ok(&ty.type_def),
+    }
+}
+
+/// Whether the type with this id is `u8`.
+pub fn is_byte(table: &PortableRegistry, id: u32) -> bool
+    ensures { result ≡ is_byte (definition_at table.now id) }
+{
+    match table.resolve(id) {
+        Some(ty) => matches!(&ty.type_def, TypeDef::Primitive(TypeDefPrimitive::U8)),
+        None => false,
+    }
+}

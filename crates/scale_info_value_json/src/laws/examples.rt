@@ -1,0 +1,129 @@
+//! The definition of what is taken, tried on small tables by computation. A function here does
+//! nothing when it runs.
+ghost use Rattle.std.specs.Prelude.{◌≡◌, ◌∷◌, [], Some, codes, negsuc, pos, true};
+ghost use Rattle.serde_json.specs.Data.{array, boolean, string, object, number, negative, null};
+ghost use Rattle.serde_json.specs.Data.{no_members, member};
+ghost use Rattle.scale_info_types.specs.declared.ty.TypeDef.TheVariants as def;
+ghost use Rattle.scale_info_primitives.specs.declared.primitive.TypeDefPrimitive.TheVariants as kind;
+ghost use Rattle.scale_info_value.specs.declared.value.Dyn.TheVariants as dyn;
+ghost use Rattle.scale_info_value.specs.ValueExamples.{table_of, list_of_u32, compact_of};
+ghost use Rattle.scale_info_value.specs.ValueExamples.{array_of_missing, map_of_u32_to_bool};
+ghost use Rattle.scale_info_value.specs.ValueExamples.{named_fields, equal_indices};
+ghost use Rattle.scale_info_value_json.specs.Takers.{taken, refused, mismatch, too_deep};
+ghost use Rattle.scale_info_value_json.specs.Takers.{no_such_type, unsupported};
+ghost use Rattle.scale_info_value_json.specs.Takings.{taking};
+ghost use Rattle.scale_info_value_json.specs.TreeExamples.{list_of_u8, shared_names, plain};
+ghost use Rattle.scale_info_value_json.specs.TreeExamples.{array_of, one_member, one_name_twice};
+
+/// A list of `u32` of two items, one of them in a string; of one that is no `u32`; a tree that is
+/// no array; and an id that is no index. At depth 128 an empty list is taken, and one item is too
+/// deep. The item type of an empty array may be missing.
+pub fn lists()
+    ensures two { taking list_of_u32 0 1 (array_of (plain 1 ∷ string (codes "2") ∷ []))
+        ≡ taken (dyn.List (dyn.Unsigned 1 ∷ dyn.Unsigned 2 ∷ [])) }
+    ensures wide { taking list_of_u32 0 1 (array_of (plain 4294967296 ∷ [])) ≡ refused mismatch }
+    ensures other_kind { taking list_of_u32 0 1 (plain 1) ≡ refused mismatch }
+    ensures text { taking list_of_u32 0 1 (string (codes "0x01000000")) ≡ refused mismatch }
+    ensures outside { taking list_of_u32 2 1 (array_of []) ≡ refused no_such_type }
+    ensures deepest { taking list_of_u32 0 128 (array_of []) ≡ taken (dyn.List []) }
+    ensures items { taking list_of_u32 0 128 (array_of (plain 1 ∷ [])) ≡ refused too_deep }
+    ensures missing { taking (array_of_missing 0) 0 1 (array_of []) ≡ taken (dyn.List []) }
+    ensures too_many { taking (array_of_missing 0) 0 1 (array_of (plain 1 ∷ []))
+        ≡ refused mismatch }
+{}
+
+/// A list of bytes: hexadecimal digits in either case, with `0x` before them or without it, and an
+/// array. An odd digit is none, and another prefix is none.
+pub fn bytes()
+    ensures prefixed { taking list_of_u8 0 1 (string (codes "0x01fF"))
+        ≡ taken (dyn.List (dyn.Unsigned 1 ∷ dyn.Unsigned 255 ∷ [])) }
+    ensures plain { taking list_of_u8 0 1 (string (codes "01ff"))
+        ≡ taken (dyn.List (dyn.Unsigned 1 ∷ dyn.Unsigned 255 ∷ [])) }
+    ensures digits { taking list_of_u8 0 1 (string (codes "10"))
+        ≡ taken (dyn.List (dyn.Unsigned 16 ∷ [])) }
+    ensures numbers { taking list_of_u8 0 1 (array_of (plain 1 ∷ string (codes "255") ∷ []))
+        ≡ taken (dyn.List (dyn.Unsigned 1 ∷ dyn.Unsigned 255 ∷ [])) }
+    ensures none { taking list_of_u8 0 1 (string []) ≡ taken (dyn.List []) }
+    ensures odd { taking list_of_u8 0 1 (string (codes "0x1")) ≡ refused mismatch }
+    ensures capital { taking list_of_u8 0 1 (string (codes "0X01")) ≡ refused mismatch }
+    ensures too_deep { taking list_of_u8 0 128 (string (codes "01")) ≡ refused too_deep }
+{}
+
+/// Integers: within their types, as numbers and as strings, of which zeros may lead.
+pub fn integers()
+    ensures zeros { taking (table_of (def.Primitive kind.U8 ∷ [])) 0 1 (string (codes "007"))
+        ≡ taken (dyn.Unsigned 7) }
+    ensures plus { taking (table_of (def.Primitive kind.U8 ∷ [])) 0 1 (string (codes "+7"))
+        ≡ refused mismatch }
+    ensures none { taking (table_of (def.Primitive kind.U8 ∷ [])) 0 1 (string [])
+        ≡ refused mismatch }
+    ensures most { taking (table_of (def.Primitive kind.U8 ∷ [])) 0 1 (plain 255)
+        ≡ taken (dyn.Unsigned 255) }
+    ensures over { taking (table_of (def.Primitive kind.U8 ∷ [])) 0 1 (string (codes "256"))
+        ≡ refused mismatch }
+    ensures least { taking (table_of (def.Primitive kind.I8 ∷ [])) 0 1 (string (codes "-128"))
+        ≡ taken (dyn.Signed (negsuc 127)) }
+    ensures under { taking (table_of (def.Primitive kind.I8 ∷ [])) 0 1
+        (number (negative (negsuc 128))) ≡ refused mismatch }
+    ensures positive { taking (table_of (def.Primitive kind.I8 ∷ [])) 0 1 (plain 5)
+        ≡ taken (dyn.Signed (pos 5)) }
+    ensures large { taking (compact_of kind.U128) 0 1 (string (codes "18446744073709551616"))
+        ≡ taken (dyn.Unsigned 18446744073709551616) }
+    ensures signed { taking (compact_of kind.I32) 0 1 (plain 1) ≡ refused unsupported }
+    ensures nothing { taking (table_of (def.Primitive kind.Bool ∷ [])) 0 1 null ≡ refused mismatch }
+{}
+
+/// Fields of a struct: an object with just these keys. Where a name comes twice, an array.
+pub fn fields()
+    ensures named { taking named_fields 0 1
+        (object (member (codes "a") (plain 7) (member (codes "b") (boolean true) no_members)))
+        ≡ taken (dyn.Record
+        ((Some (codes "a"), dyn.Unsigned 7) ∷ (Some (codes "b"), dyn.Bool true) ∷ [])) }
+    ensures missing { taking named_fields 0 1 (one_member (codes "a") (plain 7))
+        ≡ refused mismatch }
+    ensures unknown { taking named_fields 0 1
+        (object (member (codes "a") (plain 7) (member (codes "c") (boolean true) no_members)))
+        ≡ refused mismatch }
+    ensures array { taking named_fields 0 1 (array_of (plain 7 ∷ boolean true ∷ []))
+        ≡ refused mismatch }
+    ensures twice { taking one_name_twice 0 1 (array_of (plain 7 ∷ plain 8 ∷ []))
+        ≡ taken (dyn.Record
+        ((Some (codes "a"), dyn.Unsigned 7) ∷ (Some (codes "a"), dyn.Unsigned 8) ∷ [])) }
+    ensures once { taking one_name_twice 0 1 (one_member (codes "a") (plain 7))
+        ≡ refused mismatch }
+{}
+
+/// Variants by their names. Of two variants with one index the first alone is taken, and where
+/// variants share a name, the index says which one is meant.
+pub fn variants()
+    ensures name { taking equal_indices 0 1 (string (codes "A"))
+        ≡ taken (dyn.Variant (codes "A") 3 []) }
+    ensures empty { taking equal_indices 0 1 (one_member (codes "A") (array_of []))
+        ≡ taken (dyn.Variant (codes "A") 3 []) }
+    ensures filled { taking equal_indices 0 1
+        (one_member (codes "A") (array_of (boolean true ∷ []))) ≡ refused mismatch }
+    ensures hidden { taking equal_indices 0 1
+        (one_member (codes "B") (array_of (boolean true ∷ []))) ≡ refused mismatch }
+    ensures none { taking equal_indices 0 1 (string (codes "C")) ≡ refused mismatch }
+    ensures shared { taking shared_names 0 1 (one_member (codes "A") (array_of (plain 3 ∷ [])))
+        ≡ taken (dyn.Variant (codes "A") 3 []) }
+    ensures with_fields { taking shared_names 0 1 (one_member (codes "A")
+        (array_of (plain 4 ∷ one_member (codes "n") (boolean true) ∷ [])))
+        ≡ taken (dyn.Variant (codes "A") 4 ((Some (codes "n"), dyn.Bool true) ∷ [])) }
+    ensures ambiguous { taking shared_names 0 1 (string (codes "A")) ≡ refused mismatch }
+    ensures without_index { taking shared_names 0 1
+        (one_member (codes "A") (one_member (codes "n") (boolean true))) ≡ refused mismatch }
+{}
+
+/// A map is an array of arrays of two.
+pub fn maps()
+    ensures one { taking map_of_u32_to_bool 0 1
+        (array_of (array_of (plain 7 ∷ boolean true ∷ []) ∷ []))
+        ≡ taken (dyn.List (dyn.List (dyn.Unsigned 7 ∷ dyn.Bool true ∷ []) ∷ [])) }
+    ensures object { taking map_of_u32_to_bool 0 1 (one_member (codes "7") (boolean true))
+        ≡ refused mismatch }
+    ensures key_alone { taking map_of_u32_to_bool 0 1 (array_of (array_of (plain 7 ∷ []) ∷ []))
+        ≡ refused mismatch }
+    ensures deeper { taking map_of_u32_to_bool 0 127
+        (array_of (array_of (plain 7 ∷ boolean true ∷ []) ∷ [])) ≡ refused too_deep }
+{}

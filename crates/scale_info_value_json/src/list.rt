@@ -1,0 +1,65 @@
+//! Lists of bytes, and how many items a list may have.
+ghost use Rattle.std.specs.Prelude.{◌≡◌, ◌≤◌, ◌∷◌, [], IfOk, IfErr, map, true};
+ghost use Rattle.serde_json.specs.Data.{string};
+ghost use Rattle.scale_info_value.specs.declared.value.Dyn.TheVariants as dyn;
+ghost use Rattle.scale_info_visit.specs.Events.{definition_at, is_byte};
+ghost use Rattle.scale_info_value_json.specs.Takers.{IsErrorOf, taken};
+ghost use Rattle.scale_info_value_json.specs.Takings.{is_count_of, items_within};
+
+use crate::error::ValueJsonError;
+use crate::tree::bytes_of;
+use scale_info_collections::items::Items;
+use scale_info_identities::symbol::UntrackedSymbol;
+use scale_info_identities::type_id::TypeId;
+use scale_info_tables::portable::PortableRegistry;
+use scale_info_value::value::Dyn;
+use std::alloc::{AllocError, Global};
+
+/// Whether a list may have so many items: the count, or fewer than 2^32 where there is none.
+pub fn is_count_of(count: Option<u32>, items: usize) -> bool
+    ensures { result ≡ is_count_of count items }
+{
+    match count {
+        Some(count) => items == count as usize,
+        None => items <= 4294967295,
+    }
+}
+
+/// The bytes as integers.
+fn integers(alloc: Global, bytes: &[u8]) -> Result<Items<Dyn>, AllocError>
+    ensures { IfOk result (λ values. values ≡ map dyn.Unsigned bytes.now) }
+{
+    let mut values = Vec::with_capacity(alloc, bytes.len())?;
+    for byte in bytes {
+        values.push_reserved(Dyn::Unsigned(*byte as u128));
+    }
+    Ok(Items::from(values))
+}
+
+/// A list of bytes, of a text of hexadecimal digits.
+#[inline(never)]
+pub fn byte_list(
+    alloc: Global,
+    table: &PortableRegistry,
+    ty: &UntrackedSymbol<TypeId>,
+    count: Option<u32>,
+    left: u8,
+    text: &str,
+) -> Result<Dyn, ValueJsonError>
+    requires level { 1 ≤ left }
+    requires bytes { is_byte (definition_at table.now ty.now.id) ≡ true }
+    ensures ok { IfOk result
+        (λ value. items_within left table.now ty.now count (string text.now) ≡ taken value) }
+    ensures err { IfErr result
+        (IsErrorOf (items_within left table.now ty.now count (string text.now))) }
+{
+    let bytes = bytes_of(alloc, text)?;
+    let all = bytes.as_slice();
+    if !is_count_of(count, all.len()) {
+        return Err(ValueJsonError::Mismatch);
+    }
+    if left == 1 && !all.is_empty() {
+        return Err(ValueJsonError::TooDeep);
+    }
+    Ok(Dyn::List(integers(alloc, all)?))
+}
