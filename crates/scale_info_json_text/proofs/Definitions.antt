@@ -6,16 +6,17 @@ use Rattle.std.proofs.lemmas.Map.Text.{is_eq-slice_cmp}
 use Rattle.std.proofs.lemmas.Slice.Eq.{bytes_eq-Decides}
 use Rattle.std.specs.Cmp.Lexicographic.{slice_cmp}
 use Rattle.std.specs.Ordering.{nat_cmp, match_ordering, is_eq}
-use Rattle.std.specs.Prelude.{codes}
+use Rattle.std.specs.Prelude.{MatchOption, IsSomeAnd}
+use Rattle.json.specs.Token.{Token}
 use Rattle.serde_json.specs.Data.{Data, Members, no_members, member, put, object}
 use Rattle.scale_info_types.specs.Portable as portable
-use Rattle.scale_info_json_trees.specs.Meaning.{IsMeaningless, MeansList}
-use Rattle.scale_info_json_trees.specs.PartTrees.{MeansId}
+use Rattle.scale_info_json_trees.specs.Meaning.{IsMeaningless}
 use Rattle.scale_info_json_trees.specs.DefinitionTrees.{MeansTypeDef, MeansUnder}
 use Rattle.scale_info_json_text.specs.declared.definition.FoundDefinition.{FoundDefinition}
 use Rattle.scale_info_json_text.specs.declared.definition.FoundDefinition.TheVariants as found
 use Rattle.scale_info_json_text.specs.Definitions.{IsUnknown, IsOne, AreRefused, HoldsDefinition}
-use Rattle.scale_info_json_text.specs.Readings.{IsMeant}
+use Rattle.scale_info_json_text.specs.Readings.{IsMeant, Reads}
+use Rattle.scale_info_json_text.proofs.Trees.{reads_weaker}
 
 -- keys that compare as equal are equal
 equal_keys : (k l : List ℕ) → slice_cmp nat_cmp k l ≡ Equal → k ≡ l
@@ -147,10 +148,23 @@ none_is_meant (found.One k v) ms (inl e) h = absurd cc
 none_is_meant (found.One k v) ms (inr e) h = absurd cc
 none_is_meant found.Refused ms e h = refused_keys ms h
 
--- under its key only a list of ids is a tuple
-tuple_under : (t : Data) (v : portable.TypeDef) → IsMeaningless (MeansList MeansId t) → MeansUnder (codes "tuple") t v → ⊥
-tuple_under t v n (MeansUnder.tuple m) = n.none _ m
-
--- a tree that is no list of ids is no tuple
-pub no_tuple : (t : Data) → IsMeaningless (MeansList MeansId t) → IsMeaningless (MeansUnder (codes "tuple") t)
-no_tuple t n = record { none = λ v m. tuple_under t v n m }
+-- a tree that means a definition's part under its key means the definition
+pub kind_read :
+    {A : Type 0} {M : Data → A → Type 0} {wrap : A → portable.TypeDef} (kind : List ℕ)
+    → ((t : Data) (a : A) → M t a → MeansUnder kind t (wrap a))
+    → ((t : Data) (d : portable.TypeDef) → MeansUnder kind t d → (a : A) × M t a)
+    → (key : List ℕ) → key ≡ kind → (part : Option A) (def : Option portable.TypeDef)
+    → MatchOption part (def ≡ None) (λ a. IsSomeAnd def (λ d. d ≡ wrap a))
+    → (depth : ℕ) (ts r : List Token) → Reads (λ tree. IsMeant (M tree) part) depth ts r
+    → Reads (λ tree. IsMeant (MeansUnder key tree) def) depth ts r
+kind_read {M = M} kind to from key e None def is depth ts r h =
+    reads_weaker (λ tree p. subst (λ x. IsMeant (MeansUnder key tree) x) (sym is) (record {
+      none = λ v m.
+          let q = from tree v (subst (λ x. MeansUnder x tree v) e m) in
+          p.none q.0 q.1;
+    })) h
+kind_read kind to from key e (Some a) None is depth ts r h = absurd is
+kind_read kind to from key e (Some a) (Some d) is depth ts r h =
+    reads_weaker (λ tree p.
+    subst (λ x. MeansUnder x tree d) (sym e)
+    (subst (λ x. MeansUnder kind tree x) (sym is) (to tree a p))) h

@@ -32,4 +32,5 @@ HoldsDefinition found.Refused members = AreRefused members
 -- only an object means a definition
 pub only_object_is_definition :
     (tree : Data) (v : portable.TypeDef) → MeansTypeDef tree v → IsObject tree
-only_object_is_definition tree v m = record { members = member m.key m.tree no_members; is = m.only }
+only_object_is_definition tree v m =
+    record { members = member m.key m.tree no_members; is = m.only }

@@ -1,16 +1,13 @@
 //! Descriptions and entries of a table of a text.
 ghost use Rattle.std.specs.Prelude.{◌^◌, codes};
+ghost use Rattle.scale_info_json_trees.specs.DefinitionTrees.{MeansTypeDef};
 ghost use Rattle.scale_info_json_trees.specs.EntryTrees.{MeansDescription, MeansEntry};
-ghost use Rattle.scale_info_json_trees.specs.Meaning.{MeansNumber};
-ghost use Rattle.scale_info_json_text.specs.Fields.{HoldsDescription};
-ghost use Rattle.scale_info_json_text.specs.Members.{HoldsTwo};
+ghost use Rattle.scale_info_json_trees.specs.Meaning.{MeansList, MeansNumber, MeansText};
+ghost use Rattle.scale_info_json_trees.specs.PartTrees.{MeansParameter};
+ghost use Rattle.scale_info_json_text.specs.Members.{HoldsBoth, HoldsOne};
 
-use crate::json_text::JsonText;
-use crate::member::{Member, list_or_empty, read_of_two, read_under, required};
-use crate::object::{Found, read_object};
-use crate::pass::pass_value;
-use crate::stop::Stop;
-use json::{Reader, Token};
+use crate::member::{Member, list_or_empty, required};
+use crate::object::JsonObject;
 use scale_info_collections::items::Items;
 use scale_info_collections::text::Text;
 use scale_info_types::form::PortableForm;
@@ -18,50 +15,39 @@ use scale_info_types::ty::path::Path;
 use scale_info_types::ty::{Description, PortableType, TypeDef, TypeParameter};
 use std::alloc::Global;
 
-/// What was read of a description.
-#[derive(Drop)]
-pub struct FoundDescription {
-    path: Member<Items<Text>>,
-    type_params: Member<Items<TypeParameter<PortableForm>>>,
-    type_def: Member<TypeDef<PortableForm>>,
-    docs: Member<Items<Text>>,
-}
+/// What was read of a description: its path and its parameters, its definition and its
+/// documentation.
+type FoundDescription = (
+    (
+        Member<Items<Text>>,
+        Member<Items<TypeParameter<PortableForm>>>,
+    ),
+    (Member<TypeDef<PortableForm>>, Member<Items<Text>>),
+);
 
-impl Found<Description<PortableForm>> for FoundDescription {
+impl JsonObject for Description<PortableForm> {
+    type Found = FoundDescription;
+
     ghost meant = { MeansDescription };
 
-    ghost holds = { HoldsDescription };
+    ghost holds = { HoldsBoth
+        (HoldsBoth
+        (HoldsOne (codes "path") (MeansList MeansText))
+        (HoldsOne (codes "params") (MeansList MeansParameter)))
+        (HoldsBoth
+        (HoldsOne (codes "def") MeansTypeDef)
+        (HoldsOne (codes "docs") (MeansList MeansText))) };
 
-    fn nothing() -> FoundDescription {
-        FoundDescription {
-            path: Member::Missing,
-            type_params: Member::Missing,
-            type_def: Member::Missing,
-            docs: Member::Missing,
-        }
+    fn keys() -> ((&'static str, &'static str), (&'static str, &'static str)) {
+        (("path", "params"), ("def", "docs"))
     }
 
-    fn read_member(
-        &mut self,
-        alloc: Global,
-        key: &str,
-        reader: &mut Reader<'_>,
-        depth: usize,
-    ) -> Result<(), Stop> {
-        match key {
-            "path" => read_under(&mut self.path, alloc, reader, depth),
-            "params" => read_under(&mut self.type_params, alloc, reader, depth),
-            "def" => read_under(&mut self.type_def, alloc, reader, depth),
-            "docs" => read_under(&mut self.docs, alloc, reader, depth),
-            _ => pass_value(reader, depth),
-        }
-    }
-
-    fn finish(self, alloc: Global) -> Option<Description<PortableForm>> {
-        let segments = list_or_empty(alloc, self.path)?;
-        let type_params = list_or_empty(alloc, self.type_params)?;
-        let type_def = required(self.type_def)?;
-        let docs = list_or_empty(alloc, self.docs)?;
+    fn finish(found: FoundDescription, alloc: Global) -> Option<Description<PortableForm>> {
+        let ((path, type_params), (type_def, docs)) = found;
+        let segments = list_or_empty(alloc, path)?;
+        let type_params = list_or_empty(alloc, type_params)?;
+        let type_def = required(type_def)?;
+        let docs = list_or_empty(alloc, docs)?;
         Some(Description {
             path: Path::from(segments),
             type_params,
@@ -73,58 +59,27 @@ impl Found<Description<PortableForm>> for FoundDescription {
     ghost only_objects = { λ tree v m. m.object };
 }
 
-impl JsonText for Description<PortableForm> {
-    ghost meant = { MeansDescription };
+/// What was read of an entry: its id and its type.
+type FoundEntry = (Member<u32>, Member<Description<PortableForm>>);
 
-    fn from_token(
-        alloc: Global,
-        token: Token<'_>,
-        reader: &mut Reader<'_>,
-        depth: usize,
-    ) -> Result<Option<Description<PortableForm>>, Stop> {
-        read_object::<FoundDescription, Description<PortableForm>>(alloc, token, reader, depth)
-    }
-}
+impl JsonObject for PortableType {
+    type Found = FoundEntry;
 
-impl Found<PortableType> for (Member<u32>, Member<Description<PortableForm>>) {
     ghost meant = { MeansEntry };
 
-    ghost holds = { HoldsTwo (codes "id") (codes "type") (MeansNumber (2 ^ 32)) MeansDescription };
+    ghost holds = { HoldsBoth
+        (HoldsOne (codes "id") (MeansNumber (2 ^ 32)))
+        (HoldsOne (codes "type") MeansDescription) };
 
-    fn nothing() -> (Member<u32>, Member<Description<PortableForm>>) {
-        (Member::Missing, Member::Missing)
+    fn keys() -> (&'static str, &'static str) {
+        ("id", "type")
     }
 
-    fn read_member(
-        &mut self,
-        alloc: Global,
-        key: &str,
-        reader: &mut Reader<'_>,
-        depth: usize,
-    ) -> Result<(), Stop> {
-        read_of_two(self, "id", "type", alloc, key, reader, depth)
-    }
-
-    fn finish(self, _alloc: Global) -> Option<PortableType> {
-        let id = required(self.0)?;
-        let ty = required(self.1)?;
+    fn finish(found: FoundEntry, _alloc: Global) -> Option<PortableType> {
+        let id = required(found.0)?;
+        let ty = required(found.1)?;
         Some(PortableType { id, ty })
     }
 
     ghost only_objects = { λ tree v m. m.object };
-}
-
-impl JsonText for PortableType {
-    ghost meant = { MeansEntry };
-
-    fn from_token(
-        alloc: Global,
-        token: Token<'_>,
-        reader: &mut Reader<'_>,
-        depth: usize,
-    ) -> Result<Option<PortableType>, Stop> {
-        read_object::<(Member<u32>, Member<Description<PortableForm>>), PortableType>(
-            alloc, token, reader, depth,
-        )
-    }
 }

@@ -1,13 +1,11 @@
 //! Variants of a text.
-ghost use Rattle.scale_info_json_trees.specs.PartTrees.{MeansVariant};
-ghost use Rattle.scale_info_json_text.specs.Fields.{HoldsVariant};
+ghost use Rattle.std.specs.Prelude.{codes};
+ghost use Rattle.scale_info_json_trees.specs.Meaning.{MeansList, MeansNumber, MeansText};
+ghost use Rattle.scale_info_json_trees.specs.PartTrees.{MeansField, MeansVariant};
+ghost use Rattle.scale_info_json_text.specs.Members.{HoldsBoth, HoldsOne};
 
-use crate::json_text::JsonText;
-use crate::member::{Member, list_or_empty, read_under, required};
-use crate::object::{Found, read_object};
-use crate::pass::pass_value;
-use crate::stop::Stop;
-use json::{Reader, Token};
+use crate::member::{Member, list_or_empty, required};
+use crate::object::JsonObject;
 use scale_info_collections::items::Items;
 use scale_info_collections::text::Text;
 use scale_info_types::form::PortableForm;
@@ -15,50 +13,35 @@ use scale_info_types::ty::fields::Field;
 use scale_info_types::ty::variant::Variant;
 use std::alloc::Global;
 
-/// What was read of a variant.
-#[derive(Drop)]
-pub struct FoundVariant {
-    name: Member<Text>,
-    fields: Member<Items<Field<PortableForm>>>,
-    index: Member<u8>,
-    docs: Member<Items<Text>>,
-}
+/// What was read of a variant: its name and its fields, its index and its documentation.
+type FoundVariant = (
+    (Member<Text>, Member<Items<Field<PortableForm>>>),
+    (Member<u8>, Member<Items<Text>>),
+);
 
-impl Found<Variant<PortableForm>> for FoundVariant {
+impl JsonObject for Variant<PortableForm> {
+    type Found = FoundVariant;
+
     ghost meant = { MeansVariant };
 
-    ghost holds = { HoldsVariant };
+    ghost holds = { HoldsBoth
+        (HoldsBoth
+        (HoldsOne (codes "name") MeansText)
+        (HoldsOne (codes "fields") (MeansList MeansField)))
+        (HoldsBoth
+        (HoldsOne (codes "index") (MeansNumber 256))
+        (HoldsOne (codes "docs") (MeansList MeansText))) };
 
-    fn nothing() -> FoundVariant {
-        FoundVariant {
-            name: Member::Missing,
-            fields: Member::Missing,
-            index: Member::Missing,
-            docs: Member::Missing,
-        }
+    fn keys() -> ((&'static str, &'static str), (&'static str, &'static str)) {
+        (("name", "fields"), ("index", "docs"))
     }
 
-    fn read_member(
-        &mut self,
-        alloc: Global,
-        key: &str,
-        reader: &mut Reader<'_>,
-        depth: usize,
-    ) -> Result<(), Stop> {
-        match key {
-            "name" => read_under(&mut self.name, alloc, reader, depth),
-            "fields" => read_under(&mut self.fields, alloc, reader, depth),
-            "index" => read_under(&mut self.index, alloc, reader, depth),
-            "docs" => read_under(&mut self.docs, alloc, reader, depth),
-            _ => pass_value(reader, depth),
-        }
-    }
-
-    fn finish(self, alloc: Global) -> Option<Variant<PortableForm>> {
-        let name = required(self.name)?;
-        let fields = list_or_empty(alloc, self.fields)?;
-        let index = required(self.index)?;
-        let docs = list_or_empty(alloc, self.docs)?;
+    fn finish(found: FoundVariant, alloc: Global) -> Option<Variant<PortableForm>> {
+        let ((name, fields), (index, docs)) = found;
+        let name = required(name)?;
+        let fields = list_or_empty(alloc, fields)?;
+        let index = required(index)?;
+        let docs = list_or_empty(alloc, docs)?;
         Some(Variant {
             name,
             fields,
@@ -68,17 +51,4 @@ impl Found<Variant<PortableForm>> for FoundVariant {
     }
 
     ghost only_objects = { λ tree v m. m.object };
-}
-
-impl JsonText for Variant<PortableForm> {
-    ghost meant = { MeansVariant };
-
-    fn from_token(
-        alloc: Global,
-        token: Token<'_>,
-        reader: &mut Reader<'_>,
-        depth: usize,
-    ) -> Result<Option<Variant<PortableForm>>, Stop> {
-        read_object::<FoundVariant, Variant<PortableForm>>(alloc, token, reader, depth)
-    }
 }
