@@ -6,7 +6,6 @@ use Rattle.std.proofs.lemmas.Map.Text.{is_eq-slice_cmp}
 use Rattle.std.proofs.lemmas.Slice.Eq.{bytes_eq-Decides}
 use Rattle.std.specs.Cmp.Lexicographic.{slice_cmp}
 use Rattle.std.specs.Ordering.{nat_cmp, match_ordering, is_eq}
-use Rattle.std.specs.Prelude.{MatchOption, IsSomeAnd}
 use Rattle.json.specs.Token.{Token}
 use Rattle.serde_json.specs.Data.{Data, Members, no_members, member, put, object}
 use Rattle.scale_info_types.specs.Portable as portable
@@ -14,7 +13,7 @@ use Rattle.scale_info_json_trees.specs.Meaning.{IsMeaningless}
 use Rattle.scale_info_json_trees.specs.DefinitionTrees.{MeansTypeDef, MeansUnder}
 use Rattle.scale_info_json_text.specs.declared.definition.FoundDefinition.{FoundDefinition}
 use Rattle.scale_info_json_text.specs.declared.definition.FoundDefinition.TheVariants as found
-use Rattle.scale_info_json_text.specs.Definitions.{IsUnknown, IsOne, AreRefused, HoldsDefinition}
+use Rattle.scale_info_json_text.specs.Definitions.{IsUnknown, IsOne, AreRefused, HoldsDefinition, MeansFrom}
 use Rattle.scale_info_json_text.specs.Readings.{IsMeant, Reads}
 use Rattle.scale_info_json_text.proofs.Trees.{reads_weaker}
 
@@ -148,23 +147,17 @@ none_is_meant (found.One k v) ms (inl e) h = absurd cc
 none_is_meant (found.One k v) ms (inr e) h = absurd cc
 none_is_meant found.Refused ms e h = refused_keys ms h
 
--- a tree that means a definition's part under its key means the definition
+-- where a definition is made of the part that a tree means, the tree means it under the kind's key
 pub kind_read :
-    {A : Type 0} {M : Data → A → Type 0} {wrap : A → portable.TypeDef} (kind : List ℕ)
-    → ((t : Data) (a : A) → M t a → MeansUnder kind t (wrap a))
-    → ((t : Data) (d : portable.TypeDef) → MeansUnder kind t d → (a : A) × M t a)
-    → (key : List ℕ) → key ≡ kind → (part : Option A) (def : Option portable.TypeDef)
-    → MatchOption part (def ≡ None) (λ a. IsSomeAnd def (λ d. d ≡ wrap a))
-    → (depth : ℕ) (ts r : List Token) → Reads (λ tree. IsMeant (M tree) part) depth ts r
+    {A : Type 0} {M : Data → A → Type 0} {makes : A → portable.TypeDef → Type 0} (kind : List ℕ)
+    → ((t : Data) (d : portable.TypeDef) → MeansFrom M makes t d → MeansUnder kind t d)
+    → ((t : Data) (d : portable.TypeDef) → MeansUnder kind t d → MeansFrom M makes t d)
+    → (key : List ℕ) → key ≡ kind → (depth : ℕ) (ts r : List Token) (def : Option portable.TypeDef)
+    → Reads (λ tree. IsMeant (MeansFrom M makes tree) def) depth ts r
     → Reads (λ tree. IsMeant (MeansUnder key tree) def) depth ts r
-kind_read {M = M} kind to from key e None def is depth ts r h =
-    reads_weaker (λ tree p. subst (λ x. IsMeant (MeansUnder key tree) x) (sym is) (record {
-      none = λ v m.
-          let q = from tree v (subst (λ x. MeansUnder x tree v) e m) in
-          p.none q.0 q.1;
-    })) h
-kind_read kind to from key e (Some a) None is depth ts r h = absurd is
-kind_read kind to from key e (Some a) (Some d) is depth ts r h =
-    reads_weaker (λ tree p.
-    subst (λ x. MeansUnder x tree d) (sym e)
-    (subst (λ x. MeansUnder kind tree x) (sym is) (to tree a p))) h
+kind_read kind to from key e depth ts r None h =
+    reads_weaker (λ tree p. record {
+      none = λ d m. p.none d (from tree d (subst (λ x. MeansUnder x tree d) e m));
+    }) h
+kind_read kind to from key e depth ts r (Some d) h =
+    reads_weaker (λ tree p. subst (λ x. MeansUnder x tree d) (sym e) (to tree d p)) h

@@ -1,6 +1,6 @@
 -- What an error that is passed on by `?` says.
 use Rattle.std.proofs.Common.{◌≡◌, Result, Ok, Err, sym, subst}
-use Rattle.core.proofs.result.Match.{err_is}
+use Rattle.std.proofs.lemmas.Result.{err_from_is_err_and}
 use Rattle.std.specs.Prelude.{IfErr}
 use Rattle.std.specs.Result.{IsErrAnd}
 use Rattle.scale_info_json_text.specs.declared.stop.Stop.{Stop}
@@ -20,7 +20,9 @@ pub passed_syntax :
     {A : Type 0} {P Q : Type 0} (r : Result A Stop) (e : Stop) → IsErrAnd r (λ d. d ≡ e)
     → (P → Q) → IfSyntax P e → IfErr r (IfSyntax Q)
 passed_syntax {P = P} r e h f p =
-    syntax_weaker r f (subst (λ x. IfErr x (IfSyntax P)) (sym (err_is r e h)) p)
+    let d = err_from_is_err_and r h in
+    let same = subst (λ y. IfSyntax P y) (sym d.2) p in
+    syntax_weaker r f (subst (λ x. IfErr x (IfSyntax P)) (sym d.1) same)
 
 -- what is so anyway is so where the text is no JSON
 pub syntax_anyway : {A : Type 0} {P : Type 0} (r : Result A Stop) → P → IfErr r (IfSyntax P)

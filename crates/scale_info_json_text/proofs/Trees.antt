@@ -24,6 +24,13 @@ pub reads_weaker :
     → Reads P depth ts r → Reads Q depth ts r
 reads_weaker f h = record { tree = h.tree; begins = h.begins; is = f h.tree h.is }
 
+-- what is said of a value that is read from equal tokens may be weakened
+pub reads_from :
+    {P Q : Data → Type 0} {depth : ℕ} {ts us r : List Token} → ts ≡ us
+    → ((tree : Data) → P tree → Q tree) → Reads P depth ts r → Reads Q depth us r
+reads_from {P = P} {depth = depth} {r = r} e f h =
+    reads_weaker f (subst (λ x. Reads P depth x r) e h)
+
 -- a value takes at least one token
 pub reads_shorter :
     {P : Data → Type 0} (depth : ℕ) (ts r : List Token) → Reads P depth ts r → length r < length ts

@@ -8,6 +8,11 @@ use Rattle.scale_info_json_text.specs.declared.definition.FoundDefinition.{Found
 use Rattle.scale_info_json_text.specs.declared.definition.FoundDefinition.TheVariants as found
 use Rattle.scale_info_json_text.specs.Readings.{IsMeant}
 
+-- the tree means a value of which this one is made
+abbrev pub MeansFrom :
+    {A B : Type 0} → (Data → A → Type 0) → (A → B → Type 0) → Data → B → Type 0
+MeansFrom {A} {B} M makes tree made = (v : A) × M tree v × makes v made
+
 -- the key names no kind of definitions
 abbrev pub IsUnknown : List ℕ → Type 0
 IsUnknown key = (tree : Data) → IsMeaningless (MeansUnder key tree)

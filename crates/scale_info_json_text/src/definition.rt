@@ -2,18 +2,24 @@
 ghost use Rattle.std.specs.Prelude.{◌≡◌, IfOk, IfErr, IfSome, IfNone};
 ghost use Rattle.serde_json.specs.Data.{Data, Members, put};
 ghost use Rattle.scale_info_json_trees.specs.DefinitionTrees.{MeansTypeDef, MeansUnder};
-ghost use Rattle.scale_info_json_text.specs.Definitions.{HoldsDefinition, IsUnknown};
+ghost use Rattle.scale_info_json_text.specs.Definitions.{HoldsDefinition, IsUnknown, MeansFrom};
 ghost use Rattle.scale_info_json_text.specs.Definitions.{only_object_is_definition};
 ghost use Rattle.scale_info_json_text.specs.Readings.{IfSyntax, IsMeant, Reads, HasNoTree};
 
 use crate::found::Found;
-use crate::json_text::read_value;
-use crate::object::JsonObject;
+use crate::json_text::{JsonText, read_value};
+use crate::object::{JsonObject, read_object};
 use crate::pass::pass_value;
 use crate::source::{Reading, Source};
 use crate::stop::Stop;
+use json::Token;
 use scale_info_types::form::PortableForm;
-use scale_info_types::ty::TypeDef;
+use scale_info_types::ty::composite::TypeDefComposite;
+use scale_info_types::ty::variant::TypeDefVariant;
+use scale_info_types::ty::{
+    TypeDef, TypeDefArray, TypeDefBitSequence, TypeDefCompact, TypeDefMap, TypeDefPrimitive,
+    TypeDefSequence, TypeDefTuple,
+};
 use std::alloc::Global;
 
 /// What was read of a definition.
@@ -46,6 +52,23 @@ fn known_key(key: &str) -> Option<&'static str>
     }
 }
 
+/// Reads the definition that is made of the part which comes next; None where the tree means none.
+///
+/// Errors: `Syntax`, where no tree's text comes next; `Memory`, if an allocation failed.
+fn read_kind<T: JsonText + Into<TypeDef<PortableForm>>>(
+    source: &mut Source<'_>,
+    depth: usize,
+) -> Reading<TypeDef<PortableForm>>
+    ensures ok { IfOk result (λ found. Reads (λ tree. IsMeant (MeansFrom T.meant T.converts tree) found)
+        depth source.old.reader source.new.reader) }
+    ensures syntax { IfErr result (IfSyntax (HasNoTree depth source.old.reader)) }
+{
+    match read_value::<T>(source, depth)? {
+        Some(part) => Ok(Some(part.into())),
+        None => Ok(None),
+    }
+}
+
 /// Reads the definition that a key and the tree which comes next mean; None where they mean none.
 ///
 /// Errors: `Syntax`, where no tree's text comes next; `Memory`, if an allocation failed.
@@ -59,15 +82,15 @@ fn read_definition(
     ensures syntax { IfErr result (IfSyntax (HasNoTree depth source.old.reader)) }
 {
     match key {
-        "composite" => Ok(read_value(source, depth)?.map(TypeDef::Composite)),
-        "variant" => Ok(read_value(source, depth)?.map(TypeDef::Variant)),
-        "sequence" => Ok(read_value(source, depth)?.map(TypeDef::Sequence)),
-        "array" => Ok(read_value(source, depth)?.map(TypeDef::Array)),
-        "tuple" => Ok(read_value(source, depth)?.map(TypeDef::Tuple)),
-        "primitive" => Ok(read_value(source, depth)?.map(TypeDef::Primitive)),
-        "compact" => Ok(read_value(source, depth)?.map(TypeDef::Compact)),
-        "bitsequence" => Ok(read_value(source, depth)?.map(TypeDef::BitSequence)),
-        "map" => Ok(read_value(source, depth)?.map(TypeDef::Map)),
+        "composite" => read_kind::<TypeDefComposite<PortableForm>>(source, depth),
+        "variant" => read_kind::<TypeDefVariant<PortableForm>>(source, depth),
+        "sequence" => read_kind::<TypeDefSequence<PortableForm>>(source, depth),
+        "array" => read_kind::<TypeDefArray<PortableForm>>(source, depth),
+        "tuple" => read_kind::<TypeDefTuple<PortableForm>>(source, depth),
+        "primitive" => read_kind::<TypeDefPrimitive>(source, depth),
+        "compact" => read_kind::<TypeDefCompact<PortableForm>>(source, depth),
+        "bitsequence" => read_kind::<TypeDefBitSequence<PortableForm>>(source, depth),
+        "map" => read_kind::<TypeDefMap<PortableForm>>(source, depth),
         _ => {
             pass_value(&mut source.reader, depth)?;
             Ok(None)
@@ -131,14 +154,12 @@ impl Found for FoundDefinition {
     ghost others = { λ keys found ms key tree other h. absurd (other tt) };
 }
 
-impl JsonObject for TypeDef<PortableForm> {
-    type Found = FoundDefinition;
-
+impl JsonObject<FoundDefinition> for TypeDef<PortableForm> {
     ghost meant = { MeansTypeDef };
 
     ghost holds = { HoldsDefinition };
 
-    fn keys() {}
+    ghost only_objects = { only_object_is_definition };
 
     fn finish(found: FoundDefinition, _alloc: Global) -> Option<TypeDef<PortableForm>> {
         match found {
@@ -146,6 +167,12 @@ impl JsonObject for TypeDef<PortableForm> {
             FoundDefinition::Nothing | FoundDefinition::Refused => None,
         }
     }
+}
 
-    ghost only_objects = { only_object_is_definition };
+impl JsonText for TypeDef<PortableForm> {
+    ghost meant = { MeansTypeDef };
+
+    fn from_token(token: Token<'_>, source: &mut Source<'_>, depth: usize) -> Reading<Self> {
+        read_object::<FoundDefinition, Self>((), token, source, depth)
+    }
 }

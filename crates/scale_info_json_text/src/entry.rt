@@ -6,8 +6,11 @@ ghost use Rattle.scale_info_json_trees.specs.Meaning.{MeansList, MeansNumber, Me
 ghost use Rattle.scale_info_json_trees.specs.PartTrees.{MeansParameter};
 ghost use Rattle.scale_info_json_text.specs.Members.{HoldsBoth, HoldsOne};
 
+use crate::json_text::JsonText;
 use crate::member::{Member, list_or_empty, required};
-use crate::object::JsonObject;
+use crate::object::{JsonObject, read_object};
+use crate::source::{Reading, Source};
+use json::Token;
 use scale_info_collections::items::Items;
 use scale_info_collections::text::Text;
 use scale_info_types::form::PortableForm;
@@ -25,9 +28,10 @@ type FoundDescription = (
     (Member<TypeDef<PortableForm>>, Member<Items<Text>>),
 );
 
-impl JsonObject for Description<PortableForm> {
-    type Found = FoundDescription;
+/// The keys of a description.
+const KEYS: ((&str, &str), (&str, &str)) = (("path", "params"), ("def", "docs"));
 
+impl JsonObject<FoundDescription> for Description<PortableForm> {
     ghost meant = { MeansDescription };
 
     ghost holds = { HoldsBoth
@@ -38,9 +42,7 @@ impl JsonObject for Description<PortableForm> {
         (HoldsOne (codes "def") MeansTypeDef)
         (HoldsOne (codes "docs") (MeansList MeansText))) };
 
-    fn keys() -> ((&'static str, &'static str), (&'static str, &'static str)) {
-        (("path", "params"), ("def", "docs"))
-    }
+    ghost only_objects = { λ tree v m. m.object };
 
     fn finish(found: FoundDescription, alloc: Global) -> Option<Description<PortableForm>> {
         let ((path, type_params), (type_def, docs)) = found;
@@ -55,31 +57,39 @@ impl JsonObject for Description<PortableForm> {
             docs,
         })
     }
+}
 
-    ghost only_objects = { λ tree v m. m.object };
+impl JsonText for Description<PortableForm> {
+    ghost meant = { MeansDescription };
+
+    fn from_token(token: Token<'_>, source: &mut Source<'_>, depth: usize) -> Reading<Self> {
+        read_object::<FoundDescription, Self>(KEYS, token, source, depth)
+    }
 }
 
 /// What was read of an entry: its id and its type.
 type FoundEntry = (Member<u32>, Member<Description<PortableForm>>);
 
-impl JsonObject for PortableType {
-    type Found = FoundEntry;
-
+impl JsonObject<FoundEntry> for PortableType {
     ghost meant = { MeansEntry };
 
     ghost holds = { HoldsBoth
         (HoldsOne (codes "id") (MeansNumber (2 ^ 32)))
         (HoldsOne (codes "type") MeansDescription) };
 
-    fn keys() -> (&'static str, &'static str) {
-        ("id", "type")
-    }
+    ghost only_objects = { λ tree v m. m.object };
 
     fn finish(found: FoundEntry, _alloc: Global) -> Option<PortableType> {
         let id = required(found.0)?;
         let ty = required(found.1)?;
         Some(PortableType { id, ty })
     }
+}
 
-    ghost only_objects = { λ tree v m. m.object };
+impl JsonText for PortableType {
+    ghost meant = { MeansEntry };
+
+    fn from_token(token: Token<'_>, source: &mut Source<'_>, depth: usize) -> Reading<Self> {
+        read_object::<FoundEntry, Self>(("id", "type"), token, source, depth)
+    }
 }

@@ -4,8 +4,11 @@ ghost use Rattle.scale_info_json_trees.specs.Meaning.{MeansList, MeansOrNull, Me
 ghost use Rattle.scale_info_json_trees.specs.PartTrees.{MeansField, MeansId, MeansParameter};
 ghost use Rattle.scale_info_json_text.specs.Members.{HoldsBoth, HoldsOne};
 
+use crate::json_text::JsonText;
 use crate::member::{Member, list_or_empty, required, value_or_none};
-use crate::object::JsonObject;
+use crate::object::{JsonObject, read_object};
+use crate::source::{Reading, Source};
+use json::Token;
 use scale_info_collections::items::Items;
 use scale_info_collections::text::Text;
 use scale_info_identities::symbol::UntrackedSymbol;
@@ -18,26 +21,28 @@ use std::alloc::Global;
 /// What was read of a parameter: its name and its type.
 type FoundParameter = (Member<Text>, Member<Option<UntrackedSymbol<TypeId>>>);
 
-impl JsonObject for TypeParameter<PortableForm> {
-    type Found = FoundParameter;
-
+impl JsonObject<FoundParameter> for TypeParameter<PortableForm> {
     ghost meant = { MeansParameter };
 
     ghost holds = { HoldsBoth
         (HoldsOne (codes "name") MeansText)
         (HoldsOne (codes "type") (MeansOrNull MeansId)) };
 
-    fn keys() -> (&'static str, &'static str) {
-        ("name", "type")
-    }
+    ghost only_objects = { λ tree v m. m.object };
 
     fn finish(found: FoundParameter, _alloc: Global) -> Option<TypeParameter<PortableForm>> {
         let name = required(found.0)?;
         let ty = value_or_none(found.1)?;
         Some(TypeParameter { name, ty })
     }
+}
 
-    ghost only_objects = { λ tree v m. m.object };
+impl JsonText for TypeParameter<PortableForm> {
+    ghost meant = { MeansParameter };
+
+    fn from_token(token: Token<'_>, source: &mut Source<'_>, depth: usize) -> Reading<Self> {
+        read_object::<FoundParameter, Self>(("name", "type"), token, source, depth)
+    }
 }
 
 /// What was read of a field: its documentation and its name, its type and the type's name.
@@ -46,9 +51,10 @@ type FoundField = (
     (Member<UntrackedSymbol<TypeId>>, Member<Option<Text>>),
 );
 
-impl JsonObject for Field<PortableForm> {
-    type Found = FoundField;
+/// The keys of a field.
+const KEYS: ((&str, &str), (&str, &str)) = (("docs", "name"), ("type", "typeName"));
 
+impl JsonObject<FoundField> for Field<PortableForm> {
     ghost meant = { MeansField };
 
     ghost holds = { HoldsBoth
@@ -59,9 +65,7 @@ impl JsonObject for Field<PortableForm> {
         (HoldsOne (codes "type") MeansId)
         (HoldsOne (codes "typeName") (MeansOrNull MeansText))) };
 
-    fn keys() -> ((&'static str, &'static str), (&'static str, &'static str)) {
-        (("docs", "name"), ("type", "typeName"))
-    }
+    ghost only_objects = { λ tree v m. m.object };
 
     fn finish(found: FoundField, alloc: Global) -> Option<Field<PortableForm>> {
         let ((docs, name), (ty, type_name)) = found;
@@ -76,6 +80,12 @@ impl JsonObject for Field<PortableForm> {
             docs,
         })
     }
+}
 
-    ghost only_objects = { λ tree v m. m.object };
+impl JsonText for Field<PortableForm> {
+    ghost meant = { MeansField };
+
+    fn from_token(token: Token<'_>, source: &mut Source<'_>, depth: usize) -> Reading<Self> {
+        read_object::<FoundField, Self>(KEYS, token, source, depth)
+    }
 }

@@ -1,4 +1,5 @@
 //! What is read of the members of an object, in the order of the text.
+ghost use Rattle.std.proofs.Common.{inl, inr};
 ghost use Rattle.std.specs.Prelude.{◌≡◌, ◌⊎◌, List, ℕ, OnOk, IfOk, IfErr, true, false};
 ghost use Rattle.serde_json.specs.Data.{Data, Members, no_members, put};
 ghost use Rattle.scale_info_json_text.specs.Members.{AreApart, HoldsBoth, ReadsInto};

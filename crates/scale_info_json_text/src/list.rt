@@ -51,7 +51,7 @@ fn with_item<T: Drop>(
 impl<T: JsonText> JsonText for Items<T> {
     ghost meant = { MeansList T.meant };
 
-    fn from_token(token: Token<'_>, source: &mut Source<'_>, depth: usize) -> Reading<Items<T>> {
+    fn from_token(token: Token<'_>, source: &mut Source<'_>, depth: usize) -> Reading<Self> {
         if let Token::BeginArray = token {
             if depth == 0 {
                 return Err(Stop::Syntax);

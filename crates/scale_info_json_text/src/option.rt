@@ -9,7 +9,7 @@ use json::Token;
 impl<T: JsonText> JsonText for Option<T> {
     ghost meant = { MeansOrNull T.meant };
 
-    fn from_token(token: Token<'_>, source: &mut Source<'_>, depth: usize) -> Reading<Option<T>> {
+    fn from_token(token: Token<'_>, source: &mut Source<'_>, depth: usize) -> Reading<Self> {
         if let Token::Null = token {
             return Ok(Some(None));
         }

@@ -10,7 +10,7 @@ ghost use Rattle.scale_info_json_text.specs.Members.{HoldsBoth, HoldsOne};
 
 use crate::json_text::JsonText;
 use crate::member::{Member, list_or_empty, required};
-use crate::object::JsonObject;
+use crate::object::{JsonObject, read_object};
 use crate::source::{Reading, Source};
 use json::Token;
 use scale_info_collections::items::Items;
@@ -28,16 +28,12 @@ use std::alloc::Global;
 /// What was read under a key that has an id.
 type FoundId = Member<UntrackedSymbol<TypeId>>;
 
-impl JsonObject for TypeDefComposite<PortableForm> {
-    type Found = Member<Items<Field<PortableForm>>>;
-
+impl JsonObject<Member<Items<Field<PortableForm>>>> for TypeDefComposite<PortableForm> {
     ghost meant = { MeansComposite };
 
     ghost holds = { HoldsOne (codes "fields") (MeansList MeansField) };
 
-    fn keys() -> &'static str {
-        "fields"
-    }
+    ghost only_objects = { λ tree v m. m.object };
 
     fn finish(
         found: Member<Items<Field<PortableForm>>>,
@@ -46,20 +42,22 @@ impl JsonObject for TypeDefComposite<PortableForm> {
         let fields = list_or_empty(alloc, found)?;
         Some(TypeDefComposite { fields })
     }
-
-    ghost only_objects = { λ tree v m. m.object };
 }
 
-impl JsonObject for TypeDefVariant<PortableForm> {
-    type Found = Member<Items<Variant<PortableForm>>>;
+impl JsonText for TypeDefComposite<PortableForm> {
+    ghost meant = { MeansComposite };
 
+    fn from_token(token: Token<'_>, source: &mut Source<'_>, depth: usize) -> Reading<Self> {
+        read_object::<Member<Items<Field<PortableForm>>>, Self>("fields", token, source, depth)
+    }
+}
+
+impl JsonObject<Member<Items<Variant<PortableForm>>>> for TypeDefVariant<PortableForm> {
     ghost meant = { MeansVariantType };
 
     ghost holds = { HoldsOne (codes "variants") (MeansList MeansVariant) };
 
-    fn keys() -> &'static str {
-        "variants"
-    }
+    ghost only_objects = { λ tree v m. m.object };
 
     fn finish(
         found: Member<Items<Variant<PortableForm>>>,
@@ -68,58 +66,64 @@ impl JsonObject for TypeDefVariant<PortableForm> {
         let variants = list_or_empty(alloc, found)?;
         Some(TypeDefVariant { variants })
     }
-
-    ghost only_objects = { λ tree v m. m.object };
 }
 
-impl JsonObject for TypeDefSequence<PortableForm> {
-    type Found = FoundId;
+impl JsonText for TypeDefVariant<PortableForm> {
+    ghost meant = { MeansVariantType };
 
+    fn from_token(token: Token<'_>, source: &mut Source<'_>, depth: usize) -> Reading<Self> {
+        read_object::<Member<Items<Variant<PortableForm>>>, Self>("variants", token, source, depth)
+    }
+}
+
+impl JsonObject<FoundId> for TypeDefSequence<PortableForm> {
     ghost meant = { MeansSequence };
 
     ghost holds = { HoldsOne (codes "type") MeansId };
 
-    fn keys() -> &'static str {
-        "type"
-    }
+    ghost only_objects = { λ tree v m. m.object };
 
     fn finish(found: FoundId, _alloc: Global) -> Option<TypeDefSequence<PortableForm>> {
         Some(TypeDefSequence::new(required(found)?))
     }
-
-    ghost only_objects = { λ tree v m. m.object };
 }
 
-impl JsonObject for TypeDefArray<PortableForm> {
-    type Found = (Member<u32>, FoundId);
+impl JsonText for TypeDefSequence<PortableForm> {
+    ghost meant = { MeansSequence };
 
+    fn from_token(token: Token<'_>, source: &mut Source<'_>, depth: usize) -> Reading<Self> {
+        read_object::<FoundId, Self>("type", token, source, depth)
+    }
+}
+
+impl JsonObject<(Member<u32>, FoundId)> for TypeDefArray<PortableForm> {
     ghost meant = { MeansArray };
 
     ghost holds = { HoldsBoth
         (HoldsOne (codes "len") (MeansNumber (2 ^ 32)))
         (HoldsOne (codes "type") MeansId) };
 
-    fn keys() -> (&'static str, &'static str) {
-        ("len", "type")
-    }
+    ghost only_objects = { λ tree v m. m.object };
 
     fn finish(found: (Member<u32>, FoundId), _alloc: Global) -> Option<TypeDefArray<PortableForm>> {
         let len = required(found.0)?;
         let type_param = required(found.1)?;
         Some(TypeDefArray::new(len, type_param))
     }
+}
 
-    ghost only_objects = { λ tree v m. m.object };
+impl JsonText for TypeDefArray<PortableForm> {
+    ghost meant = { MeansArray };
+
+    fn from_token(token: Token<'_>, source: &mut Source<'_>, depth: usize) -> Reading<Self> {
+        read_object::<(Member<u32>, FoundId), Self>(("len", "type"), token, source, depth)
+    }
 }
 
 impl JsonText for TypeDefTuple<PortableForm> {
     ghost meant = { λ tree v. MeansList MeansId tree v.fields };
 
-    fn from_token(
-        token: Token<'_>,
-        source: &mut Source<'_>,
-        depth: usize,
-    ) -> Reading<TypeDefTuple<PortableForm>> {
+    fn from_token(token: Token<'_>, source: &mut Source<'_>, depth: usize) -> Reading<Self> {
         let fields: Option<Items<UntrackedSymbol<TypeId>>> = Items::from_token(
             token, source, depth,
         )?;
@@ -130,36 +134,34 @@ impl JsonText for TypeDefTuple<PortableForm> {
     }
 }
 
-impl JsonObject for TypeDefCompact<PortableForm> {
-    type Found = FoundId;
-
+impl JsonObject<FoundId> for TypeDefCompact<PortableForm> {
     ghost meant = { MeansCompact };
 
     ghost holds = { HoldsOne (codes "type") MeansId };
 
-    fn keys() -> &'static str {
-        "type"
-    }
+    ghost only_objects = { λ tree v m. m.object };
 
     fn finish(found: FoundId, _alloc: Global) -> Option<TypeDefCompact<PortableForm>> {
         Some(TypeDefCompact::new(required(found)?))
     }
-
-    ghost only_objects = { λ tree v m. m.object };
 }
 
-impl JsonObject for TypeDefBitSequence<PortableForm> {
-    type Found = (FoundId, FoundId);
+impl JsonText for TypeDefCompact<PortableForm> {
+    ghost meant = { MeansCompact };
 
+    fn from_token(token: Token<'_>, source: &mut Source<'_>, depth: usize) -> Reading<Self> {
+        read_object::<FoundId, Self>("type", token, source, depth)
+    }
+}
+
+impl JsonObject<(FoundId, FoundId)> for TypeDefBitSequence<PortableForm> {
     ghost meant = { MeansBitSequence };
 
     ghost holds = { HoldsBoth
         (HoldsOne (codes "bit_store_type") MeansId)
         (HoldsOne (codes "bit_order_type") MeansId) };
 
-    fn keys() -> (&'static str, &'static str) {
-        ("bit_store_type", "bit_order_type")
-    }
+    ghost only_objects = { λ tree v m. m.object };
 
     fn finish(
         found: (FoundId, FoundId),
@@ -169,28 +171,41 @@ impl JsonObject for TypeDefBitSequence<PortableForm> {
         let order = required(found.1)?;
         Some(TypeDefBitSequence::new_portable(store, order))
     }
-
-    ghost only_objects = { λ tree v m. m.object };
 }
 
-impl JsonObject for TypeDefMap<PortableForm> {
-    type Found = (FoundId, FoundId);
+impl JsonText for TypeDefBitSequence<PortableForm> {
+    ghost meant = { MeansBitSequence };
 
+    fn from_token(token: Token<'_>, source: &mut Source<'_>, depth: usize) -> Reading<Self> {
+        read_object::<(FoundId, FoundId), Self>(
+            ("bit_store_type", "bit_order_type"),
+            token,
+            source,
+            depth,
+        )
+    }
+}
+
+impl JsonObject<(FoundId, FoundId)> for TypeDefMap<PortableForm> {
     ghost meant = { MeansMap };
 
     ghost holds = { HoldsBoth
         (HoldsOne (codes "key") MeansId)
         (HoldsOne (codes "value") MeansId) };
 
-    fn keys() -> (&'static str, &'static str) {
-        ("key", "value")
-    }
+    ghost only_objects = { λ tree v m. m.object };
 
     fn finish(found: (FoundId, FoundId), _alloc: Global) -> Option<TypeDefMap<PortableForm>> {
         let key = required(found.0)?;
         let value = required(found.1)?;
         Some(TypeDefMap::new(key, value))
     }
+}
 
-    ghost only_objects = { λ tree v m. m.object };
+impl JsonText for TypeDefMap<PortableForm> {
+    ghost meant = { MeansMap };
+
+    fn from_token(token: Token<'_>, source: &mut Source<'_>, depth: usize) -> Reading<Self> {
+        read_object::<(FoundId, FoundId), Self>(("key", "value"), token, source, depth)
+    }
 }

@@ -10,12 +10,12 @@ ghost use Rattle.scale_info_json_text.specs.Readings.{IfSyntax, IsMeant};
 ghost use Rattle.scale_info_json_text.specs.TextTables.{TextMeans, IsErrorOf};
 
 use crate::error::JsonTextError;
-use crate::json_text::read_value;
+use crate::json_text::{JsonText, read_value};
 use crate::member::{Member, required};
-use crate::object::JsonObject;
+use crate::object::{JsonObject, read_object};
 use crate::source::{Reading, Source};
 use crate::stop::Stop;
-use json::{Reader, Scratch};
+use json::{Reader, Scratch, Token};
 use scale_info_collections::items::Items;
 use scale_info_tables::portable::PortableRegistry;
 use scale_info_types::ty::PortableType;
@@ -24,23 +24,25 @@ use std::alloc::Global;
 /// How deep arrays and objects may nest in a text, as in one that `serde_json` reads.
 const MAX_DEPTH: usize = 127;
 
-impl JsonObject for PortableRegistry {
-    type Found = Member<Items<PortableType>>;
-
+impl JsonObject<Member<Items<PortableType>>> for PortableRegistry {
     ghost meant = { MeansTable };
 
     ghost holds = { HoldsOne (codes "types") (MeansList MeansEntry) };
 
-    fn keys() -> &'static str {
-        "types"
-    }
+    ghost only_objects = { λ tree v m. m.object };
 
     fn finish(found: Member<Items<PortableType>>, _alloc: Global) -> Option<PortableRegistry> {
         let types = required(found)?;
         Some(PortableRegistry { types })
     }
+}
 
-    ghost only_objects = { λ tree v m. m.object };
+impl JsonText for PortableRegistry {
+    ghost meant = { MeansTable };
+
+    fn from_token(token: Token<'_>, source: &mut Source<'_>, depth: usize) -> Reading<Self> {
+        read_object::<Member<Items<PortableType>>, Self>("types", token, source, depth)
+    }
 }
 
 /// Reads the table that a whole text means; None where its tree means none.

@@ -11,11 +11,7 @@ use scale_info_types::ty::TypeDefPrimitive;
 impl JsonText for TypeDefPrimitive {
     ghost meant = { MeansPrimitive };
 
-    fn from_token(
-        token: Token<'_>,
-        source: &mut Source<'_>,
-        depth: usize,
-    ) -> Reading<TypeDefPrimitive> {
+    fn from_token(token: Token<'_>, source: &mut Source<'_>, depth: usize) -> Reading<Self> {
         if let Token::String(name) = token {
             return Ok(primitive_named(name));
         }

@@ -10,7 +10,7 @@ use scale_info_collections::text::Text;
 impl JsonText for Text {
     ghost meant = { MeansText };
 
-    fn from_token(token: Token<'_>, source: &mut Source<'_>, depth: usize) -> Reading<Text> {
+    fn from_token(token: Token<'_>, source: &mut Source<'_>, depth: usize) -> Reading<Self> {
         if let Token::String(text) = token {
             return Ok(Some(Text::from(String::from_str(source.alloc, text)?)));
         }

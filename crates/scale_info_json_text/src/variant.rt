@@ -4,8 +4,11 @@ ghost use Rattle.scale_info_json_trees.specs.Meaning.{MeansList, MeansNumber, Me
 ghost use Rattle.scale_info_json_trees.specs.PartTrees.{MeansField, MeansVariant};
 ghost use Rattle.scale_info_json_text.specs.Members.{HoldsBoth, HoldsOne};
 
+use crate::json_text::JsonText;
 use crate::member::{Member, list_or_empty, required};
-use crate::object::JsonObject;
+use crate::object::{JsonObject, read_object};
+use crate::source::{Reading, Source};
+use json::Token;
 use scale_info_collections::items::Items;
 use scale_info_collections::text::Text;
 use scale_info_types::form::PortableForm;
@@ -19,9 +22,10 @@ type FoundVariant = (
     (Member<u8>, Member<Items<Text>>),
 );
 
-impl JsonObject for Variant<PortableForm> {
-    type Found = FoundVariant;
+/// The keys of a variant.
+const KEYS: ((&str, &str), (&str, &str)) = (("name", "fields"), ("index", "docs"));
 
+impl JsonObject<FoundVariant> for Variant<PortableForm> {
     ghost meant = { MeansVariant };
 
     ghost holds = { HoldsBoth
@@ -32,9 +36,7 @@ impl JsonObject for Variant<PortableForm> {
         (HoldsOne (codes "index") (MeansNumber 256))
         (HoldsOne (codes "docs") (MeansList MeansText))) };
 
-    fn keys() -> ((&'static str, &'static str), (&'static str, &'static str)) {
-        (("name", "fields"), ("index", "docs"))
-    }
+    ghost only_objects = { λ tree v m. m.object };
 
     fn finish(found: FoundVariant, alloc: Global) -> Option<Variant<PortableForm>> {
         let ((name, fields), (index, docs)) = found;
@@ -49,6 +51,12 @@ impl JsonObject for Variant<PortableForm> {
             docs,
         })
     }
+}
 
-    ghost only_objects = { λ tree v m. m.object };
+impl JsonText for Variant<PortableForm> {
+    ghost meant = { MeansVariant };
+
+    fn from_token(token: Token<'_>, source: &mut Source<'_>, depth: usize) -> Reading<Self> {
+        read_object::<FoundVariant, Self>(KEYS, token, source, depth)
+    }
 }

@@ -2,8 +2,11 @@ use Rattle.std.proofs.Common.{◌≡◌, Some, arith}
 use Rattle.json.specs.Json.{read_key}
 use Rattle.json.proofs.Grammar.{read_key-shorter}
 use Rattle.scale_info_json_text.proofs.Stops.{passed_syntax, syntax_anyway}
-use Rattle.scale_info_json_text.proofs.Trees.{reads_shorter, members_next, members_no_key, members_stop, members_done}
+use Rattle.scale_info_json_text.proofs.Trees.{reads_shorter, members_start, members_next, members_no_key, members_stop, members_done}
 use Rattle.scale_info_json_text.proofs.found.read_members.Goals as goal
+
+pub members-init : goal.members-init
+members-init g c = members_start _ c.args.depth c.args.source.now.reader (c.nothing-found.ensures c.args.keys)
 
 pub returns-in_err-key-clause-syntax : goal.returns-in_err-key-clause-syntax
 returns-in_err-key-clause-syntax g c =

@@ -6,7 +6,7 @@ use Rattle.scale_info_json_text.proofs.Stops.{passed_syntax}
 use Rattle.scale_info_json_text.proofs.Trees.{no_depth, no_object}
 use Rattle.scale_info_json_text.proofs.Leaves.{object_kind, kind_of, not_kind}
 use Rattle.scale_info_json_text.proofs.Members.{members_read}
-use Rattle.scale_info_json_text.proofs.object.AnyJsonText.from_token.Goals as goal
+use Rattle.scale_info_json_text.proofs.object.read_object.Goals as goal
 
 pub returns-then-depth-eq0-clause-syntax : goal.returns-then-depth-eq0-clause-syntax
 returns-then-depth-eq0-clause-syntax g c =
@@ -20,10 +20,10 @@ returns-in_err-found-clause-syntax g c =
     (no_object c.args.depth c.args.source.now.reader (omega arith) e))
     c.in_err-found.ensures.syntax
 
-pub returns-in_ok-found-clause-ok : goal.returns-in_ok-found-clause-ok
-returns-in_ok-found-clause-ok g c =
+pub returns-in-BeginObject-clause-ok : goal.returns-in-BeginObject-clause-ok
+returns-in-BeginObject-clause-ok g c =
     members_read g.T.JsonObject.meant c.args.depth c.args.token c.args.source.now.reader c.read_members.new.source.reader
-    c.finish.result c.in-BeginObject.is (omega arith) (λ ms h. c.finish.ensures ms (c.keys.ensures.holds _ ms h))
+    c.finish.result c.in-BeginObject.is (omega arith) (λ ms h. c.finish.ensures ms (c.requires.holds _ ms h))
     c.in_ok-found.ensures.ok
 
 pub returns-clause-ok : goal.returns-clause-ok
