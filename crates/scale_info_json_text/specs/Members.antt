@@ -24,6 +24,12 @@ abbrev pub HoldsBoth :
     → F × G → Members → Type 0
 HoldsBoth P Q found members = P found.0 members × Q found.1 members
 
+-- what was read of the members is what the two keys have
+abbrev pub HoldsTwo :
+    {A B : Type 0} → List ℕ → List ℕ → (Data → A → Type 0) → (Data → B → Type 0)
+    → Member A × Member B → Members → Type 0
+HoldsTwo key other M N = HoldsBoth (HoldsOne key M) (HoldsOne other N)
+
 -- no key is one of both
 abbrev pub AreApart : (List ℕ → Type 0) → (List ℕ → Type 0) → Type 0
 AreApart P Q = (key : List ℕ) → P key → Q key → ⊥

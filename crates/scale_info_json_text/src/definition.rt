@@ -59,8 +59,9 @@ fn read_kind<T: JsonText + Into<TypeDef<PortableForm>>>(
     source: &mut Source<'_>,
     depth: usize,
 ) -> Reading<TypeDef<PortableForm>>
-    ensures ok { IfOk result (λ found. Reads (λ tree. IsMeant (MeansFrom T.meant T.converts tree) found)
-        depth source.old.reader source.new.reader) }
+    ensures ok { IfOk result (λ found. Reads
+        (λ tree. IsMeant (MeansFrom T.meant T.converts tree) found) depth
+        source.old.reader source.new.reader) }
     ensures syntax { IfErr result (IfSyntax (HasNoTree depth source.old.reader)) }
 {
     match read_value::<T>(source, depth)? {

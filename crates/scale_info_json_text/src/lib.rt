@@ -2,9 +2,8 @@
 #![tactic(auto)]
 
 mod definition;
-mod entry;
+mod description;
 mod error;
-mod field;
 mod found;
 mod integer;
 mod json_text;
@@ -21,7 +20,6 @@ mod primitive;
 mod source;
 mod stop;
 mod text;
-mod variant;
 
 pub use error::JsonTextError;
 pub use portable::from_json_text;

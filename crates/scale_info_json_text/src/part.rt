@@ -6,7 +6,7 @@ ghost use Rattle.scale_info_json_trees.specs.DefinitionTrees.{MeansArray, MeansB
 ghost use Rattle.scale_info_json_trees.specs.DefinitionTrees.{MeansCompact, MeansComposite};
 ghost use Rattle.scale_info_json_trees.specs.DefinitionTrees.{MeansMap, MeansSequence};
 ghost use Rattle.scale_info_json_trees.specs.DefinitionTrees.{MeansVariantType};
-ghost use Rattle.scale_info_json_text.specs.Members.{HoldsBoth, HoldsOne};
+ghost use Rattle.scale_info_json_text.specs.Members.{HoldsOne, HoldsTwo};
 
 use crate::json_text::JsonText;
 use crate::member::{Member, list_or_empty, required};
@@ -99,9 +99,7 @@ impl JsonText for TypeDefSequence<PortableForm> {
 impl JsonObject<(Member<u32>, FoundId)> for TypeDefArray<PortableForm> {
     ghost meant = { MeansArray };
 
-    ghost holds = { HoldsBoth
-        (HoldsOne (codes "len") (MeansNumber (2 ^ 32)))
-        (HoldsOne (codes "type") MeansId) };
+    ghost holds = { HoldsTwo (codes "len") (codes "type") (MeansNumber (2 ^ 32)) MeansId };
 
     ghost only_objects = { λ tree v m. m.object };
 
@@ -157,9 +155,7 @@ impl JsonText for TypeDefCompact<PortableForm> {
 impl JsonObject<(FoundId, FoundId)> for TypeDefBitSequence<PortableForm> {
     ghost meant = { MeansBitSequence };
 
-    ghost holds = { HoldsBoth
-        (HoldsOne (codes "bit_store_type") MeansId)
-        (HoldsOne (codes "bit_order_type") MeansId) };
+    ghost holds = { HoldsTwo (codes "bit_store_type") (codes "bit_order_type") MeansId MeansId };
 
     ghost only_objects = { λ tree v m. m.object };
 
@@ -189,9 +185,7 @@ impl JsonText for TypeDefBitSequence<PortableForm> {
 impl JsonObject<(FoundId, FoundId)> for TypeDefMap<PortableForm> {
     ghost meant = { MeansMap };
 
-    ghost holds = { HoldsBoth
-        (HoldsOne (codes "key") MeansId)
-        (HoldsOne (codes "value") MeansId) };
+    ghost holds = { HoldsTwo (codes "key") (codes "value") MeansId MeansId };
 
     ghost only_objects = { λ tree v m. m.object };
 
