@@ -8,7 +8,7 @@ use Rattle.json.specs.declared.token.Token.TheVariants as token
 use Rattle.serde_json.specs.Data.{Data, Num, null, boolean, number, string, array, object, unsigned, negative, float}
 use Rattle.serde_json.specs.Find.{as_u64}
 use Rattle.serde_json.specs.Read.{number_of}
-use Rattle.scale_info_json_trees.specs.Meaning.{IsMeaningless, IsObject, MeansNumber, MeansText, MeansList, MeansOrNull}
+use Rattle.scale_info_json_trees.specs.Meaning.{IsMeaningless, MeansNumber, MeansText, MeansOrNull}
 use Rattle.scale_info_json_trees.specs.DefinitionTrees.{MeansPrimitive}
 use Rattle.scale_info_primitives.specs.Primitives.{primitive_name}
 use Rattle.scale_info_primitives.specs.declared.primitive.TypeDefPrimitive.{TypeDefPrimitive}

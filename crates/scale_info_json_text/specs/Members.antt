@@ -18,7 +18,7 @@ HoldsAt M (found.Value v) o = (tree : Data) × (o ≡ Some tree) × M tree v
 abbrev pub HoldsOne : {A : Type 0} → List ℕ → (Data → A → Type 0) → Member A → Members → Type 0
 HoldsOne key M found members = HoldsAt M found (get_member key members)
 
--- what was read of the members is so of both parts
+-- each part of what was read is what its keys have
 abbrev pub HoldsBoth :
     {F G : Type 0} → (F → Members → Type 0) → (G → Members → Type 0)
     → F × G → Members → Type 0
@@ -34,7 +34,7 @@ HoldsTwo key other M N = HoldsBoth (HoldsOne key M) (HoldsOne other N)
 abbrev pub AreApart : (List ℕ → Type 0) → (List ℕ → Type 0) → Type 0
 AreApart P Q = (key : List ℕ) → P key → Q key → ⊥
 
--- a key's value is read: if P is so of the members before, Q is so with this one
+-- a tree is read, with which as the key's value Q is so of any members of which P was so
 abbrev pub ReadsInto :
     List ℕ → (Members → Type 0) → (Members → Type 0) → ℕ → List Token → List Token → Type 0
 ReadsInto key P Q depth tokens rest =

@@ -1,5 +1,5 @@
 //! Lists of a text.
-ghost use Rattle.std.specs.Prelude.{◌≡◌, ◌∷◌, IfOk, IfErr};
+ghost use Rattle.std.specs.Prelude.{◌≡◌, IfOk, IfErr};
 ghost use Rattle.scale_info_json_trees.specs.Meaning.{MeansEach, MeansList};
 ghost use Rattle.scale_info_json_text.specs.Readings.{IfSyntax, IsMeant, ReadsItems, HasNoItems};
 ghost use Rattle.scale_info_json_text.specs.Readings.{with_last};

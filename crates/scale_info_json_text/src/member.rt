@@ -1,5 +1,5 @@
 //! What is read under one key of an object.
-ghost use Rattle.std.specs.Prelude.{◌≡◌, List, ℕ, Option, Some, OnOk, IfErr};
+ghost use Rattle.std.specs.Prelude.{◌≡◌, Option, Some, OnOk, IfErr};
 ghost use Rattle.std.proofs.Common.{sym};
 ghost use Rattle.serde_json.specs.Data.{Data};
 ghost use Rattle.scale_info_json_trees.specs.Meaning.{MeansList, MeansOrEmpty, MeansOrNone};

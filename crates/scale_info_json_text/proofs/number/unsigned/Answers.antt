@@ -1,4 +1,4 @@
-use Rattle.std.proofs.Common.{◌≡◌, ◌==◌, ◌-◌, ℕ, List, Bool, drop, take, get_or, true, false, sym, ap, ◌∙◌, arith, length, take_all, length-drop, Some, None, option_map, subst}
+use Rattle.std.proofs.Common.{◌≡◌, ◌==◌, ◌-◌, ℕ, List, drop, take, get_or, true, false, sym, ap, ◌∙◌, arith, length, take_all, length-drop, Some, None, option_map, subst}
 use Rattle.std.specs.Prelude.{IfErr, IfOk}
 use Rattle.fast_float.specs.Text.{Parts, scan}
 use Rattle.serde_json.specs.Find.{as_u64}
