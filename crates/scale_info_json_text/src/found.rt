@@ -67,6 +67,7 @@ impl<A: Found, B: Found> Found for (A, B) {
         (A::nothing(), B::nothing())
     }
 
+    #[inline(always)]
     fn read_member(
         &mut self,
         keys: (A::Keys, B::Keys),
@@ -90,6 +91,7 @@ impl<A: Found, B: Found> Found for (A, B) {
 /// another.
 ///
 /// Errors: `Syntax`, where no tree's text comes next; `Memory`, if an allocation failed.
+#[inline(always)]
 fn read_or_pass<F: Found>(
     found: &mut F,
     keys: F::Keys,

@@ -58,6 +58,7 @@ impl<T: JsonText> Found for Member<T> {
         Member::Missing
     }
 
+    #[inline(always)]
     fn read_member(
         &mut self,
         wanted: &'static str,
