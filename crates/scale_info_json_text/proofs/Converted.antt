@@ -59,7 +59,7 @@ pub converted-object :
 converted-object None = refl
 converted-object (Some p) = twice object p.1 (of_members p.0 no_members)
 
--- an item that is converted stands in front of the converted others
+-- an item that is converted stands before the converted others
 with_item :
     (j : json.Json) (d : Data) → of_json j ≡ Some d → (o : Option (json.Items × List Token))
     → converted of_items (parse_map (json.item j) o) ≡ parse_map (item d) (converted of_items o)
@@ -91,7 +91,7 @@ without_member k j old e None = refl
 without_member k j old e (Some p) = rw e
 
 module _ (p : Parse json.Json) where
-  -- an item that is read stands in front of the others
+  -- an item that is read stands before the others
   pub item_read :
       (n : ℕ) (ts r : List Token) (d : Data) → 0 < n → after_end_array ts ≡ None
       → converted of_json (p ts) ≡ Some (d, r)

@@ -6,16 +6,16 @@ use Rattle.std.proofs.lemmas.Map.Text.{is_eq-slice_cmp}
 use Rattle.std.proofs.lemmas.Slice.Eq.{bytes_eq-Decides}
 use Rattle.std.specs.Cmp.Lexicographic.{slice_cmp}
 use Rattle.std.specs.Ordering.{nat_cmp, match_ordering, is_eq}
-use Rattle.std.specs.Prelude.{codes}
+use Rattle.json.specs.Token.{Token}
 use Rattle.serde_json.specs.Data.{Data, Members, no_members, member, put, object}
 use Rattle.scale_info_types.specs.Portable as portable
-use Rattle.scale_info_json_trees.specs.Meaning.{IsMeaningless, MeansList}
-use Rattle.scale_info_json_trees.specs.PartTrees.{MeansId}
+use Rattle.scale_info_json_trees.specs.Meaning.{IsMeaningless}
 use Rattle.scale_info_json_trees.specs.DefinitionTrees.{MeansTypeDef, MeansUnder}
 use Rattle.scale_info_json_text.specs.declared.definition.FoundDefinition.{FoundDefinition}
 use Rattle.scale_info_json_text.specs.declared.definition.FoundDefinition.TheVariants as found
-use Rattle.scale_info_json_text.specs.Definitions.{IsUnknown, IsOne, AreRefused, HoldsDefinition}
-use Rattle.scale_info_json_text.specs.Readings.{IsMeant}
+use Rattle.scale_info_json_text.specs.Definitions.{IsUnknown, IsOne, AreRefused, HoldsDefinition, MeansFrom}
+use Rattle.scale_info_json_text.specs.Readings.{IsMeant, Reads}
+use Rattle.scale_info_json_text.proofs.Trees.{reads_weaker}
 
 -- keys that compare as equal are equal
 equal_keys : (k l : List ℕ) → slice_cmp nat_cmp k l ≡ Equal → k ≡ l
@@ -147,10 +147,17 @@ none_is_meant (found.One k v) ms (inl e) h = absurd cc
 none_is_meant (found.One k v) ms (inr e) h = absurd cc
 none_is_meant found.Refused ms e h = refused_keys ms h
 
--- under its key only a list of ids is a tuple
-tuple_under : (t : Data) (v : portable.TypeDef) → IsMeaningless (MeansList MeansId t) → MeansUnder (codes "tuple") t v → ⊥
-tuple_under t v n (MeansUnder.tuple m) = n.none _ m
-
--- a tree that is no list of ids is no tuple
-pub no_tuple : (t : Data) → IsMeaningless (MeansList MeansId t) → IsMeaningless (MeansUnder (codes "tuple") t)
-no_tuple t n = record { none = λ v m. tuple_under t v n m }
+-- where a definition is made of the part that a tree means, the tree means it under the kind's key
+pub kind_read :
+    {A : Type 0} {M : Data → A → Type 0} {makes : A → portable.TypeDef → Type 0} (kind : List ℕ)
+    → ((t : Data) (d : portable.TypeDef) → MeansFrom M makes t d → MeansUnder kind t d)
+    → ((t : Data) (d : portable.TypeDef) → MeansUnder kind t d → MeansFrom M makes t d)
+    → (key : List ℕ) → key ≡ kind → (depth : ℕ) (ts r : List Token) (def : Option portable.TypeDef)
+    → Reads (λ tree. IsMeant (MeansFrom M makes tree) def) depth ts r
+    → Reads (λ tree. IsMeant (MeansUnder key tree) def) depth ts r
+kind_read kind to from key e depth ts r None h =
+    reads_weaker (λ tree p. record {
+      none = λ d m. p.none d (from tree d (subst (λ x. MeansUnder x tree d) e m));
+    }) h
+kind_read kind to from key e depth ts r (Some d) h =
+    reads_weaker (λ tree p. subst (λ x. MeansUnder x tree d) (sym e) (to tree d p)) h

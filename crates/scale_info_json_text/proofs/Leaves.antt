@@ -1,5 +1,5 @@
--- Values that the first token tells.
-use Rattle.std.proofs.Common.{◌≡◌, ℕ, ◌<◌, List, ◌∷◌, Option, Some, None, refl, sym, ap, ◌∙◌, subst, Bor}
+-- Values that the first token says.
+use Rattle.std.proofs.Common.{◌≡◌, ℕ, ◌<◌, List, ◌∷◌, Option, Some, None, Bool, refl, sym, ap, ◌∙◌, subst, Bor}
 use Rattle.std.specs.Prelude.{⊤, option_map, IfSome, IfNone}
 use Rattle.json.specs.Token as spec
 use Rattle.json.specs.Reads.{token_of}
@@ -8,7 +8,7 @@ use Rattle.json.specs.declared.token.Token.TheVariants as token
 use Rattle.serde_json.specs.Data.{Data, Num, null, boolean, number, string, array, object, unsigned, negative, float}
 use Rattle.serde_json.specs.Find.{as_u64}
 use Rattle.serde_json.specs.Read.{number_of}
-use Rattle.scale_info_json_trees.specs.Meaning.{IsMeaningless, IsObject, MeansNumber, MeansText, MeansList, MeansOrNull}
+use Rattle.scale_info_json_trees.specs.Meaning.{IsMeaningless, MeansNumber, MeansText, MeansOrNull}
 use Rattle.scale_info_json_trees.specs.DefinitionTrees.{MeansPrimitive}
 use Rattle.scale_info_primitives.specs.Primitives.{primitive_name}
 use Rattle.scale_info_primitives.specs.declared.primitive.TypeDefPrimitive.{TypeDefPrimitive}
@@ -33,18 +33,14 @@ kind_of (string s) = string_kind
 kind_of (array ds) = array_kind
 kind_of (object ms) = object_kind
 
--- the kind of the trees that begin with a token
-abbrev pub begins_kind : Token → Option Kind
-begins_kind token.BeginObject = Some object_kind
-begins_kind token.EndObject = None
-begins_kind token.BeginArray = Some array_kind
-begins_kind token.EndArray = None
-begins_kind (token.Key x) = None
-begins_kind (token.String x) = Some string_kind
-begins_kind (token.Number x) = Some number_kind
-begins_kind (token.Bool b) = Some boolean_kind
-begins_kind token.Null = Some null_kind
-begins_kind token.Bad = None
+-- trees of the kind begin with the token
+abbrev pub Begins : Kind → Token → Type 0
+Begins null_kind k = k ≡ token.Null
+Begins boolean_kind k = (b : Bool) × (k ≡ token.Bool b)
+Begins number_kind k = (x : Bor (List ℕ)) × (k ≡ token.Number x)
+Begins string_kind k = (x : Bor (List ℕ)) × (k ≡ token.String x)
+Begins array_kind k = k ≡ token.BeginArray
+Begins object_kind k = k ≡ token.BeginObject
 
 -- a tree that begins with a number is one
 pub fits_number :
@@ -56,85 +52,21 @@ fits_number s tree f =
     let same : tree ≡ number n.0 = cc in
     (n.0, same, n.1)
 
--- a tree is of the kind that its first token begins
-fits_kind : (k : Token) (tree : Data) → Fits (token_of k) tree → begins_kind k ≡ Some (kind_of tree)
-fits_kind token.BeginObject tree f = ap (λ d. Some (kind_of d)) (sym f.1)
-fits_kind token.EndObject tree f = absurd f
-fits_kind token.BeginArray tree f = ap (λ d. Some (kind_of d)) (sym f.1)
-fits_kind token.EndArray tree f = absurd f
-fits_kind (token.Key x) tree f = absurd f
-fits_kind (token.String x) tree f = ap (λ d. Some (kind_of d)) (sym f)
-fits_kind (token.Number x) tree f = ap (λ d. Some (kind_of d)) (sym (fits_number x.now tree f).1)
-fits_kind (token.Bool b) tree f = ap (λ d. Some (kind_of d)) (sym f)
-fits_kind token.Null tree f = ap (λ d. Some (kind_of d)) (sym f)
-fits_kind token.Bad tree f = absurd f
+-- a tree is of a kind that begins with its first token
+begins : (k : Token) (tree : Data) → Fits (token_of k) tree → Begins (kind_of tree) k
+begins token.BeginObject tree f = subst (λ d. Begins (kind_of d) token.BeginObject) (sym f.1) refl
+begins token.EndObject tree f = absurd f
+begins token.BeginArray tree f = subst (λ d. Begins (kind_of d) token.BeginArray) (sym f.1) refl
+begins token.EndArray tree f = absurd f
+begins (token.Key x) tree f = absurd f
+begins (token.String x) tree f = subst (λ d. Begins (kind_of d) (token.String x)) (sym f) (x, refl)
+begins (token.Number x) tree f =
+    subst (λ d. Begins (kind_of d) (token.Number x)) (sym (fits_number x.now tree f).1) (x, refl)
+begins (token.Bool b) tree f = subst (λ d. Begins (kind_of d) (token.Bool b)) (sym f) (b, refl)
+begins token.Null tree f = subst (λ d. Begins (kind_of d) token.Null) (sym f) refl
+begins token.Bad tree f = absurd f
 
--- a token that begins a string is one
-string_token : (k : Token) → begins_kind k ≡ Some string_kind → (x : Bor (List ℕ)) × (k ≡ token.String x)
-string_token token.BeginObject e = absurd cc
-string_token token.EndObject e = absurd cc
-string_token token.BeginArray e = absurd cc
-string_token token.EndArray e = absurd cc
-string_token (token.Key x) e = absurd cc
-string_token (token.String x) e = (x, refl)
-string_token (token.Number x) e = absurd cc
-string_token (token.Bool b) e = absurd cc
-string_token token.Null e = absurd cc
-string_token token.Bad e = absurd cc
-
--- a token that begins a number is one
-number_token : (k : Token) → begins_kind k ≡ Some number_kind → (x : Bor (List ℕ)) × (k ≡ token.Number x)
-number_token token.BeginObject e = absurd cc
-number_token token.EndObject e = absurd cc
-number_token token.BeginArray e = absurd cc
-number_token token.EndArray e = absurd cc
-number_token (token.Key x) e = absurd cc
-number_token (token.String x) e = absurd cc
-number_token (token.Number x) e = (x, refl)
-number_token (token.Bool b) e = absurd cc
-number_token token.Null e = absurd cc
-number_token token.Bad e = absurd cc
-
--- a token that begins null is null
-null_token : (k : Token) → begins_kind k ≡ Some null_kind → k ≡ token.Null
-null_token token.BeginObject e = absurd cc
-null_token token.EndObject e = absurd cc
-null_token token.BeginArray e = absurd cc
-null_token token.EndArray e = absurd cc
-null_token (token.Key x) e = absurd cc
-null_token (token.String x) e = absurd cc
-null_token (token.Number x) e = absurd cc
-null_token (token.Bool b) e = absurd cc
-null_token token.Null e = refl
-null_token token.Bad e = absurd cc
-
--- a token that begins an array is its bracket
-array_token : (k : Token) → begins_kind k ≡ Some array_kind → k ≡ token.BeginArray
-array_token token.BeginObject e = absurd cc
-array_token token.EndObject e = absurd cc
-array_token token.BeginArray e = refl
-array_token token.EndArray e = absurd cc
-array_token (token.Key x) e = absurd cc
-array_token (token.String x) e = absurd cc
-array_token (token.Number x) e = absurd cc
-array_token (token.Bool b) e = absurd cc
-array_token token.Null e = absurd cc
-array_token token.Bad e = absurd cc
-
--- a token that begins an object is its brace
-object_token : (k : Token) → begins_kind k ≡ Some object_kind → k ≡ token.BeginObject
-object_token token.BeginObject e = refl
-object_token token.EndObject e = absurd cc
-object_token token.BeginArray e = absurd cc
-object_token token.EndArray e = absurd cc
-object_token (token.Key x) e = absurd cc
-object_token (token.String x) e = absurd cc
-object_token (token.Number x) e = absurd cc
-object_token (token.Bool b) e = absurd cc
-object_token token.Null e = absurd cc
-object_token token.Bad e = absurd cc
-
--- what the first token tells of the tree
+-- what the first token says of the tree
 pub reads_fitting :
     {P Q : Data → Type 0} (depth : ℕ) (k : Token) (ts r : List spec.Token)
     → ((tree : Data) → Fits (token_of k) tree → P tree → Q tree) → Reads P depth (token_of k ∷ ts) r
@@ -154,43 +86,15 @@ module _ (depth : ℕ) (k : Token) (ts r : List spec.Token) where
       subst (λ t. Reads (λ tree. IsMeant (MeansText tree) (Some v)) depth (token_of t ∷ ts) ts) (sym e)
       (alone_reads (λ tree. IsMeant (MeansText tree) (Some v)) depth (spec.string s.now) (string s.now) ts refl (record { is = ap string (sym f) }))
 
-  -- another value is no text
-  pub not_text :
-      ((x : Bor (List ℕ)) → k ≡ token.String x → ⊥) → Reads (λ _. ⊤) depth (token_of k ∷ ts) r
-      → Reads (λ tree. IsMeant (MeansText tree) None) depth (token_of k ∷ ts) r
-  not_text none h = reads_fitting depth k ts r
+  -- where the first token begins no trees of a kind, nothing is meant that only these mean
+  pub not_kind :
+      {A : Type 0} (M : Data → A → Type 0) (kind : Kind)
+      → ((tree : Data) (v : A) → M tree v → kind_of tree ≡ kind) → (Begins kind k → ⊥)
+      → Reads (λ _. ⊤) depth (token_of k ∷ ts) r
+      → Reads (λ tree. IsMeant (M tree) None) depth (token_of k ∷ ts) r
+  not_kind M kind only none h = reads_fitting depth k ts r
       (λ tree f p. record {
-        none = λ v m.
-            let t = string_token k (fits_kind k tree f ∙ ap (λ d. Some (kind_of d)) m.is) in
-            none t.0 t.1;
-      }) h
-
-  -- another value is no list
-  pub not_list :
-      {A : Type 0} (M : Data → A → Type 0) → (k ≡ token.BeginArray → ⊥) → Reads (λ _. ⊤) depth (token_of k ∷ ts) r
-      → Reads (λ tree. IsMeant (MeansList M tree) None) depth (token_of k ∷ ts) r
-  not_list M none h = reads_fitting depth k ts r
-      (λ tree f p. record {
-        none = λ v m.
-            none (array_token k (fits_kind k tree f ∙ ap (λ d. Some (kind_of d)) m.is));
-      }) h
-
-  -- another value is no object
-  pub not_object :
-      (k ≡ token.BeginObject → ⊥) → Reads (λ _. ⊤) depth (token_of k ∷ ts) r
-      → Reads (λ tree. IsObject tree → ⊥) depth (token_of k ∷ ts) r
-  not_object none h = reads_fitting depth k ts r
-      (λ tree f p m. none (object_token k (fits_kind k tree f ∙ ap (λ d. Some (kind_of d)) m.is))) h
-
-  -- another value is no number
-  pub not_number :
-      (limit : ℕ) → ((x : Bor (List ℕ)) → k ≡ token.Number x → ⊥) → Reads (λ _. ⊤) depth (token_of k ∷ ts) r
-      → Reads (λ tree. IsMeant (MeansNumber limit tree) None) depth (token_of k ∷ ts) r
-  not_number limit none h = reads_fitting depth k ts r
-      (λ tree f p. record {
-        none = λ v m.
-            let t = number_token k (fits_kind k tree f ∙ ap (λ d. Some (kind_of d)) m.is) in
-            none t.0 t.1;
+        none = λ v m. none (subst (λ x. Begins x k) (only tree v m) (begins k tree f));
       }) h
 
   -- null means None
@@ -221,7 +125,7 @@ module _ (depth : ℕ) (k : Token) (ts r : List spec.Token) where
   not_null_none M none h = reads_fitting depth k ts r
       (λ tree f p. record {
         none = λ v m.
-            or_null M tree v (λ e. none (null_token k (fits_kind k tree f ∙ ap (λ d. Some (kind_of d)) e))) p m;
+            or_null M tree v (λ e. none (subst (λ d. Begins (kind_of d) k) e (begins k tree f))) p m;
       }) h
 
 -- a number that is seen as an integer is that integer
@@ -301,14 +205,3 @@ module _ (depth : ℕ) (k : Token) (ts r : List spec.Token) where
   primitive_read s found e some none =
       subst (λ t. Reads (λ tree. IsMeant (MeansPrimitive tree) found) depth (token_of t ∷ ts) ts) (sym e)
       (alone_reads (λ tree. IsMeant (MeansPrimitive tree) found) depth (spec.string s.now) (string s.now) ts refl (primitive_of s.now found some none))
-
-  -- another value is no primitive
-  pub not_primitive :
-      ((x : Bor (List ℕ)) → k ≡ token.String x → ⊥) → Reads (λ _. ⊤) depth (token_of k ∷ ts) r
-      → Reads (λ tree. IsMeant (MeansPrimitive tree) None) depth (token_of k ∷ ts) r
-  not_primitive none h = reads_fitting depth k ts r
-      (λ tree f p. record {
-        none = λ v m.
-            let t = string_token k (fits_kind k tree f ∙ ap (λ d. Some (kind_of d)) m.is) in
-            none t.0 t.1;
-      }) h

@@ -24,6 +24,13 @@ pub reads_weaker :
     → Reads P depth ts r → Reads Q depth ts r
 reads_weaker f h = record { tree = h.tree; begins = h.begins; is = f h.tree h.is }
 
+-- what is said of a value that is read from equal tokens may be weakened
+pub reads_from :
+    {P Q : Data → Type 0} {depth : ℕ} {ts us r : List Token} → ts ≡ us
+    → ((tree : Data) → P tree → Q tree) → Reads P depth ts r → Reads Q depth us r
+reads_from {P = P} {depth = depth} {r = r} e f h =
+    reads_weaker f (subst (λ x. Reads P depth x r) e h)
+
 -- a value takes at least one token
 pub reads_shorter :
     {P : Data → Type 0} (depth : ℕ) (ts r : List Token) → Reads P depth ts r → length r < length ts
@@ -162,36 +169,53 @@ number_first s ts r d h =
     let same : j.0 ≡ json.number s = same_first (json.number s) j.0 ts r j.1 in
     subst (λ a. of_json a ≡ Some d) same j.2
 
--- an array begins with its bracket
-array_first :
-    (depth : ℕ) (ts r : List Token) (d : Data)
-    → converted of_json (value depth (Token.begin_array ∷ ts)) ≡ Some (d, r)
-    → (ds : Items) × (d ≡ array ds)
+-- nothing nests at depth 0
+pub no_depth : (depth : ℕ) (t : Token) (ts : List Token) → depth ≡ 0 → Opens t → HasNoTree depth (t ∷ ts)
 unfolding value
-array_first zero ts r d h = absurd cc
-array_first (suc n) ts r d h =
-    let all = items (value n) (length ts) ts in
-    mapped array (converted of_items all) d r (sym (converted-array all) ∙ h)
+no_depth depth Token.begin_object ts e h = ap (λ n. converted of_json (value n (Token.begin_object ∷ ts))) e
+no_depth depth Token.end_object ts e h = absurd h
+no_depth depth Token.begin_array ts e h = ap (λ n. converted of_json (value n (Token.begin_array ∷ ts))) e
+no_depth depth Token.end_array ts e h = absurd h
+no_depth depth (Token.key s) ts e h = absurd h
+no_depth depth (Token.string s) ts e h = absurd h
+no_depth depth (Token.number s) ts e h = absurd h
+no_depth depth (Token.boolean b) ts e h = absurd h
+no_depth depth Token.null ts e h = absurd h
+no_depth depth Token.bad ts e h = absurd h
 
--- an object begins with its brace
-object_first :
-    (depth : ℕ) (ts r : List Token) (d : Data)
-    → converted of_json (value depth (Token.begin_object ∷ ts)) ≡ Some (d, r)
-    → (ms : Members) × (d ≡ object ms)
-unfolding value
-object_first zero ts r d h = absurd cc
-object_first (suc n) ts r d h =
-    let all = members (value n) (length ts) ts in
-    mapped object (converted (λ ms. of_members ms no_members) all) d r (sym (converted-object all) ∙ h)
+-- an array is read as its items are
+array_is :
+    (depth : ℕ) (ts : List Token) → 0 < depth
+    → converted of_json (value depth (Token.begin_array ∷ ts))
+    ≡ parse_map array (converted of_items (items (value (depth - 1)) (length ts) ts))
+array_is depth ts some =
+    ap (converted of_json) (value-begin_array depth ts some) ∙ converted-array (items (value (depth - 1)) (length ts) ts)
+
+-- an object is read as its members are
+object_is :
+    (depth : ℕ) (ts : List Token) → 0 < depth
+    → converted of_json (value depth (Token.begin_object ∷ ts)) ≡ parse_map object (members_put (depth - 1) ts)
+object_is depth ts some =
+    ap (converted of_json) (value-begin_object depth ts some) ∙ converted-object (members (value (depth - 1)) (length ts) ts)
+
+-- a tree that begins with a bracket or a brace is made of what comes after
+made_first :
+    {A : Type 0} (make : A → Data) (o : Option (A × List Token)) (depth : ℕ) (t : Token) (ts r : List Token)
+    (d : Data) → Opens t → (0 < depth → converted of_json (value depth (t ∷ ts)) ≡ parse_map make o)
+    → converted of_json (value depth (t ∷ ts)) ≡ Some (d, r) → (a : A) × (d ≡ make a)
+made_first make o zero t ts r d opens is h = let e = sym (no_depth zero t ts refl opens) ∙ h in absurd cc
+made_first make o (suc n) t ts r d opens is h = mapped make o d r (sym (is (omega arith)) ∙ h)
 
 -- the first token fits the tree
 pub first_fits :
     (depth : ℕ) (t : Token) (ts r : List Token) (d : Data)
     → converted of_json (value depth (t ∷ ts)) ≡ Some (d, r) → Fits t d
-first_fits depth Token.begin_object ts r d h = object_first depth ts r d h
+first_fits depth Token.begin_object ts r d h =
+    made_first object (members_put (depth - 1) ts) depth Token.begin_object ts r d tt (object_is depth ts) h
 first_fits depth Token.end_object ts r d h =
     let e = sym (ap (converted of_json) (value_is depth (Token.end_object ∷ ts))) ∙ h in cc
-first_fits depth Token.begin_array ts r d h = array_first depth ts r d h
+first_fits depth Token.begin_array ts r d h =
+    made_first array (converted of_items (items (value (depth - 1)) (length ts) ts)) depth Token.begin_array ts r d tt (array_is depth ts) h
 first_fits depth Token.end_array ts r d h =
     let e = sym (ap (converted of_json) (value_is depth (Token.end_array ∷ ts))) ∙ h in cc
 first_fits depth (Token.key s) ts r d h =
@@ -214,57 +238,38 @@ pub array_reads :
     {P : List Data → Type 0} {Q : Data → Type 0} (depth : ℕ) (ts r : List Token) → 0 < depth
     → ((ds : List Data) → P ds → Q (array (items_of ds))) → ReadsItems P (depth - 1) ts r
     → Reads Q depth (Token.begin_array ∷ ts) r
-array_reads depth ts r some f h = record {
-  tree = array (items_of h.trees);
-  begins =
-      ap (converted of_json) (value-begin_array depth ts some) ∙ converted-array (items (value (depth - 1)) (length ts) ts)
-      ∙ ap (parse_map array) h.begins;
-  is = f h.trees h.is;
-}
+array_reads depth ts r some f h =
+    let begins = array_is depth ts some ∙ ap (parse_map array) h.begins in
+    record { tree = array (items_of h.trees); begins = begins; is = f h.trees h.is }
 
 -- where the items of an array are none, it is no value
 pub no_array : (depth : ℕ) (ts : List Token) → 0 < depth → HasNoItems (depth - 1) ts → HasNoTree depth (Token.begin_array ∷ ts)
-no_array depth ts some h =
-    ap (converted of_json) (value-begin_array depth ts some) ∙ converted-array (items (value (depth - 1)) (length ts) ts) ∙ ap (parse_map array) h
+no_array depth ts some h = array_is depth ts some ∙ ap (parse_map array) h
 
--- nothing nests at depth 0
-pub no_depth : (depth : ℕ) (t : Token) (ts : List Token) → depth ≡ 0 → Opens t → HasNoTree depth (t ∷ ts)
-unfolding value
-no_depth depth Token.begin_object ts e h = ap (λ n. converted of_json (value n (Token.begin_object ∷ ts))) e
-no_depth depth Token.end_object ts e h = absurd h
-no_depth depth Token.begin_array ts e h = ap (λ n. converted of_json (value n (Token.begin_array ∷ ts))) e
-no_depth depth Token.end_array ts e h = absurd h
-no_depth depth (Token.key s) ts e h = absurd h
-no_depth depth (Token.string s) ts e h = absurd h
-no_depth depth (Token.number s) ts e h = absurd h
-no_depth depth (Token.boolean b) ts e h = absurd h
-no_depth depth Token.null ts e h = absurd h
-no_depth depth Token.bad ts e h = absurd h
-
--- the trees in front of others
+-- the trees before others
 abbrev pub before : List Data → Items → Items
 before [] rest = rest
 before (d ∷ ds) rest = item d (before ds rest)
 
--- one more tree behind the trees in front
+-- one more tree after the trees before
 before_last :
     (ds : List Data) (d : Data) (rest : Items) → before ds (item d rest) ≡ before (ds ++ d ∷ []) rest
 before_last [] d rest = refl
 before_last (e ∷ ds) d rest = ap (item e) (before_last ds d rest)
 
--- trees in front of none are the list
+-- trees before none are the list
 before_nothing : (ds : List Data) → before ds no_items ≡ items_of ds
 before_nothing [] = refl
 before_nothing (d ∷ ds) = ap (item d) (before_nothing ds)
 
--- one more tree behind the trees in front, where the rest is read
+-- one more tree after the trees before, where the rest is read
 one_more :
     (ds : List Data) (d : Data) (o : Option (Items × List Token))
     → parse_map (before ds) (parse_map (item d) o) ≡ parse_map (before (ds ++ d ∷ [])) o
 one_more ds d None = refl
 one_more ds d (Some p) = ap (λ x. Some (x, p.1)) (before_last ds d p.0)
 
--- no trees in front change nothing
+-- no trees before change nothing
 none_before : (o : Option (Items × List Token)) → o ≡ parse_map (before []) o
 none_before None = refl
 none_before (Some p) = refl
@@ -335,18 +340,13 @@ pub object_reads :
     {P : Members → Type 0} {Q : Data → Type 0} (depth : ℕ) (ts r : List Token) → 0 < depth
     → ((ms : Members) → P ms → Q (object ms)) → ReadsMembers P (depth - 1) ts r
     → Reads Q depth (Token.begin_object ∷ ts) r
-object_reads depth ts r some f h = record {
-  tree = object h.found;
-  begins =
-      ap (converted of_json) (value-begin_object depth ts some) ∙ converted-object (members (value (depth - 1)) (length ts) ts)
-      ∙ ap (parse_map object) h.begins;
-  is = f h.found h.is;
-}
+object_reads depth ts r some f h =
+    let begins = object_is depth ts some ∙ ap (parse_map object) h.begins in
+    record { tree = object h.found; begins = begins; is = f h.found h.is }
 
 -- where the members of an object are none, it is no value
 pub no_object : (depth : ℕ) (ts : List Token) → 0 < depth → HasNoMembers (depth - 1) ts → HasNoTree depth (Token.begin_object ∷ ts)
-no_object depth ts some h =
-    ap (converted of_json) (value-begin_object depth ts some) ∙ converted-object (members (value (depth - 1)) (length ts) ts) ∙ ap (parse_map object) h
+no_object depth ts some h = object_is depth ts some ∙ ap (parse_map object) h
 
 -- the map so far, of which P is so, with the members that the tokens now have put in is that of all
 pub record MembersTurn (P : Members → Type 0) (depth : ℕ) (all now : List Token) : Type 0 where
@@ -412,9 +412,3 @@ members_done depth all now r l over = record {
   begins = l.same ∙ members_over (value depth) l.found l.turns now r l.enough over;
   is = l.is;
 }
-
--- what is said of members that are read may be weakened
-pub done_weaker :
-    {P Q : Members → Type 0} (depth : ℕ) (ts r : List Token) → ((ms : Members) → P ms → Q ms)
-    → ReadsMembers P depth ts r → ReadsMembers Q depth ts r
-done_weaker depth ts r f h = record { found = h.found; begins = h.begins; is = f h.found h.is }

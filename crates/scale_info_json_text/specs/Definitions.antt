@@ -8,6 +8,11 @@ use Rattle.scale_info_json_text.specs.declared.definition.FoundDefinition.{Found
 use Rattle.scale_info_json_text.specs.declared.definition.FoundDefinition.TheVariants as found
 use Rattle.scale_info_json_text.specs.Readings.{IsMeant}
 
+-- the tree means a value of which this one is made
+abbrev pub MeansFrom :
+    {A B : Type 0} → (Data → A → Type 0) → (A → B → Type 0) → Data → B → Type 0
+MeansFrom {A} {B} M makes tree made = (v : A) × M tree v × makes v made
+
 -- the key names no kind of definitions
 abbrev pub IsUnknown : List ℕ → Type 0
 IsUnknown key = (tree : Data) → IsMeaningless (MeansUnder key tree)
@@ -32,4 +37,5 @@ HoldsDefinition found.Refused members = AreRefused members
 -- only an object means a definition
 pub only_object_is_definition :
     (tree : Data) (v : portable.TypeDef) → MeansTypeDef tree v → IsObject tree
-only_object_is_definition tree v m = record { members = member m.key m.tree no_members; is = m.only }
+only_object_is_definition tree v m =
+    record { members = member m.key m.tree no_members; is = m.only }

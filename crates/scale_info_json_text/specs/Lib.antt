@@ -1,5 +1,5 @@
 pub mod Readings
 pub mod Members
-pub mod Fields
+pub mod MemberLaws
 pub mod Definitions
 pub mod TextTables

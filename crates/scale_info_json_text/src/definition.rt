@@ -1,21 +1,25 @@
 //! Definitions of a text: an object with one key, which names the kind.
-ghost use Rattle.std.specs.Prelude.{◌≡◌, ◌≢◌, IfOk, IfErr, IfSome, IfNone, codes};
+ghost use Rattle.std.specs.Prelude.{◌≡◌, IfOk, IfErr, IfSome, IfNone};
 ghost use Rattle.serde_json.specs.Data.{Data, Members, put};
 ghost use Rattle.scale_info_json_trees.specs.DefinitionTrees.{MeansTypeDef, MeansUnder};
-ghost use Rattle.scale_info_json_text.specs.Definitions.{HoldsDefinition, IsUnknown};
+ghost use Rattle.scale_info_json_text.specs.Definitions.{HoldsDefinition, IsUnknown, MeansFrom};
 ghost use Rattle.scale_info_json_text.specs.Definitions.{only_object_is_definition};
 ghost use Rattle.scale_info_json_text.specs.Readings.{IfSyntax, IsMeant, Reads, HasNoTree};
 
+use crate::found::Found;
 use crate::json_text::{JsonText, read_value};
-use crate::object::{Found, read_object};
+use crate::object::{JsonObject, read_object};
 use crate::pass::pass_value;
+use crate::source::{Reading, Source};
 use crate::stop::Stop;
-use json::{Reader, Token};
-use scale_info_collections::items::Items;
-use scale_info_identities::symbol::UntrackedSymbol;
-use scale_info_identities::type_id::TypeId;
+use json::Token;
 use scale_info_types::form::PortableForm;
-use scale_info_types::ty::{TypeDef, TypeDefTuple};
+use scale_info_types::ty::composite::TypeDefComposite;
+use scale_info_types::ty::variant::TypeDefVariant;
+use scale_info_types::ty::{
+    TypeDef, TypeDefArray, TypeDefBitSequence, TypeDefCompact, TypeDefMap, TypeDefPrimitive,
+    TypeDefSequence, TypeDefTuple,
+};
 use std::alloc::Global;
 
 /// What was read of a definition.
@@ -48,68 +52,21 @@ fn known_key(key: &str) -> Option<&'static str>
     }
 }
 
-/// Reads the tuple that comes next; None where the tree means none.
+/// Reads the definition that is made of the part which comes next; None where the tree means none.
 ///
 /// Errors: `Syntax`, where no tree's text comes next; `Memory`, if an allocation failed.
-fn read_tuple(
-    alloc: Global,
-    reader: &mut Reader<'_>,
+fn read_kind<T: JsonText + Into<TypeDef<PortableForm>>>(
+    source: &mut Source<'_>,
     depth: usize,
-) -> Result<Option<TypeDef<PortableForm>>, Stop>
-    ensures ok { IfOk result (λ found. Reads (λ tree. IsMeant (MeansUnder (codes "tuple") tree) found)
-        depth reader.old reader.new) }
-    ensures syntax { IfErr result (IfSyntax (HasNoTree depth reader.old)) }
+) -> Reading<TypeDef<PortableForm>>
+    ensures ok { IfOk result (λ found. Reads
+        (λ tree. IsMeant (MeansFrom T.meant T.converts tree) found) depth
+        source.old.reader source.new.reader) }
+    ensures syntax { IfErr result (IfSyntax (HasNoTree depth source.old.reader)) }
 {
-    let fields: Option<Items<UntrackedSymbol<TypeId>>> = read_value(alloc, reader, depth)?;
-    match fields {
-        Some(fields) => Ok(Some(TypeDef::Tuple(TypeDefTuple::from(fields)))),
+    match read_value::<T>(source, depth)? {
+        Some(part) => Ok(Some(part.into())),
         None => Ok(None),
-    }
-}
-
-/// Reads the definition of a kind that is ids, and perhaps a number, alone; None where the key is
-/// none of these kinds or the tree means none.
-///
-/// Errors: `Syntax`, where no tree's text comes next; `Memory`, if an allocation failed.
-fn read_by_ids(
-    key: &str,
-    alloc: Global,
-    reader: &mut Reader<'_>,
-    depth: usize,
-) -> Result<Option<TypeDef<PortableForm>>, Stop>
-    requires composite { key.now ≢ codes "composite" }
-    requires variant { key.now ≢ codes "variant" }
-    requires tuple { key.now ≢ codes "tuple" }
-    requires primitive { key.now ≢ codes "primitive" }
-    ensures ok { IfOk result (λ found. Reads (λ tree. IsMeant (MeansUnder key.now tree) found) depth
-        reader.old reader.new) }
-    ensures syntax { IfErr result (IfSyntax (HasNoTree depth reader.old)) }
-{
-    match key {
-        "sequence" => match read_value(alloc, reader, depth)? {
-            Some(def) => Ok(Some(TypeDef::Sequence(def))),
-            None => Ok(None),
-        },
-        "array" => match read_value(alloc, reader, depth)? {
-            Some(def) => Ok(Some(TypeDef::Array(def))),
-            None => Ok(None),
-        },
-        "compact" => match read_value(alloc, reader, depth)? {
-            Some(def) => Ok(Some(TypeDef::Compact(def))),
-            None => Ok(None),
-        },
-        "bitsequence" => match read_value(alloc, reader, depth)? {
-            Some(def) => Ok(Some(TypeDef::BitSequence(def))),
-            None => Ok(None),
-        },
-        "map" => match read_value(alloc, reader, depth)? {
-            Some(def) => Ok(Some(TypeDef::Map(def))),
-            None => Ok(None),
-        },
-        _ => {
-            pass_value(reader, depth)?;
-            Ok(None)
-        }
     }
 }
 
@@ -118,29 +75,27 @@ fn read_by_ids(
 /// Errors: `Syntax`, where no tree's text comes next; `Memory`, if an allocation failed.
 fn read_definition(
     key: &str,
-    alloc: Global,
-    reader: &mut Reader<'_>,
+    source: &mut Source<'_>,
     depth: usize,
-) -> Result<Option<TypeDef<PortableForm>>, Stop>
+) -> Reading<TypeDef<PortableForm>>
     ensures ok { IfOk result (λ found. Reads (λ tree. IsMeant (MeansUnder key.now tree) found) depth
-        reader.old reader.new) }
-    ensures syntax { IfErr result (IfSyntax (HasNoTree depth reader.old)) }
+        source.old.reader source.new.reader) }
+    ensures syntax { IfErr result (IfSyntax (HasNoTree depth source.old.reader)) }
 {
     match key {
-        "composite" => match read_value(alloc, reader, depth)? {
-            Some(def) => Ok(Some(TypeDef::Composite(def))),
-            None => Ok(None),
-        },
-        "variant" => match read_value(alloc, reader, depth)? {
-            Some(def) => Ok(Some(TypeDef::Variant(def))),
-            None => Ok(None),
-        },
-        "tuple" => read_tuple(alloc, reader, depth),
-        "primitive" => match read_value(alloc, reader, depth)? {
-            Some(def) => Ok(Some(TypeDef::Primitive(def))),
-            None => Ok(None),
-        },
-        _ => read_by_ids(key, alloc, reader, depth),
+        "composite" => read_kind::<TypeDefComposite<PortableForm>>(source, depth),
+        "variant" => read_kind::<TypeDefVariant<PortableForm>>(source, depth),
+        "sequence" => read_kind::<TypeDefSequence<PortableForm>>(source, depth),
+        "array" => read_kind::<TypeDefArray<PortableForm>>(source, depth),
+        "tuple" => read_kind::<TypeDefTuple<PortableForm>>(source, depth),
+        "primitive" => read_kind::<TypeDefPrimitive>(source, depth),
+        "compact" => read_kind::<TypeDefCompact<PortableForm>>(source, depth),
+        "bitsequence" => read_kind::<TypeDefBitSequence<PortableForm>>(source, depth),
+        "map" => read_kind::<TypeDefMap<PortableForm>>(source, depth),
+        _ => {
+            pass_value(&mut source.reader, depth)?;
+            Ok(None)
+        }
     }
 }
 
@@ -164,10 +119,14 @@ fn with_member(
     }
 }
 
-impl Found<TypeDef<PortableForm>> for FoundDefinition {
-    ghost meant = { MeansTypeDef };
+impl Found for FoundDefinition {
+    type Keys = ();
 
-    ghost holds = { HoldsDefinition };
+    ghost has = { λ _ _. Unit {0} };
+
+    ghost distinct = { λ _. Unit {0} };
+
+    ghost holds = { λ _. HoldsDefinition };
 
     fn nothing() -> FoundDefinition {
         FoundDefinition::Nothing
@@ -175,43 +134,46 @@ impl Found<TypeDef<PortableForm>> for FoundDefinition {
 
     fn read_member(
         &mut self,
-        alloc: Global,
+        _keys: (),
         key: &str,
-        reader: &mut Reader<'_>,
+        source: &mut Source<'_>,
         depth: usize,
-    ) -> Result<(), Stop> {
+    ) -> Result<bool, Stop> {
         match known_key(key) {
             Some(known) => {
-                let value = read_definition(known, alloc, reader, depth)?;
+                let value = read_definition(known, source, depth)?;
                 *self = with_member(self, known, value);
-                Ok(())
             }
             None => {
+                pass_value(&mut source.reader, depth)?;
                 *self = FoundDefinition::Refused;
-                pass_value(reader, depth)
             }
         }
+        Ok(true)
     }
 
-    fn finish(self, _alloc: Global) -> Option<TypeDef<PortableForm>> {
-        match self {
+    ghost others = { λ keys found ms key tree other h. absurd (other tt) };
+}
+
+impl JsonObject<FoundDefinition> for TypeDef<PortableForm> {
+    ghost meant = { MeansTypeDef };
+
+    ghost holds = { HoldsDefinition };
+
+    ghost only_objects = { only_object_is_definition };
+
+    fn finish(found: FoundDefinition, _alloc: Global) -> Option<TypeDef<PortableForm>> {
+        match found {
             FoundDefinition::One(_, value) => value,
             FoundDefinition::Nothing | FoundDefinition::Refused => None,
         }
     }
-
-    ghost only_objects = { only_object_is_definition };
 }
 
 impl JsonText for TypeDef<PortableForm> {
     ghost meant = { MeansTypeDef };
 
-    fn from_token(
-        alloc: Global,
-        token: Token<'_>,
-        reader: &mut Reader<'_>,
-        depth: usize,
-    ) -> Result<Option<TypeDef<PortableForm>>, Stop> {
-        read_object::<FoundDefinition, TypeDef<PortableForm>>(alloc, token, reader, depth)
+    fn from_token(token: Token<'_>, source: &mut Source<'_>, depth: usize) -> Reading<Self> {
+        read_object::<FoundDefinition, Self>((), token, source, depth)
     }
 }

@@ -8,22 +8,16 @@ ghost use Rattle.scale_info_json_text.specs.Readings.{IfSyntax, IsMeant, Reads, 
 use crate::json_text::JsonText;
 use crate::number::unsigned;
 use crate::pass::pass_rest;
-use crate::stop::Stop;
+use crate::source::{Reading, Source};
 use json::{Reader, Token};
 use scale_info_identities::symbol::UntrackedSymbol;
 use scale_info_identities::type_id::TypeId;
-use std::alloc::Global;
 
 /// Reads the integer below the limit that comes next, of which the first token is taken; None
 /// where another value does.
 ///
 /// Errors: `Syntax`, where no tree's text begins so.
-fn number_below(
-    limit: u64,
-    token: Token<'_>,
-    reader: &mut Reader<'_>,
-    depth: usize,
-) -> Result<Option<u64>, Stop>
+fn number_below(limit: u64, token: Token<'_>, reader: &mut Reader<'_>, depth: usize) -> Reading<u64>
     ensures ok { IfOk result (λ found. Reads (λ tree. IsMeant (MeansNumber limit tree) found) depth
         (token_of token.entry ∷ reader.old) reader.new) }
     ensures syntax { IfErr result
@@ -42,13 +36,8 @@ fn number_below(
 impl JsonText for u32 {
     ghost meant = { MeansNumber (2 ^ 32) };
 
-    fn from_token(
-        _alloc: Global,
-        token: Token<'_>,
-        reader: &mut Reader<'_>,
-        depth: usize,
-    ) -> Result<Option<u32>, Stop> {
-        match number_below(4294967296, token, reader, depth)? {
+    fn from_token(token: Token<'_>, source: &mut Source<'_>, depth: usize) -> Reading<Self> {
+        match number_below(4294967296, token, &mut source.reader, depth)? {
             Some(number) => Ok(Some(number as u32)),
             None => Ok(None),
         }
@@ -58,13 +47,8 @@ impl JsonText for u32 {
 impl JsonText for u8 {
     ghost meant = { MeansNumber 256 };
 
-    fn from_token(
-        _alloc: Global,
-        token: Token<'_>,
-        reader: &mut Reader<'_>,
-        depth: usize,
-    ) -> Result<Option<u8>, Stop> {
-        match number_below(256, token, reader, depth)? {
+    fn from_token(token: Token<'_>, source: &mut Source<'_>, depth: usize) -> Reading<Self> {
+        match number_below(256, token, &mut source.reader, depth)? {
             Some(number) => Ok(Some(number as u8)),
             None => Ok(None),
         }
@@ -74,13 +58,8 @@ impl JsonText for u8 {
 impl JsonText for UntrackedSymbol<TypeId> {
     ghost meant = { MeansId };
 
-    fn from_token(
-        alloc: Global,
-        token: Token<'_>,
-        reader: &mut Reader<'_>,
-        depth: usize,
-    ) -> Result<Option<UntrackedSymbol<TypeId>>, Stop> {
-        match u32::from_token(alloc, token, reader, depth)? {
+    fn from_token(token: Token<'_>, source: &mut Source<'_>, depth: usize) -> Reading<Self> {
+        match u32::from_token(token, source, depth)? {
             Some(id) => Ok(Some(UntrackedSymbol::from(id))),
             None => Ok(None),
         }

@@ -4,9 +4,9 @@ ghost use Rattle.json.specs.Reads.{token_of};
 ghost use Rattle.serde_json.specs.Data.{Data};
 ghost use Rattle.scale_info_json_text.specs.Readings.{IfSyntax, IsMeant, Reads, HasNoTree};
 
+use crate::source::{Reading, Source};
 use crate::stop::Stop;
-use json::{Reader, Token};
-use std::alloc::Global;
+use json::Token;
 
 /// A value that is read from JSON text, and no tree is made.
 pub trait JsonText: Drop {
@@ -17,30 +17,21 @@ pub trait JsonText: Drop {
     /// where the tree means none. Arrays and objects nest as deep as `depth` says.
     ///
     /// Errors: `Syntax`, where no tree's text begins so; `Memory`, if an allocation failed.
-    fn from_token(
-        alloc: Global,
-        token: Token<'_>,
-        reader: &mut Reader<'_>,
-        depth: usize,
-    ) -> Result<Option<Self>, Stop>
+    fn from_token(token: Token<'_>, source: &mut Source<'_>, depth: usize) -> Reading<Self>
         ensures ok { IfOk result (λ found. Reads (λ tree. IsMeant (meant tree) found) depth
-            (token_of token.entry ∷ reader.old) reader.new) }
+            (token_of token.entry ∷ source.old.reader) source.new.reader) }
         ensures syntax { IfErr result
-            (IfSyntax (HasNoTree depth (token_of token.entry ∷ reader.old))) };
+            (IfSyntax (HasNoTree depth (token_of token.entry ∷ source.old.reader))) };
 }
 
 /// Reads the value that the tree of the text which comes next means; None where it means none.
 ///
 /// Errors: `Syntax`, where no tree's text comes next; `Memory`, if an allocation failed.
-pub fn read_value<T: JsonText>(
-    alloc: Global,
-    reader: &mut Reader<'_>,
-    depth: usize,
-) -> Result<Option<T>, Stop>
+pub fn read_value<T: JsonText>(source: &mut Source<'_>, depth: usize) -> Reading<T>
     ensures ok { IfOk result (λ found. Reads (λ tree. IsMeant (T.meant tree) found) depth
-        reader.old reader.new) }
-    ensures syntax { IfErr result (IfSyntax (HasNoTree depth reader.old)) }
+        source.old.reader source.new.reader) }
+    ensures syntax { IfErr result (IfSyntax (HasNoTree depth source.old.reader)) }
 {
-    let token = reader.next().ok_or(Stop::Syntax)?;
-    T::from_token(alloc, token, reader, depth)
+    let token = source.reader.next().ok_or(Stop::Syntax)?;
+    T::from_token(token, source, depth)
 }

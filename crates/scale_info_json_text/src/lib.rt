@@ -2,9 +2,9 @@
 #![tactic(auto)]
 
 mod definition;
-mod entry;
+mod description;
 mod error;
-mod field;
+mod found;
 mod integer;
 mod json_text;
 pub mod laws;
@@ -17,9 +17,9 @@ mod part;
 mod pass;
 mod portable;
 mod primitive;
+mod source;
 mod stop;
 mod text;
-mod variant;
 
 pub use error::JsonTextError;
 pub use portable::from_json_text;

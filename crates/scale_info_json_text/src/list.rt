@@ -1,32 +1,30 @@
 //! Lists of a text.
-ghost use Rattle.std.specs.Prelude.{◌≡◌, ◌∷◌, IfOk, IfErr};
+ghost use Rattle.std.specs.Prelude.{◌≡◌, IfOk, IfErr};
 ghost use Rattle.scale_info_json_trees.specs.Meaning.{MeansEach, MeansList};
 ghost use Rattle.scale_info_json_text.specs.Readings.{IfSyntax, IsMeant, ReadsItems, HasNoItems};
 ghost use Rattle.scale_info_json_text.specs.Readings.{with_last};
 
 use crate::json_text::{JsonText, read_value};
 use crate::pass::pass_rest;
+use crate::source::{Reading, Source};
 use crate::stop::Stop;
-use json::{Reader, Token};
+use json::Token;
 use scale_info_collections::items::Items;
-use std::alloc::{AllocError, Global};
+use std::alloc::AllocError;
 
 /// Reads the values that the items of an array mean, and its closing bracket; None where an item
 /// means none.
 ///
 /// Errors: `Syntax`, where something else comes next; `Memory`, if an allocation failed.
-fn read_items<T: JsonText>(
-    alloc: Global,
-    reader: &mut Reader<'_>,
-    depth: usize,
-) -> Result<Option<Items<T>>, Stop>
+fn read_items<T: JsonText>(source: &mut Source<'_>, depth: usize) -> Reading<Items<T>>
     ensures ok { IfOk result (λ found. ReadsItems
-        (λ trees. IsMeant (MeansEach T.meant trees) found) depth reader.old reader.new) }
-    ensures syntax { IfErr result (IfSyntax (HasNoItems depth reader.old)) }
+        (λ trees. IsMeant (MeansEach T.meant trees) found) depth
+        source.old.reader source.new.reader) }
+    ensures syntax { IfErr result (IfSyntax (HasNoItems depth source.old.reader)) }
 {
-    let mut values = Some(Items::new(alloc));
-    'items: while !reader.take_end_array() {
-        let found = read_value(alloc, reader, depth)?;
+    let mut values = Some(Items::new(source.alloc));
+    'items: while !source.reader.take_end_array() {
+        let found = read_value(source, depth)?;
         values = with_item(values, found)?;
     }
     Ok(values)
@@ -53,19 +51,14 @@ fn with_item<T: Drop>(
 impl<T: JsonText> JsonText for Items<T> {
     ghost meant = { MeansList T.meant };
 
-    fn from_token(
-        alloc: Global,
-        token: Token<'_>,
-        reader: &mut Reader<'_>,
-        depth: usize,
-    ) -> Result<Option<Items<T>>, Stop> {
+    fn from_token(token: Token<'_>, source: &mut Source<'_>, depth: usize) -> Reading<Self> {
         if let Token::BeginArray = token {
             if depth == 0 {
                 return Err(Stop::Syntax);
             }
-            return read_items(alloc, reader, depth - 1);
+            return read_items(source, depth - 1);
         }
-        pass_rest(token, reader, depth)?;
+        pass_rest(token, &mut source.reader, depth)?;
         Ok(None)
     }
 }

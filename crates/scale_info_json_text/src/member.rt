@@ -1,15 +1,17 @@
-//! What is read under the keys of an object.
-ghost use Rattle.std.specs.Prelude.{◌≡◌, ◌≢◌, Option, Some, OnOk, IfErr};
-ghost use Rattle.serde_json.specs.Data.{Data, Members, put};
+//! What is read under one key of an object.
+ghost use Rattle.std.specs.Prelude.{◌≡◌, Option, Some, OnOk, IfErr};
+ghost use Rattle.std.proofs.Common.{sym};
+ghost use Rattle.serde_json.specs.Data.{Data};
 ghost use Rattle.scale_info_json_trees.specs.Meaning.{MeansList, MeansOrEmpty, MeansOrNone};
 ghost use Rattle.scale_info_json_trees.specs.Meaning.{MeansOrNull, MeansRequired};
 ghost use Rattle.scale_info_json_text.specs.Readings.{IfSyntax, IsMeant, Reads, HasNoTree};
-ghost use Rattle.scale_info_json_text.specs.Members.{HoldsAt, HoldsOne, HoldsTwo};
+ghost use Rattle.scale_info_json_text.specs.Members.{HoldsAt, HoldsOne};
+ghost use Rattle.scale_info_json_text.specs.MemberLaws.{put_elsewhere};
 
+use crate::found::Found;
 use crate::json_text::{JsonText, read_value};
-use crate::pass::pass_value;
+use crate::source::Source;
 use crate::stop::Stop;
-use json::Reader;
 use scale_info_collections::items::Items;
 use std::alloc::Global;
 
@@ -27,75 +29,52 @@ pub enum Member<T> {
 /// Reads the value of a key, in place of what was read under it before.
 ///
 /// Errors: `Syntax`, where no tree's text comes next; `Memory`, if an allocation failed.
-pub fn read_under<T: JsonText>(
+fn read_under<T: JsonText>(
     found: &mut Member<T>,
-    alloc: Global,
-    reader: &mut Reader<'_>,
+    source: &mut Source<'_>,
     depth: usize,
 ) -> Result<(), Stop>
     ensures ok { OnOk result (Reads (λ tree. HoldsAt T.meant found.new (Some tree)) depth
-        reader.old reader.new) }
-    ensures syntax { IfErr result (IfSyntax (HasNoTree depth reader.old)) }
+        source.old.reader source.new.reader) }
+    ensures syntax { IfErr result (IfSyntax (HasNoTree depth source.old.reader)) }
 {
-    *found = match read_value(alloc, reader, depth)? {
+    *found = match read_value(source, depth)? {
         Some(value) => Member::Value(value),
         None => Member::Meaningless,
     };
     Ok(())
 }
 
-/// Reads the value of a key that came, into what was found under the key of an object which has
-/// one, and passes over the value of another key.
-///
-/// Errors: `Syntax`, where no tree's text comes next; `Memory`, if an allocation failed.
-pub fn read_of_one<A: JsonText>(
-    found: &mut Member<A>,
-    wanted: &str,
-    alloc: Global,
-    key: &str,
-    reader: &mut Reader<'_>,
-    depth: usize,
-) -> Result<(), Stop>
-    ensures ok { OnOk result (Reads (λ tree. (ms : Members)
-        → HoldsOne wanted.now A.meant found.old ms
-        → HoldsOne wanted.now A.meant found.new (put key.now tree ms)) depth
-        reader.old reader.new) }
-    ensures syntax { IfErr result (IfSyntax (HasNoTree depth reader.old)) }
-{
-    if key == wanted {
-        read_under(found, alloc, reader, depth)
-    } else {
-        pass_value(reader, depth)
-    }
-}
+impl<T: JsonText> Found for Member<T> {
+    type Keys = &'static str;
 
-/// Reads the value of a key that came, into what was found under the keys of an object which has
-/// two, and passes over the value of another key.
-///
-/// Errors: `Syntax`, where no tree's text comes next; `Memory`, if an allocation failed.
-pub fn read_of_two<A: JsonText, B: JsonText>(
-    found: &mut (Member<A>, Member<B>),
-    first: &str,
-    second: &str,
-    alloc: Global,
-    key: &str,
-    reader: &mut Reader<'_>,
-    depth: usize,
-) -> Result<(), Stop>
-    requires { first.now ≢ second.now }
-    ensures ok { OnOk result (Reads (λ tree. (ms : Members)
-        → HoldsTwo first.now second.now A.meant B.meant found.old ms
-        → HoldsTwo first.now second.now A.meant B.meant found.new (put key.now tree ms))
-        depth reader.old reader.new) }
-    ensures syntax { IfErr result (IfSyntax (HasNoTree depth reader.old)) }
-{
-    if key == first {
-        read_under(&mut found.0, alloc, reader, depth)
-    } else if key == second {
-        read_under(&mut found.1, alloc, reader, depth)
-    } else {
-        pass_value(reader, depth)
+    ghost has = { λ wanted key. key ≡ wanted.now };
+
+    ghost distinct = { λ _. Unit {0} };
+
+    ghost holds = { λ wanted. HoldsOne wanted.now T.meant };
+
+    fn nothing() -> Member<T> {
+        Member::Missing
     }
+
+    #[inline(always)]
+    fn read_member(
+        &mut self,
+        wanted: &'static str,
+        key: &str,
+        source: &mut Source<'_>,
+        depth: usize,
+    ) -> Result<bool, Stop> {
+        if key == wanted {
+            read_under(self, source, depth)?;
+            return Ok(true);
+        }
+        Ok(false)
+    }
+
+    ghost others = { λ wanted found ms key tree other.
+        put_elsewhere T.meant wanted.now key tree ms found (λ e. other (sym e)) };
 }
 
 /// The value of a required key; None where the key is missing or its tree means no value.

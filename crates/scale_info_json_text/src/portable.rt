@@ -11,8 +11,9 @@ ghost use Rattle.scale_info_json_text.specs.TextTables.{TextMeans, IsErrorOf};
 
 use crate::error::JsonTextError;
 use crate::json_text::{JsonText, read_value};
-use crate::member::{Member, read_of_one, required};
-use crate::object::{Found, read_object};
+use crate::member::{Member, required};
+use crate::object::{JsonObject, read_object};
+use crate::source::{Reading, Source};
 use crate::stop::Stop;
 use json::{Reader, Scratch, Token};
 use scale_info_collections::items::Items;
@@ -23,61 +24,39 @@ use std::alloc::Global;
 /// How deep arrays and objects may nest in a text, as in one that `serde_json` reads.
 const MAX_DEPTH: usize = 127;
 
-impl Found<PortableRegistry> for Member<Items<PortableType>> {
+impl JsonObject<Member<Items<PortableType>>> for PortableRegistry {
     ghost meant = { MeansTable };
 
     ghost holds = { HoldsOne (codes "types") (MeansList MeansEntry) };
 
-    fn nothing() -> Member<Items<PortableType>> {
-        Member::Missing
-    }
+    ghost only_objects = { λ tree v m. m.object };
 
-    fn read_member(
-        &mut self,
-        alloc: Global,
-        key: &str,
-        reader: &mut Reader<'_>,
-        depth: usize,
-    ) -> Result<(), Stop> {
-        read_of_one(self, "types", alloc, key, reader, depth)
-    }
-
-    fn finish(self, _alloc: Global) -> Option<PortableRegistry> {
-        let types = required(self)?;
+    fn finish(found: Member<Items<PortableType>>, _alloc: Global) -> Option<PortableRegistry> {
+        let types = required(found)?;
         Some(PortableRegistry { types })
     }
-
-    ghost only_objects = { λ tree v m. m.object };
 }
 
 impl JsonText for PortableRegistry {
     ghost meant = { MeansTable };
 
-    fn from_token(
-        alloc: Global,
-        token: Token<'_>,
-        reader: &mut Reader<'_>,
-        depth: usize,
-    ) -> Result<Option<PortableRegistry>, Stop> {
-        read_object::<Member<Items<PortableType>>, PortableRegistry>(alloc, token, reader, depth)
+    fn from_token(token: Token<'_>, source: &mut Source<'_>, depth: usize) -> Reading<Self> {
+        read_object::<Member<Items<PortableType>>, Self>("types", token, source, depth)
     }
 }
 
 /// Reads the table that a whole text means; None where its tree means none.
 ///
 /// Errors: `Syntax`, where the text is no JSON; `Memory`, if an allocation failed.
-fn read_whole(
-    alloc: Global,
-    text: &str,
-    scratch: &mut Scratch,
-) -> Result<Option<PortableRegistry>, Stop>
+fn read_whole(alloc: Global, text: &str, scratch: &mut Scratch) -> Reading<PortableRegistry>
     ensures ok { IfOk result (λ found. (tree : Data) × (read text.now ≡ Some tree)
         × IsMeant (MeansTable tree) found) }
     ensures syntax { IfErr result (IfSyntax (read text.now ≡ None)) }
 {
-    let mut reader = Reader::new(text, scratch)?;
-    let found = read_value(alloc, &mut reader, MAX_DEPTH)?;
-    match reader.next() {
+    let reader = Reader::new(text, scratch)?;
+    let mut source = Source { reader, alloc };
+    let found = read_value(&mut source, MAX_DEPTH)?;
+    match source.reader.next() {
         Some(_) => Err(Stop::Syntax),
         None => Ok(found),
     }

@@ -1,11 +1,11 @@
-use Rattle.std.proofs.Common.{sym, subst, arith}
+use Rattle.std.proofs.Common.{◌∷◌, sym, ap, subst, arith}
 use Rattle.json.specs.Token as spec
 use Rattle.json.specs.Reads.{token_of}
-use Rattle.std.proofs.Common.{◌∷◌}
+use Rattle.scale_info_json_trees.specs.Meaning.{MeansNumber}
 use Rattle.scale_info_json_text.specs.Readings.{HasNoTree}
 use Rattle.scale_info_json_text.proofs.Stops.{passed_syntax}
 use Rattle.scale_info_json_text.proofs.Trees.{none_begins}
-use Rattle.scale_info_json_text.proofs.Leaves.{number_read, number_above, number_other, not_number}
+use Rattle.scale_info_json_text.proofs.Leaves.{number_read, number_above, number_other, number_kind, kind_of, not_kind}
 use Rattle.scale_info_json_text.proofs.integer.number_below.Goals as goal
 
 pub returns-in_err-number-clause-syntax : goal.returns-in_err-number-clause-syntax
@@ -28,4 +28,5 @@ returns-in_default-2-2-clause-ok c =
 
 pub returns-clause-ok : goal.returns-clause-ok
 returns-clause-ok c =
-    not_number c.args.depth c.args.token c.args.reader.now c.pass_rest.new.reader c.args.limit c.in_default.not-Number c.in_ok-pass_rest.ensures.ok
+    not_kind c.args.depth c.args.token c.args.reader.now c.pass_rest.new.reader (MeansNumber c.args.limit) number_kind
+    (λ tree v m. ap kind_of m.is) (λ b. c.in_default.not-Number b.0 b.1) c.in_ok-pass_rest.ensures.ok
