@@ -96,3 +96,9 @@ pub use Rattle.scale_info_lent.specs.IntegerLists
 pub use Rattle.scale_info_lent.specs.LentValues
 pub use Rattle.scale_info_lent.specs.ValueParts
 pub use Rattle.scale_info_value_text.specs.ValueTexts
+pub use Rattle.scale_info_value_json.specs.Takers
+pub use Rattle.scale_info_value_json.specs.TreeParts
+pub use Rattle.scale_info_value_json.specs.DefinitionTakers
+pub use Rattle.scale_info_value_json.specs.Takings
+pub use Rattle.scale_info_value_json.specs.TreesOfTexts
+pub use Rattle.scale_info_value_json.specs.TreeExamples

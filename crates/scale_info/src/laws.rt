@@ -2,54 +2,106 @@
 
 pub mod examples;
 
-pub use scale_info_catalogue::laws::{equal_catalogue_errors, equal_register_errors};
-pub use scale_info_encode::laws::{
-    equal_encode_errors, equal_refusals, never_read, one_reading, read_back, written_as_read,
-};
-pub use scale_info_export::laws::{
-    equal_export_errors, equal_exported, headline, registered_tables,
-};
-pub use scale_info_identities::laws::{
-    equal_type_ids, hashed_type_ids, ordered_type_ids, symbols_by_number,
-};
-pub use scale_info_interner::laws::{equal_intern_errors, tracked_symbols_by_number};
-pub use scale_info_json::laws::{equal_json_errors, one_meaning};
+pub use scale_info_catalogue::laws::equal_catalogue_errors;
+pub use scale_info_catalogue::laws::equal_register_errors;
+pub use scale_info_encode::laws::equal_encode_errors;
+pub use scale_info_encode::laws::equal_refusals;
+pub use scale_info_encode::laws::never_read;
+pub use scale_info_encode::laws::one_reading;
+pub use scale_info_encode::laws::read_back;
+pub use scale_info_encode::laws::writes_alike;
+pub use scale_info_encode::laws::written_as_read;
+pub use scale_info_export::laws::equal_export_errors;
+pub use scale_info_export::laws::equal_exported;
+pub use scale_info_export::laws::headline;
+pub use scale_info_export::laws::registered_tables;
+pub use scale_info_identities::laws::equal_type_ids;
+pub use scale_info_identities::laws::hashed_type_ids;
+pub use scale_info_identities::laws::ordered_type_ids;
+pub use scale_info_identities::laws::symbols_by_number;
+pub use scale_info_interner::laws::equal_intern_errors;
+pub use scale_info_interner::laws::tracked_symbols_by_number;
+pub use scale_info_json::laws::equal_json_errors;
+pub use scale_info_json::laws::one_meaning;
 pub use scale_info_json_text::laws::equal_json_text_errors;
-pub use scale_info_laws::equalities::{
-    equal_codec_errors, equal_definition_parts, equal_fields, equal_parameters, equal_paths,
-    equal_variants,
-};
-pub use scale_info_laws::orders::{
-    hashed_meta_types, ordered_definition_parts, ordered_descriptions, ordered_fields,
-    ordered_meta_types, ordered_parameters, ordered_paths, ordered_texts, ordered_variants,
-};
-pub use scale_info_numberings::laws::{
-    any_registrations, closed, extension_composes, extension_unfolds, fresh_equals_pruned,
-    growth_keeps, keep_all_is_identity, match_carries, match_exactly, match_found,
-    numbering_extends_nothing, old_entries_stay, one_extension, one_list_of_places, one_numbering,
-    one_table, reached_by_path, reached_exactly, reached_inside, unfolds_alike,
-};
-pub use scale_info_primitives::laws::{equal_primitives, ordered_primitives};
+pub use scale_info_laws::equalities::equal_codec_errors;
+pub use scale_info_laws::equalities::equal_definition_parts;
+pub use scale_info_laws::equalities::equal_fields;
+pub use scale_info_laws::equalities::equal_parameters;
+pub use scale_info_laws::equalities::equal_paths;
+pub use scale_info_laws::equalities::equal_variants;
+pub use scale_info_laws::orders::hashed_meta_types;
+pub use scale_info_laws::orders::ordered_definition_parts;
+pub use scale_info_laws::orders::ordered_descriptions;
+pub use scale_info_laws::orders::ordered_fields;
+pub use scale_info_laws::orders::ordered_meta_types;
+pub use scale_info_laws::orders::ordered_parameters;
+pub use scale_info_laws::orders::ordered_paths;
+pub use scale_info_laws::orders::ordered_texts;
+pub use scale_info_laws::orders::ordered_variants;
+pub use scale_info_numberings::laws::any_registrations;
+pub use scale_info_numberings::laws::closed;
+pub use scale_info_numberings::laws::extension_composes;
+pub use scale_info_numberings::laws::extension_unfolds;
+pub use scale_info_numberings::laws::fresh_equals_pruned;
+pub use scale_info_numberings::laws::growth_keeps;
+pub use scale_info_numberings::laws::keep_all_is_identity;
+pub use scale_info_numberings::laws::match_carries;
+pub use scale_info_numberings::laws::match_exactly;
+pub use scale_info_numberings::laws::match_found;
+pub use scale_info_numberings::laws::numbering_extends_nothing;
+pub use scale_info_numberings::laws::old_entries_stay;
+pub use scale_info_numberings::laws::one_extension;
+pub use scale_info_numberings::laws::one_list_of_places;
+pub use scale_info_numberings::laws::one_numbering;
+pub use scale_info_numberings::laws::one_table;
+pub use scale_info_numberings::laws::reached_by_path;
+pub use scale_info_numberings::laws::reached_exactly;
+pub use scale_info_numberings::laws::reached_inside;
+pub use scale_info_numberings::laws::unfolds_alike;
+pub use scale_info_primitives::laws::equal_primitives;
+pub use scale_info_primitives::laws::ordered_primitives;
 pub use scale_info_prune::laws::equal_prune_errors;
-pub use scale_info_references::laws::{ids_of_references, same_shape};
-pub use scale_info_registry::laws::{
-    catalogue_grows, equal_registries, registered_afresh, registrations_afresh,
-    registrations_compose,
-};
-pub use scale_info_segments::laws::{equal_path_errors, one_list_of_pieces};
-pub use scale_info_tables::laws::{equal_tables, old_texts_stay, one_text, spelled_within_limits};
-pub use scale_info_type_ids::laws::{
-    own_identities, own_standard_identities, own_tuple_identities, shared_identities,
-};
+pub use scale_info_references::laws::ids_of_references;
+pub use scale_info_references::laws::same_shape;
+pub use scale_info_registry::laws::catalogue_grows;
+pub use scale_info_registry::laws::equal_registries;
+pub use scale_info_registry::laws::registered_afresh;
+pub use scale_info_registry::laws::registrations_afresh;
+pub use scale_info_registry::laws::registrations_compose;
+pub use scale_info_segments::laws::equal_path_errors;
+pub use scale_info_segments::laws::one_list_of_pieces;
+pub use scale_info_tables::laws::equal_tables;
+pub use scale_info_tables::laws::old_texts_stay;
+pub use scale_info_tables::laws::one_text;
+pub use scale_info_tables::laws::spelled_within_limits;
+pub use scale_info_type_ids::laws::own_identities;
+pub use scale_info_type_ids::laws::own_standard_identities;
+pub use scale_info_type_ids::laws::own_tuple_identities;
+pub use scale_info_type_ids::laws::shared_identities;
 pub use scale_info_type_info::laws::equal_info_errors;
-pub use scale_info_types::laws::{
-    equal_contents, equal_definitions, equal_portable, ordered_definitions, same_shape_same_counts,
-    shape_and_references, shape_and_references_of,
-};
-pub use scale_info_value::laws::{
-    counts_as_in_tables, equal_failures, equal_value_errors, equal_values, reads_alike,
-    texts_as_in_tables, unfolding_decides,
-};
+pub use scale_info_types::laws::equal_contents;
+pub use scale_info_types::laws::equal_definitions;
+pub use scale_info_types::laws::equal_portable;
+pub use scale_info_types::laws::ordered_definitions;
+pub use scale_info_types::laws::same_shape_same_counts;
+pub use scale_info_types::laws::shape_and_references;
+pub use scale_info_types::laws::shape_and_references_of;
+pub use scale_info_value::laws::counts_as_in_tables;
+pub use scale_info_value::laws::equal_failures;
+pub use scale_info_value::laws::equal_value_errors;
+pub use scale_info_value::laws::equal_values;
+pub use scale_info_value::laws::reads_alike;
+pub use scale_info_value::laws::texts_as_in_tables;
+pub use scale_info_value::laws::unfolding_decides;
+pub use scale_info_value_json::laws::encoded_text_taken_back;
+pub use scale_info_value_json::laws::equal_tree_refusals;
+pub use scale_info_value_json::laws::equal_value_json_errors;
+pub use scale_info_value_json::laws::json_and_bytes;
+pub use scale_info_value_json::laws::one_tree;
+pub use scale_info_value_json::laws::taken_is_encoded;
+pub use scale_info_value_json::laws::text_taken_back;
 pub use scale_info_view::laws::viewed_is_decoded;
 pub use scale_info_visit::laws::events_one_by_one;
-pub use scale_info_walk::laws::{equal_numberings, equal_retain_errors};
+pub use scale_info_walk::laws::equal_numberings;
+pub use scale_info_walk::laws::equal_retain_errors;
