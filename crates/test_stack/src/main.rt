@@ -1,9 +1,9 @@
 //! Calls that take stack by the depth of what they are given, each on an input as deep as wanted.
 //!
 //! `WHAT CALL LEVELS` makes values, identities or a table of so many levels, makes the call, and
-//! prints how deep the outcome is, or how many types were numbered. `checks/stack/run` runs it
-//! under bounds on the stack. What is given to a call is made without recursion, and is not dropped
-//! after `compare` and `copy`.
+//! prints how deep the outcome is, how many bytes were read or written, or how many types were
+//! numbered. `checks/stack/run` runs it under bounds on the stack. What is given to a call is made
+//! without recursion, and is not dropped after `compare`, `copy` and `encode`.
 #![tactic(auto)]
 
 mod identities;
@@ -12,6 +12,7 @@ mod reads;
 
 use crate::levels::{depth, nested, table_bytes, value_bytes};
 use anyhow::{Result, bail};
+use scale_info_encode::encode::encode_value;
 use scale_info_tables::portable::PortableRegistry;
 use scale_info_value::value::decode_value;
 use scale_info_walk::walk::number_recursive;
@@ -48,6 +49,17 @@ fn compare(alloc: Global, kinds: &str, levels: u32) -> Result<usize> {
     Ok(found)
 }
 
+/// How many bytes a value takes that is encoded.
+fn encode(alloc: Global, kinds: &str, levels: u32) -> Result<usize> {
+    let table = table_bytes(alloc, kinds, levels)?;
+    let (table, _) = PortableRegistry::decode(alloc, &table)?;
+    let value = nested(alloc, kinds, levels)?;
+    let mut bytes = Vec::new(alloc);
+    encode_value(&table, levels, &value, &mut bytes)?;
+    forget(value);
+    Ok(bytes.len())
+}
+
 /// How many types the outermost one reaches.
 fn number(alloc: Global, kinds: &str, levels: u32) -> Result<usize> {
     let table = table_bytes(alloc, kinds, levels)?;
@@ -63,6 +75,7 @@ fn call(alloc: Global, what: &str, call: &str, levels: u32) -> Result<usize> {
         (kinds, "decode") => decode(alloc, kinds, levels),
         (kinds, "drop") => drop_value(alloc, kinds, levels),
         (kinds, "compare") => compare(alloc, kinds, levels),
+        (kinds, "encode") => encode(alloc, kinds, levels),
         (kinds, "number") => number(alloc, kinds, levels),
         (kinds, call) => reads::call(alloc, kinds, call, levels),
     }

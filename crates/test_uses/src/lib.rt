@@ -14,6 +14,8 @@ mod changes;
 #[cfg(test)]
 mod entries;
 #[cfg(test)]
+mod inputs;
+#[cfg(test)]
 mod runs;
 #[cfg(test)]
 mod streams;

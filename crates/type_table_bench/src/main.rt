@@ -10,6 +10,7 @@ mod digest;
 mod events;
 mod interners;
 mod lent_values;
+mod loads;
 mod own;
 mod payloads;
 mod pool;
@@ -19,7 +20,9 @@ mod records;
 mod registrations;
 mod runtime;
 mod scale;
+mod signing;
 mod table_bytes;
+mod table_texts;
 mod tables;
 mod texts;
 mod value_texts;
@@ -27,7 +30,10 @@ mod visits;
 
 use crate::digest::Digest;
 use crate::lent_values::Loans;
+use crate::loads::{ByTable, ByView};
 use crate::readings::{read_payloads, read_records};
+use crate::signing::Signing;
+use crate::table_texts::{ByTree, Straight};
 use crate::value_texts::Texts;
 use crate::visits::Visits;
 use anyhow::{Result, bail};
@@ -35,7 +41,7 @@ use std::alloc::Global;
 use std::env;
 
 /// The workloads.
-const NAMES: [&str; 13] = [
+const NAMES: [&str; 19] = [
     "records",
     "payloads",
     "tables",
@@ -49,6 +55,12 @@ const NAMES: [&str; 13] = [
     "lent_payloads",
     "value_texts",
     "payload_texts",
+    "signing",
+    "payload_signing",
+    "views",
+    "whole_tables",
+    "reads_text",
+    "reads_tree",
 ];
 
 /// Runs a workload.
@@ -67,6 +79,12 @@ fn run(alloc: Global, name: &str, seed: u32, rounds: u32) -> Result<Digest> {
         "lent_payloads" => read_payloads::<Loans>(alloc, seed, rounds),
         "value_texts" => read_records::<Texts>(alloc, seed, rounds),
         "payload_texts" => read_payloads::<Texts>(alloc, seed, rounds),
+        "signing" => read_records::<Signing>(alloc, seed, rounds),
+        "payload_signing" => read_payloads::<Signing>(alloc, seed, rounds),
+        "views" => loads::run::<ByView>(alloc, seed, rounds),
+        "whole_tables" => loads::run::<ByTable>(alloc, seed, rounds),
+        "reads_text" => table_texts::run::<Straight>(alloc, seed, rounds),
+        "reads_tree" => table_texts::run::<ByTree>(alloc, seed, rounds),
         _ => bail!("no workload has this name"),
     }
 }
