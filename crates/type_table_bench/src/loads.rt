@@ -74,7 +74,7 @@ fn is_read(alloc: Global, table: &PortableRegistry, id: u32, input: &[u8]) -> bo
 }
 
 /// The last three types whose values can be read, and bytes of 0 and 1.
-fn chosen(alloc: Global, table: &PortableRegistry, random: &mut Random) -> Result<Chosen> {
+fn choose(alloc: Global, table: &PortableRegistry, random: &mut Random) -> Result<Chosen> {
     let mut input = Vec::new(alloc);
     for _ in 0..BYTES {
         input.push(random.below(2) as u8)?;
@@ -100,7 +100,7 @@ pub fn run<L: Loading>(alloc: Global, seed: u32, rounds: u32) -> Result<Digest> 
     let mut random = Random::new(seed, 14);
     let mut documented = runtime_table(alloc, Random::new(seed, 15), TYPES)?;
     let (table, _) = PortableRegistry::decode(alloc, &documented.bytes)?;
-    let chosen = chosen(alloc, &table, &mut random)?;
+    let chosen = choose(alloc, &table, &mut random)?;
     for _ in 0..rounds {
         documented.change(&mut random, 256, false);
         L::put(alloc, &documented.bytes, &chosen, &mut digest)?;
