@@ -1,5 +1,7 @@
 //! Values of small types: each input of up to three bytes is decoded, and what is found is encoded
 //! to the bytes that it was decoded from.
+ghost use Rattle.std.specs.Prelude.{◌≤◌};
+
 use crate::asserts::is;
 use scale_info::PortableRegistry;
 use scale_info::value::{ValueError, decode_value, encode_value};
@@ -15,7 +17,7 @@ const SMALL: &str = "\
 
 /// What inputs of one length are.
 #[derive(Drop, Debug, PartialEq, Eq)]
-struct Counts {
+struct Counted {
     /// How many are a value, with nothing after it.
     values: u32,
     /// How many begin with a value, and have bytes after it.
@@ -30,12 +32,12 @@ fn count(
     alloc: Global,
     table: &PortableRegistry,
     input: &[u8],
-    counts: &mut Counts,
+    found: &mut Counted,
 ) -> Result<(), Fail> {
     let (value, rest) = match decode_value(alloc, table, 2, input) {
         Ok(found) => found,
         Err(ValueError::Malformed) => {
-            counts.malformed = counts.malformed.saturating_add(1);
+            found.malformed = found.malformed.saturating_add(1);
             return Ok(());
         }
         Err(error) => return Err(error.into()),
@@ -45,75 +47,92 @@ fn count(
     bytes.extend_from_slice(rest)?;
     is(rt, "bytes", bytes.as_slice(), input);
     if rest.is_empty() {
-        counts.values = counts.values.saturating_add(1);
+        found.values = found.values.saturating_add(1);
     } else {
-        counts.longer = counts.longer.saturating_add(1);
+        found.longer = found.longer.saturating_add(1);
     }
     Ok(())
 }
 
-/// What the inputs of so many bytes are, at most three.
+/// What so many inputs of `len` bytes are: the numbers from 0 on, the lowest byte first.
 fn counts_of(
     rt: &impl Abort,
     alloc: Global,
     table: &PortableRegistry,
     len: usize,
-) -> Result<Counts, Fail> {
-    let mut counts = Counts {
-        values: 0,
-        longer: 0,
-        malformed: 0,
-    };
-    for number in 0..1u32 << (8 * len as u32) {
+    inputs: u32,
+) -> Result<Counted, Fail>
+    requires { len ≤ 3 }
+{
+    let mut found = counts(0, 0, 0);
+    for number in 0..inputs {
         let bytes = number.to_le_bytes();
-        count(rt, alloc, table, &bytes[..len], &mut counts)?;
+        let (input, _) = bytes.split_at(len);
+        count(rt, alloc, table, input, &mut found)?;
     }
-    Ok(counts)
+    Ok(found)
 }
 
-/// Asserts what the inputs of no byte, of one, of two and of three are.
-fn are(
-    rt: &impl Abort,
-    alloc: Global,
-    table: &[u8],
-    wanted: [(u32, u32, u32); 4],
-) -> Result<(), Fail> {
-    let (table, _) = PortableRegistry::decode(alloc, table)?;
-    for (len, (values, longer, malformed)) in wanted.into_iter().enumerate() {
-        let found = counts_of(rt, alloc, &table, len)?;
-        is(
-            rt,
-            "inputs",
-            found,
-            Counts {
-                values,
-                longer,
-                malformed,
-            },
-        );
+/// So many of each.
+fn counts(values: u32, longer: u32, malformed: u32) -> Counted {
+    Counted {
+        values,
+        longer,
+        malformed,
     }
-    Ok(())
 }
 
 #[test]
 fn all_values_of_a_small_enum_are_encoded(rt: HostRuntime) -> Result<(), Fail> {
-    let wanted = [
-        (0, 0, 1),
-        (1, 0, 255),
-        (2, 256, 65278),
-        (512, 66048, 16710656),
-    ];
-    are(&rt, rt.alloc(), &row_bytes(rt.alloc(), SMALL)?, wanted)
+    let alloc = rt.alloc();
+    let (table, _) = PortableRegistry::decode(alloc, &row_bytes(alloc, SMALL)?)?;
+    is(
+        &rt,
+        "none",
+        counts_of(&rt, alloc, &table, 0, 1)?,
+        counts(0, 0, 1),
+    );
+    is(
+        &rt,
+        "one",
+        counts_of(&rt, alloc, &table, 1, 256)?,
+        counts(1, 0, 255),
+    );
+    is(
+        &rt,
+        "two",
+        counts_of(&rt, alloc, &table, 2, 65536)?,
+        counts(2, 256, 65278),
+    );
+    let found = counts_of(&rt, alloc, &table, 3, 16777216)?;
+    is(&rt, "three", found, counts(512, 66048, 16710656));
+    Ok(())
 }
 
 #[test]
 fn short_inputs_of_an_option_are_none_or_malformed(rt: HostRuntime) -> Result<(), Fail> {
-    let wanted = [
-        (0, 0, 1),
-        (1, 0, 255),
-        (0, 256, 65280),
-        (0, 65536, 16711680),
-    ];
-    let row = row_named(rt.alloc(), TABLES, "u32, bool, Option<(u32, bool)>")?;
-    are(&rt, rt.alloc(), &row.bytes, wanted)
+    let alloc = rt.alloc();
+    let row = row_named(alloc, TABLES, "u32, bool, Option<(u32, bool)>")?;
+    let (table, _) = PortableRegistry::decode(alloc, &row.bytes)?;
+    is(
+        &rt,
+        "none",
+        counts_of(&rt, alloc, &table, 0, 1)?,
+        counts(0, 0, 1),
+    );
+    is(
+        &rt,
+        "one",
+        counts_of(&rt, alloc, &table, 1, 256)?,
+        counts(1, 0, 255),
+    );
+    is(
+        &rt,
+        "two",
+        counts_of(&rt, alloc, &table, 2, 65536)?,
+        counts(0, 256, 65280),
+    );
+    let found = counts_of(&rt, alloc, &table, 3, 16777216)?;
+    is(&rt, "three", found, counts(0, 65536, 16711680));
+    Ok(())
 }
