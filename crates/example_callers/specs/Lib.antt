@@ -1,4 +1,3 @@
 pub mod ReadingLaws
-pub mod Signing
 pub mod Temperatures
 pub mod Transfers
