@@ -1,5 +1,5 @@
 use Rattle.std.proofs.Common.{arith, add-one}
-use Rattle.scale_info_tables.proofs.retain.chosen_ids.Goals as goal
+use Rattle.scale_info_tables.proofs.chosen.chosen_ids.Goals as goal
 
 pub loop-id-preserved : goal.loop-id-preserved
 loop-id-preserved g c =

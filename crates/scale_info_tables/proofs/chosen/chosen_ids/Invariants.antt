@@ -1,6 +1,6 @@
 use Rattle.std.proofs.Common.{◌≤◌, vec_capacity, vec_len}
 use Rattle.scale_info_tables.specs.Pruned.{IsChosen}
-use Rattle.scale_info_tables.proofs.retain.chosen_ids.Given as goal
+use Rattle.scale_info_tables.proofs.chosen.chosen_ids.Given as goal
 
 abbrev pub invariant-loop-id : goal.invariant-loop-id
 invariant-loop-id g l = record {
