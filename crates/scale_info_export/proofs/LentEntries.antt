@@ -2,6 +2,7 @@
 use Rattle.std.proofs.Common.{◌≡◌, ◌++◌, ◌∷◌, ◌+◌, ◌<◌, ◌∙◌, ℕ, zero, suc, List, [], Some, Bor}
 use Rattle.std.proofs.Common.{ap, arith, get_or, length, map, option_map, refl, slice_get, subst}
 use Rattle.std.proofs.Common.{append_assoc, Bool, Err, Ok, OnOk, Option, Result, ◌≤◌, append-nil, drop, sym, take}
+use Rattle.std.specs.BTreeMap.{BTreeMap}
 use Rattle.std.specs.Prelude.{OnErr}
 use Rattle.std.proofs.lemmas.Grind.{flat_map-append}
 use Rattle.std.proofs.lemmas.List.{length-map, length-take-le, map-append, take-append-drop, take_more}
@@ -17,7 +18,8 @@ use Rattle.scale_info_export.specs.LentEntries.{lent_entries, new_id, picked, re
 use Rattle.scale_info_identities.specs.declared.type_id.TypeId.{TypeId}
 use Rattle.scale_info_numberings.proofs.Places.{at_left, element_at}
 use Rattle.scale_info_catalogue.specs.Discoveries.{nodes_of}
-use Rattle.scale_info_export.specs.Exports.{IsRegisteredTable}
+use Rattle.scale_info_export.proofs.Exported.{exported}
+use Rattle.scale_info_export.specs.Exports.{IsExported, IsRegisteredTable}
 use Rattle.scale_info_identities.specs.TypeIds.{Term}
 use Rattle.scale_info_numberings.specs.Numberings.{IsNumbering}
 use Rattle.scale_info_numberings.specs.Systems.{IsReached, System}
@@ -27,7 +29,7 @@ use Rattle.scale_info_references.specs.Conversions.{ids_in, number_of, symbol, w
 use Rattle.scale_info_registry.specs.LentTypes.{id_in, with_ids_in}
 use Rattle.scale_info_tables.proofs.Interned.{length_numbered, numbered_push}
 use Rattle.scale_info_tables.specs.BuiltTables.{numbered_from}
-use Rattle.scale_info_tables.specs.Pruned.{IsChosen, IsRetainError}
+use Rattle.scale_info_tables.specs.Pruned.{IsChosen, IsPruned, IsRetainError}
 use Rattle.scale_info_types.specs.KeptEntries.{kept_entry}
 use Rattle.scale_info_types.specs.MetaDescriptions.{MetaDescription}
 use Rattle.scale_info_types.specs.Portable as portable
@@ -285,3 +287,29 @@ lent_table S roots ids found given made long few places =
       entries = made.1;
       few = omega arith;
     }
+
+-- what is kept of the entries of types that were lent, as `number_kept` says it
+pub lent_pruned :
+    {F : Type 0} (S : System Shape Term) (roots : List Term) (ids : List TypeId) (found : List (Bor MetaDescription))
+    (given order numbers kept_order kept_numbers : List ℕ) (new_ids : BTreeMap ℕ ℕ)
+    (step : F → ℕ → Bool → F → Type 0) (filter : F)
+    → IsRegisteredTable S roots given (record { types = lent_entries ids found })
+    → order ≡ kept_order → numbers ≡ kept_numbers
+    → ((i d : ℕ) → i < length kept_order → get_or kept_order i d < length found)
+    → ((chosen : List ℕ) × (last : F) × IsChosen step filter (length found) chosen last
+    × ((kept : List PortableType)
+    → AreKept (lent_entries ids found) kept_order (number_of kept_numbers) kept
+    → IsPruned (lent_entries ids found) chosen kept new_ids))
+    → IsExported S roots step filter given new_ids
+    (record { types = renumbered_entries ids numbers (picked found order) })
+lent_pruned S roots ids found given order numbers kept_order kept_numbers new_ids step filter table ord num all (chosen, last, asked, prune) =
+    let pruned =
+    prune (renumbered_entries ids kept_numbers (picked found kept_order))
+    (are_kept ids kept_numbers found kept_order (within_by_place kept_order (length found) all)) in
+    let made =
+    exported S roots given (record { types = lent_entries ids found })
+    (record { types = renumbered_entries ids kept_numbers (picked found kept_order) }) step filter last chosen new_ids
+    table (chosen_at step filter last (length found) (length (lent_entries ids found)) chosen (sym (length_lent ids found)) asked)
+    pruned in
+    subst (λ os. IsExported S roots step filter given new_ids (record { types = renumbered_entries ids numbers (picked found os) })) (sym ord)
+    (subst (λ ns. IsExported S roots step filter given new_ids (record { types = renumbered_entries ids ns (picked found kept_order) })) (sym num) made)
