@@ -1,14 +1,14 @@
-//! Values that are decoded by a table, lent, and written as text.
+//! Values that are decoded by a table, encoded again, lent, and written as text.
 use example_callers::print::print_decoded;
 use scale_info::PortableRegistry;
-use scale_info::lent::{Lent, decode_lent};
-use scale_info::value::{Dyn, ValueError, decode_value};
+use scale_info::lent::decode_lent;
+use scale_info::value::{Dyn, decode_value, encode_value};
 use scale_info::value_text::{ValueTextError, append_value_json, value_json};
-use std::alloc::{AllocError, Global};
+use std::alloc::Global;
 use std::test::Fail;
 use test_common::held::Held;
 use test_common::rows::{parted, row_bytes};
-use test_memory_common::answers::{Answer, done, failed, shown};
+use test_memory_common::answers::{answered, done, failed, shown};
 use test_memory_common::inputs::{output, table_of};
 use test_memory_common::marks::{begin, end};
 use test_memory_common::outcomes::Outcome;
@@ -19,10 +19,15 @@ use test_memory_tables::json::appended;
 fn parts(alloc: Global, row: &str) -> Result<(u32, Vec<u8>, PortableRegistry), Fail> {
     let (_, rest) = parted(row, ':')?;
     let (id, rest) = parted(rest, ';')?;
+    let (input, table) = input_and_table(alloc, rest)?;
+    Ok((id.trim().parse()?, input, table))
+}
+
+/// The input and the table of the end of a row.
+fn input_and_table(alloc: Global, rest: &str) -> Result<(Vec<u8>, PortableRegistry), Fail> {
     let (table, input) = parted(rest, ';')?;
-    let id: u32 = id.trim().parse()?;
     let input = row_bytes(alloc, input)?;
-    Ok((id, input, table_of(alloc, table)?))
+    Ok((input, table_of(alloc, table)?))
 }
 
 /// Whether another decoding gives this value too.
@@ -54,93 +59,62 @@ fn printed(
     id: u32,
     input: &[u8],
     value: &Dyn,
-) -> Result<Answer, Fail> {
+) -> Result<String, Fail> {
     let is_same = is_decoded_again(alloc, table, id, input, value)?;
     let mut text = Vec::new(alloc);
     let rest = print_decoded(alloc, table, id, input, &mut text)?;
     let text = text_of(alloc, text, rest)?;
-    Ok(done(format!(in alloc; "{text} {is_same}"))?)
-}
-
-/// The answer of a decoding.
-fn answer(
-    alloc: Global,
-    table: &PortableRegistry,
-    id: u32,
-    input: &[u8],
-    returned: Result<(Dyn, &[u8]), ValueError>,
-) -> Result<Answer, Fail> {
-    match returned {
-        Ok((value, _)) => printed(alloc, table, id, input, &value),
-        Err(error) => Ok(failed(alloc, &error)?),
-    }
+    Ok(format!(in alloc; "{text} {is_same}")?)
 }
 
 /// Decodes the value of a row.
 pub fn decode(rt: &HostRuntime, row: &str) -> Result<Outcome, Fail> {
-    let (id, input, table) = parts(rt.alloc(), row)?;
-    begin(rt);
-    let returned = decode_value(rt.alloc(), &table, id, &input);
-    end(rt);
-    let answer = answer(rt.alloc(), &table, id, &input, returned)?;
-    Outcome::of(Ok(answer))
+    let alloc = rt.alloc();
+    let (id, input, table) = parts(alloc, row)?;
+    let read = || decode_value(alloc, &table, id, &input);
+    Outcome::of_call(rt, read, |alloc, (value, _)| {
+        done(Ok(printed(alloc, &table, id, &input, &value)?))
+    })
 }
 
-/// What a decoding to a value that borrows returned, and whether its copy is the value that is
-/// decoded.
-fn lent_answer(
-    alloc: Global,
-    table: &PortableRegistry,
-    id: u32,
-    input: &[u8],
-    returned: Result<(Lent<'_, '_>, &[u8]), ValueError>,
-) -> Result<Answer, Fail> {
-    match returned {
-        Ok((lent, rest)) => {
-            let copy = lent.to_dyn(alloc)?;
-            let is_same = is_decoded_again(alloc, table, id, input, &copy)?;
-            Ok(done(format!(in alloc; "{is_same} {rest:?}"))?)
-        }
-        Err(error) => Ok(failed(alloc, &error)?),
-    }
-}
-
-/// Decodes the value of a row as one that borrows.
+/// Decodes the value of a row as one that borrows: whether its copy is the value that is decoded,
+/// and what is left.
 pub fn decode_and_lend(rt: &HostRuntime, row: &str) -> Result<Outcome, Fail> {
-    let (id, input, table) = parts(rt.alloc(), row)?;
-    begin(rt);
-    let returned = decode_lent(rt.alloc(), &table, id, &input);
-    end(rt);
-    let answer = lent_answer(rt.alloc(), &table, id, &input, returned)?;
-    Outcome::of(Ok(answer))
+    let alloc = rt.alloc();
+    let (id, input, table) = parts(alloc, row)?;
+    let read = || decode_lent(alloc, &table, id, &input);
+    Outcome::of_call(rt, read, |alloc, (lent, rest)| {
+        let copy = lent.to_dyn(alloc)?;
+        let is_same = is_decoded_again(alloc, &table, id, &input, &copy)?;
+        done(format!(in alloc; "{is_same} {rest:?}"))
+    })
 }
 
-/// What a copy of a value that borrows returned: whether it is the value that is decoded.
-fn copy_answer(
-    alloc: Global,
-    table: &PortableRegistry,
-    id: u32,
-    input: &[u8],
-    returned: Result<Dyn, AllocError>,
-) -> Result<Answer, Fail> {
-    match returned {
-        Ok(copy) => {
-            let is_same = is_decoded_again(alloc, table, id, input, &copy)?;
-            Ok(done(format!(in alloc; "{is_same}"))?)
-        }
-        Err(error) => Ok(failed(alloc, &error)?),
-    }
-}
-
-/// Copies the value of a row that borrows.
+/// Copies the value of a row that borrows: whether the copy is the value that is decoded.
 pub fn copy_lent(rt: &HostRuntime, row: &str) -> Result<Outcome, Fail> {
-    let (id, input, table) = parts(rt.alloc(), row)?;
-    let (lent, _) = decode_lent(rt.alloc(), &table, id, &input)?;
-    begin(rt);
-    let returned = lent.to_dyn(rt.alloc());
-    end(rt);
-    let answer = copy_answer(rt.alloc(), &table, id, &input, returned)?;
-    Outcome::of(Ok(answer))
+    let alloc = rt.alloc();
+    let (id, input, table) = parts(alloc, row)?;
+    let (lent, _) = decode_lent(alloc, &table, id, &input)?;
+    Outcome::of_call(
+        rt,
+        || lent.to_dyn(alloc),
+        |alloc, copy| { shown(alloc, is_decoded_again(alloc, &table, id, &input, &copy)?) },
+    )
+}
+
+/// Appends the encoding of the value of a row to one byte. After the id may come ` as ` and the id
+/// of the type that it is encoded as.
+pub fn encode(rt: &HostRuntime, row: &str) -> Result<Outcome, Fail> {
+    let alloc = rt.alloc();
+    let (_, rest) = parted(row, ':')?;
+    let (ids, rest) = parted(rest, ';')?;
+    let (id, other) = ids.split_once(" as ").unwrap_or((ids, ids));
+    let (id, other): (u32, u32) = (id.trim().parse()?, other.trim().parse()?);
+    let (input, table) = input_and_table(alloc, rest)?;
+    let (value, _) = decode_value(alloc, &table, id, &input)?;
+    let (table, value) = (Held(table), Held(value));
+    let append = |out: &mut Vec<u8>| encode_value(&table.0, other, &value.0, out);
+    Outcome::of_change(rt, output(alloc)?, append, shown)
 }
 
 /// Appends the text of the value of a row to one byte.
@@ -153,7 +127,7 @@ pub fn append_text(rt: &HostRuntime, row: &str) -> Result<Outcome, Fail> {
     let returned = append_value_json(rt.alloc(), &table.0, id, &input, &mut out);
     end(rt);
     let after = appended(rt.alloc(), &out)?;
-    Outcome::lending(Ok(before), Ok(after), shown(rt.alloc(), returned))
+    Outcome::lending(Ok(before), Ok(after), answered(rt.alloc(), returned, shown))
 }
 
 /// The text of the bytes of a row as one value.

@@ -1,5 +1,5 @@
 //! Constructors that collect lists or make identities.
-use scale_info::form::{Form, PortableForm};
+use scale_info::form::PortableForm;
 use scale_info::{
     Type, TypeDef, TypeDefBitSequence, TypeDefComposite, TypeDefTuple, TypeDefVariant, TypeId,
     UntrackedSymbol,
@@ -11,8 +11,7 @@ use test_common::lists::list_of;
 use test_common::parts;
 use test_common::rows::numbers;
 use test_common::shown::text_of;
-use test_memory_common::answers::{encoded, printed, registered};
-use test_memory_common::marks::{begin, end};
+use test_memory_common::answers::{Answered, done, encoded, registered};
 use test_memory_common::outcomes::Outcome;
 use test_memory_common::types::{
     demo_path, description_named, documented_field, documented_variant, parameters, types_named,
@@ -26,10 +25,7 @@ pub fn description(rt: &HostRuntime, name: &str) -> Result<Outcome, Fail> {
     let params = Held(parameters(alloc)?);
     let def = description_named(alloc, name)?.type_def;
     let (path, params) = (path.into_inner(), params.into_inner());
-    begin(rt);
-    let returned = Type::new(alloc, path, params, def, docs);
-    end(rt);
-    Outcome::of(registered(alloc, returned))
+    Outcome::of_call(rt, || Type::new(alloc, path, params, def, docs), registered)
 }
 
 /// Makes a portable description.
@@ -39,38 +35,31 @@ pub fn portable_description(rt: &HostRuntime) -> Result<Outcome, Fail> {
     let params = Held(list_of(alloc, parts::parameter(alloc, "T", Some(7))?)?);
     let docs = parts::texts(alloc, &["d", "e"])?;
     let (path, params) = (path.into_inner(), params.into_inner());
-    begin(rt);
-    let returned = Type::<PortableForm>::new(alloc, path, params, parts::sequence(2), docs);
-    end(rt);
-    Outcome::of(encoded(alloc, returned))
+    Outcome::of_call(
+        rt,
+        || Type::<PortableForm>::new(alloc, path, params, parts::sequence(2), docs),
+        encoded,
+    )
 }
 
 /// Makes the definition of a composite.
 pub fn composite(rt: &HostRuntime) -> Result<Outcome, Fail> {
     let fields = list_of(rt.alloc(), documented_field(rt.alloc())?)?;
-    begin(rt);
-    let returned = TypeDefComposite::new(rt.alloc(), fields);
-    end(rt);
-    Outcome::of(registered(rt.alloc(), returned))
+    Outcome::of_call(rt, || TypeDefComposite::new(rt.alloc(), fields), registered)
 }
 
 /// Makes the definition of an enum.
 pub fn variants(rt: &HostRuntime) -> Result<Outcome, Fail> {
     let variants = list_of(rt.alloc(), documented_variant(rt.alloc())?)?;
-    begin(rt);
-    let returned = TypeDefVariant::new(rt.alloc(), variants);
-    end(rt);
-    Outcome::of(registered(rt.alloc(), returned))
+    Outcome::of_call(rt, || TypeDefVariant::new(rt.alloc(), variants), registered)
 }
 
 /// Makes the definition of a composite of the types with these ids.
 pub fn portable_composite(rt: &HostRuntime, row: &str) -> Result<Outcome, Fail> {
     let ids = numbers(rt.alloc(), row)?;
     let fields = parts::unnamed_fields(rt.alloc(), &ids)?;
-    begin(rt);
-    let returned = TypeDefComposite::<PortableForm>::new(rt.alloc(), fields);
-    end(rt);
-    Outcome::of(encoded(rt.alloc(), definition(returned)))
+    let make = || TypeDefComposite::<PortableForm>::new(rt.alloc(), fields);
+    Outcome::of_call(rt, make, portable_definition)
 }
 
 /// Makes the definition of an enum of one variant, with fields of the types with these ids.
@@ -78,28 +67,21 @@ pub fn portable_variants(rt: &HostRuntime, row: &str) -> Result<Outcome, Fail> {
     let ids = numbers(rt.alloc(), row)?;
     let variant = parts::variant(rt.alloc(), "V", &ids, 0, &[])?;
     let variants = list_of(rt.alloc(), variant)?;
-    begin(rt);
-    let returned = TypeDefVariant::<PortableForm>::new(rt.alloc(), variants);
-    end(rt);
-    Outcome::of(encoded(rt.alloc(), definition(returned)))
+    let make = || TypeDefVariant::<PortableForm>::new(rt.alloc(), variants);
+    Outcome::of_call(rt, make, portable_definition)
 }
 
 /// Makes the definition of a tuple of types of the program, as a text.
 pub fn tuple(rt: &HostRuntime, names: &str) -> Result<Outcome, Fail> {
     let members = types_named(rt.alloc(), names)?;
-    begin(rt);
-    let returned = TypeDefTuple::new(rt.alloc(), members);
-    end(rt);
-    shown(rt.alloc(), returned)
+    Outcome::of_call(rt, || TypeDefTuple::new(rt.alloc(), members), printed)
 }
 
 /// Makes the definition of a tuple of ids.
 pub fn portable_tuple(rt: &HostRuntime, row: &str) -> Result<Outcome, Fail> {
     let members = ids(rt.alloc(), &numbers(rt.alloc(), row)?)?;
-    begin(rt);
-    let returned = TypeDefTuple::new_portable(rt.alloc(), members);
-    end(rt);
-    Outcome::of(encoded(rt.alloc(), definition(returned)))
+    let make = || TypeDefTuple::new_portable(rt.alloc(), members);
+    Outcome::of_call(rt, make, portable_definition)
 }
 
 /// References to the types with these ids.
@@ -113,30 +95,21 @@ fn ids(alloc: Global, numbers: &[u32]) -> Result<Vec<UntrackedSymbol<TypeId>>, A
 
 /// Makes the definition of a sequence of bits, as a text.
 pub fn bit_sequence(rt: &HostRuntime, name: &str) -> Result<Outcome, Fail> {
-    begin(rt);
-    let returned = match name {
-        "of plain types" => TypeDefBitSequence::new::<u8, u32>(rt.alloc()),
-        "of a box" => TypeDefBitSequence::new::<Box<u8>, bool>(rt.alloc()),
-        _ => TypeDefBitSequence::new::<Vec<u32>, [u8; 32]>(rt.alloc()),
+    let alloc = rt.alloc();
+    let make = || match name {
+        "of plain types" => TypeDefBitSequence::new::<u8, u32>(alloc),
+        "of a box" => TypeDefBitSequence::new::<Box<u8>, bool>(alloc),
+        _ => TypeDefBitSequence::new::<Vec<u32>, [u8; 32]>(alloc),
     };
-    end(rt);
-    shown(rt.alloc(), returned)
+    Outcome::of_call(rt, make, printed)
 }
 
-/// The definition that a definition of one kind is.
-fn definition<F: Form, D: Into<TypeDef<F>>>(
-    returned: Result<D, AllocError>,
-) -> Result<TypeDef<F>, AllocError> {
-    match returned {
-        Ok(definition) => Ok(definition.into()),
-        Err(error) => Err(error),
-    }
+/// What shows a portable definition of one kind.
+fn portable_definition<D: Into<TypeDef<PortableForm>>>(alloc: Global, definition: D) -> Answered {
+    encoded(alloc, definition.into())
 }
 
-/// A definition as a text.
-fn shown<D: Into<TypeDef>>(
-    alloc: Global,
-    returned: Result<D, AllocError>,
-) -> Result<Outcome, Fail> {
-    Outcome::of(printed(alloc, text_of(alloc, definition(returned))))
+/// What shows a definition of one kind, as a text.
+fn printed<D: Into<TypeDef>>(alloc: Global, definition: D) -> Answered {
+    done(text_of(alloc, Ok(definition.into())))
 }

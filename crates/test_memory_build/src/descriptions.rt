@@ -2,7 +2,6 @@
 use scale_info::build::{Fields, Variants};
 use scale_info::form::{MetaForm, PortableForm};
 use scale_info::{Type, TypeDefTuple};
-use std::alloc::AllocError;
 use std::test::Fail;
 use test_common::held::Held;
 use test_common::parts;
@@ -11,24 +10,15 @@ use test_memory_common::marks::{begin, end};
 use test_memory_common::outcomes::Outcome;
 use test_memory_common::types::{demo_path, parameters};
 
-/// What a call that can't fail returned.
-fn done<T>(value: T) -> Result<T, AllocError> {
-    Ok(value)
-}
-
 /// Gives a description docs.
 pub fn docs(rt: &HostRuntime) -> Result<Outcome, Fail> {
     let path = Held(demo_path(rt.alloc())?);
     let builder = Type::builder(rt.alloc());
-    begin(rt);
-    let returned = builder.docs(rt.alloc(), &["a struct", ""]);
-    end(rt);
-    let unit = Fields::unit::<MetaForm>(rt.alloc());
-    let ty = match returned {
-        Ok(builder) => Ok(builder.path(path.into_inner()).composite(unit)),
-        Err(error) => Err(error),
-    };
-    Outcome::of(registered(rt.alloc(), ty))
+    let add = || builder.docs(rt.alloc(), &["a struct", ""]);
+    Outcome::of_call(rt, add, |alloc, builder| {
+        let unit = Fields::unit::<MetaForm>(alloc);
+        registered(alloc, builder.path(path.into_inner()).composite(unit))
+    })
 }
 
 /// Gives a description its path, its parameters and a composite.
@@ -41,7 +31,7 @@ pub fn composite(rt: &HostRuntime) -> Result<Outcome, Fail> {
         .type_params(params)
         .composite(unit);
     end(rt);
-    Outcome::of(registered(rt.alloc(), done(ty)))
+    Outcome::of(registered(rt.alloc(), ty))
 }
 
 /// Gives a description a path and an enum.
@@ -52,7 +42,7 @@ pub fn variants(rt: &HostRuntime) -> Result<Outcome, Fail> {
         .path(path)
         .variant(Variants::new(rt.alloc()));
     end(rt);
-    Outcome::of(registered(rt.alloc(), done(ty)))
+    Outcome::of(registered(rt.alloc(), ty))
 }
 
 /// Gives a portable description a path and a composite.
@@ -64,7 +54,7 @@ pub fn portable(rt: &HostRuntime) -> Result<Outcome, Fail> {
         .path(path)
         .composite(unit);
     end(rt);
-    Outcome::of(encoded(rt.alloc(), done(ty)))
+    Outcome::of(encoded(rt.alloc(), ty))
 }
 
 /// Makes the tuple without members.
@@ -72,5 +62,5 @@ pub fn unit(rt: &HostRuntime) -> Result<Outcome, Fail> {
     begin(rt);
     let def = TypeDefTuple::unit(rt.alloc());
     end(rt);
-    Outcome::of(registered(rt.alloc(), done(def)))
+    Outcome::of(registered(rt.alloc(), def))
 }

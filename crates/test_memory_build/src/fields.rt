@@ -1,6 +1,6 @@
 //! Fields by their builders.
-use scale_info::build::{Fields, FieldsBuilder, NamedFields, UnnamedFields};
-use scale_info::form::{Form, MetaForm, PortableForm};
+use scale_info::build::{Fields, FieldsBuilder, NamedField, NamedFields, UnnamedFields};
+use scale_info::form::{MetaForm, PortableForm};
 use scale_info::meta_type::HasIdentity;
 use scale_info::{Field, TypeDef, TypeDefComposite};
 use std::alloc::{AllocError, Global};
@@ -8,32 +8,27 @@ use std::test::Fail;
 use test_common::held::Held;
 use test_common::lists::list_of;
 use test_common::parts::text;
+use test_common::rows::parted;
 use test_common::shown::text_of;
-use test_memory_common::answers::{digits, done, encoded, printed};
-use test_memory_common::by_name::{Known, for_known_type, found};
+use test_memory_common::answers::{Answered, digits, done, encoded};
+use test_memory_common::by_name::{Known, for_known_type};
 use test_memory_common::marks::{begin, end};
+use test_memory_common::names::found;
 use test_memory_common::outcomes::Outcome;
 
-/// The composite of a builder's fields.
-fn composite<F: Form, K>(
-    returned: Result<FieldsBuilder<F, K>, AllocError>,
-) -> Result<TypeDefComposite<F>, AllocError> {
-    match returned {
-        Ok(fields) => Ok(TypeDefComposite::from(fields)),
-        Err(error) => Err(error),
-    }
+/// What shows a definition, as a text.
+fn printed(alloc: Global, definition: TypeDef) -> Answered {
+    done(text_of(alloc, Ok(definition)))
 }
 
-/// The struct of a builder's fields, as a text.
-fn struct_of<K>(
-    rt: &HostRuntime,
-    returned: Result<FieldsBuilder<MetaForm, K>, AllocError>,
-) -> Result<Outcome, Fail> {
-    let definition = match composite(returned) {
-        Ok(fields) => Ok(TypeDef::from(fields)),
-        Err(error) => Err(error),
-    };
-    Outcome::of(printed(rt.alloc(), text_of(rt.alloc(), definition)))
+/// What shows the struct of a builder's fields.
+fn struct_of<K>(alloc: Global, fields: FieldsBuilder<MetaForm, K>) -> Answered {
+    printed(alloc, TypeDefComposite::from(fields).into())
+}
+
+/// What shows the composite of a builder's fields with ids.
+fn composite_of<K>(alloc: Global, fields: FieldsBuilder<PortableForm, K>) -> Answered {
+    encoded(alloc, TypeDefComposite::from(fields))
 }
 
 /// The field `a` of `u8`.
@@ -46,58 +41,14 @@ fn unnamed_of_u8(alloc: Global) -> Result<FieldsBuilder<MetaForm, UnnamedFields>
     Fields::unnamed::<MetaForm>(alloc).field(alloc, |f| f.ty::<u8>(alloc))
 }
 
-/// Adds the field `m` of a type; the builder gets the name before the type.
-fn named<T: HasIdentity>(rt: &HostRuntime) -> Result<Outcome, Fail> {
-    let alloc = rt.alloc();
-    let fields = named_of_u8(alloc)?;
-    begin(rt);
-    let returned = fields.field(alloc, |f| f.name("m").ty::<T>(alloc));
-    end(rt);
-    struct_of(rt, returned)
+/// What shows the struct of one field.
+fn struct_of_one(alloc: Global, field: NamedField<MetaForm>) -> Answered {
+    let fields = list_of(alloc, field.finalize(alloc))?;
+    printed(alloc, TypeDefComposite::from(fields).into())
 }
 
-/// Adds the field `m` of a type; the builder gets the type before the name.
-fn typed<T: HasIdentity>(rt: &HostRuntime) -> Result<Outcome, Fail> {
-    let alloc = rt.alloc();
-    let fields = named_of_u8(alloc)?;
-    begin(rt);
-    let returned = fields.field(alloc, |f| Ok(f.ty::<T>(alloc)?.name("m")));
-    end(rt);
-    struct_of(rt, returned)
-}
-
-/// Adds a field without a name, whose type has a name.
-fn unnamed<T: HasIdentity>(rt: &HostRuntime) -> Result<Outcome, Fail> {
-    let alloc = rt.alloc();
-    let fields = unnamed_of_u8(alloc)?;
-    begin(rt);
-    let returned = fields.field(alloc, |f| f.type_name("Vec<T>").ty::<T>(alloc));
-    end(rt);
-    struct_of(rt, returned)
-}
-
-/// Makes a field by its own builder, and the struct of it.
-fn built<T: HasIdentity>(rt: &HostRuntime) -> Result<Outcome, Fail> {
-    let alloc = rt.alloc();
-    begin(rt);
-    let returned = Field::<MetaForm>::builder()
-        .type_name("T")
-        .name("x")
-        .ty::<T>(alloc);
-    end(rt);
-    let definition = match returned {
-        Ok(built) => alone(alloc, built.finalize(alloc)),
-        Err(error) => Err(error),
-    };
-    Outcome::of(printed(alloc, text_of(alloc, definition)))
-}
-
-/// The struct of one field.
-fn alone(alloc: Global, field: Field) -> Result<TypeDef, AllocError> {
-    Ok(TypeDefComposite::from(list_of(alloc, field)?).into())
-}
-
-/// Adds or makes a field of a type.
+/// Adds the field `m` of a type, of which the builder gets the name before the type or after it,
+/// or one without a name, whose type has a name; or makes a field by its own builder.
 #[derive(Drop)]
 struct FieldOf<'a> {
     rt: &'a HostRuntime,
@@ -108,37 +59,57 @@ impl Known for FieldOf<'_> {
     type Returned = Result<Outcome, Fail>;
 
     fn of<T: HasIdentity>(self) -> Result<Outcome, Fail> {
-        match self.kind {
-            "named" => named::<T>(self.rt),
-            "typed" => typed::<T>(self.rt),
-            "unnamed" => unnamed::<T>(self.rt),
-            _ => built::<T>(self.rt),
+        let FieldOf { rt, kind } = self;
+        let alloc = rt.alloc();
+        match kind {
+            "named" => {
+                let fields = named_of_u8(alloc)?;
+                let add = || fields.field(alloc, |f| f.name("m").ty::<T>(alloc));
+                Outcome::of_call(rt, add, struct_of)
+            }
+            "typed" => {
+                let fields = named_of_u8(alloc)?;
+                let add = || fields.field(alloc, |f| Ok(f.ty::<T>(alloc)?.name("m")));
+                Outcome::of_call(rt, add, struct_of)
+            }
+            "unnamed" => {
+                let fields = unnamed_of_u8(alloc)?;
+                let add = || fields.field(alloc, |f| f.type_name("Vec<T>").ty::<T>(alloc));
+                Outcome::of_call(rt, add, struct_of)
+            }
+            _ => {
+                let builder = Field::<MetaForm>::builder();
+                let make = || builder.type_name("T").name("x").ty::<T>(alloc);
+                Outcome::of_call(rt, make, struct_of_one)
+            }
         }
     }
 }
 
-/// Adds or makes a field of this kind for the type of this name.
-pub fn field(rt: &HostRuntime, kind: &str, name: &str) -> Result<Outcome, Fail> {
-    found(for_known_type(FieldOf { rt, kind }, name))
+/// Adds or makes a field of a kind for the type after it.
+pub fn field(rt: &HostRuntime, input: &str) -> Result<Outcome, Fail> {
+    let (kind, name) = parted(input, ' ')?;
+    found(for_known_type(FieldOf { rt, kind }, name))?
 }
 
 /// Adds a field with a name and an id.
 pub fn portable_named(rt: &HostRuntime) -> Result<Outcome, Fail> {
-    let fields = Fields::named::<PortableForm>(rt.alloc());
-    let name = text(rt.alloc(), "data")?;
-    begin(rt);
-    let returned = fields.field_portable(rt.alloc(), |f| Ok(f.name(name).ty(3)));
-    end(rt);
-    Outcome::of(encoded(rt.alloc(), composite(returned)))
+    let alloc = rt.alloc();
+    let fields = Fields::named::<PortableForm>(alloc);
+    let name = text(alloc, "data")?;
+    let add = || fields.field_portable(alloc, |f| Ok(f.name(name).ty(3)));
+    Outcome::of_call(rt, add, composite_of)
 }
 
 /// Adds a field with an id and without a name.
 pub fn portable_unnamed(rt: &HostRuntime) -> Result<Outcome, Fail> {
-    let fields = Fields::unnamed::<PortableForm>(rt.alloc());
-    begin(rt);
-    let returned = fields.field_portable(rt.alloc(), |f| Ok(f.ty(3)));
-    end(rt);
-    Outcome::of(encoded(rt.alloc(), composite(returned)))
+    let alloc = rt.alloc();
+    let fields = Fields::unnamed::<PortableForm>(alloc);
+    Outcome::of_call(
+        rt,
+        || fields.field_portable(alloc, |f| Ok(f.ty(3))),
+        composite_of,
+    )
 }
 
 /// Gives a field its parts by moves alone.

@@ -2,45 +2,40 @@
 use scale_info::build::lists::{with_type, with_type_param};
 use scale_info::meta_type::HasIdentity;
 use scale_info::{named_type_params, tuple_meta_type, type_params};
-use std::alloc::AllocError;
+use std::alloc::Global;
 use std::test::Fail;
 use test_common::shown::{Show, text_of};
-use test_memory_common::answers::printed;
-use test_memory_common::marks::{begin, end};
+use test_memory_common::answers::{Answered, done};
 use test_memory_common::outcomes::Outcome;
 
-/// What was listed, as a text.
-fn shown<T: Show + Drop>(
-    rt: &HostRuntime,
-    returned: Result<T, AllocError>,
-) -> Result<Outcome, Fail> {
-    Outcome::of(printed(rt.alloc(), text_of(rt.alloc(), returned)))
+/// What shows what was listed, as a text.
+fn printed<T: Show + Drop>(alloc: Global, listed: T) -> Answered {
+    done(text_of(alloc, Ok(listed)))
 }
 
 /// Lists types.
 pub fn types(rt: &HostRuntime) -> Result<Outcome, Fail> {
-    begin(rt);
-    let returned = tuple_meta_type!(rt.alloc(); i32, [u8; 32], String, Vec<u32>);
-    end(rt);
-    shown(rt, returned)
+    Outcome::of_call(
+        rt,
+        || tuple_meta_type!(rt.alloc(); i32, [u8; 32], String, Vec<u32>),
+        printed,
+    )
 }
 
 /// Lists parameters with names.
 pub fn named_parameters(rt: &HostRuntime) -> Result<Outcome, Fail> {
-    begin(rt);
-    let returned = named_type_params!(rt.alloc(); (T, u8), (U, u32), (V, Vec<u32>));
-    end(rt);
-    shown(rt, returned)
+    Outcome::of_call(
+        rt,
+        || named_type_params!(rt.alloc(); (T, u8), (U, u32), (V, Vec<u32>)),
+        printed,
+    )
 }
 
 /// Lists parameters of a body.
 fn parameters_of<T: HasIdentity, U: HasIdentity, V: HasIdentity>(
     rt: &HostRuntime,
 ) -> Result<Outcome, Fail> {
-    begin(rt);
-    let returned = type_params!(rt.alloc(); T, U, V);
-    end(rt);
-    shown(rt, returned)
+    Outcome::of_call(rt, || type_params!(rt.alloc(); T, U, V), printed)
 }
 
 /// Lists the parameters `u8`, `u32` and `Vec<u32>`.
@@ -51,17 +46,15 @@ pub fn parameters(rt: &HostRuntime) -> Result<Outcome, Fail> {
 /// Puts a type at the end of a list.
 pub fn one_type(rt: &HostRuntime) -> Result<Outcome, Fail> {
     let so_far = tuple_meta_type!(rt.alloc(); u32);
-    begin(rt);
-    let returned = with_type::<Vec<u32>>(rt.alloc(), so_far);
-    end(rt);
-    shown(rt, returned)
+    Outcome::of_call(rt, || with_type::<Vec<u32>>(rt.alloc(), so_far), printed)
 }
 
 /// Puts a parameter at the end of a list.
 pub fn one_parameter(rt: &HostRuntime) -> Result<Outcome, Fail> {
     let so_far = named_type_params!(rt.alloc(); (T, u8));
-    begin(rt);
-    let returned = with_type_param::<Vec<u32>>(rt.alloc(), so_far, "U");
-    end(rt);
-    shown(rt, returned)
+    Outcome::of_call(
+        rt,
+        || with_type_param::<Vec<u32>>(rt.alloc(), so_far, "U"),
+        printed,
+    )
 }

@@ -1,12 +1,11 @@
 //! Paths, whose texts stand between brackets in rows.
 use scale_info::meta_type::Catalogue;
-use scale_info::{IntoPortable, Path, PathError, Registry};
+use scale_info::{IntoPortable, Path, Registry};
 use std::alloc::{AllocError, Global};
 use std::test::Fail;
 use test_common::held::Held;
 use test_common::parts;
-use test_memory_common::answers::{Answer, digits, done, encoded, failed, shown};
-use test_memory_common::marks::{begin, end};
+use test_memory_common::answers::{Answered, digits, done, encoded, shown};
 use test_memory_common::outcomes::Outcome;
 use test_memory_common::texts::{all_of_program, bracketed};
 
@@ -36,12 +35,9 @@ fn text_of(alloc: Global, path: Path) -> Result<String, AllocError> {
     format!(in alloc; "{parts} {portable}")
 }
 
-/// The answer of a path.
-fn answer(alloc: Global, returned: Result<Path, PathError>) -> Result<Answer, AllocError> {
-    match returned {
-        Ok(path) => done(text_of(alloc, path)),
-        Err(error) => failed(alloc, &error),
-    }
+/// What shows a path.
+fn answer(alloc: Global, path: Path) -> Answered {
+    done(text_of(alloc, path))
 }
 
 /// Makes the path of a module and a name.
@@ -50,10 +46,7 @@ pub fn new(rt: &HostRuntime, row: &str) -> Result<Outcome, Fail> {
     let [module_path, ident] = texts.as_slice() else {
         return Err(Fail::new("a row has a module and a name"));
     };
-    begin(rt);
-    let returned = Path::new(rt.alloc(), *ident, *module_path);
-    end(rt);
-    Outcome::of(answer(rt.alloc(), returned))
+    Outcome::of_call(rt, || Path::new(rt.alloc(), *ident, *module_path), answer)
 }
 
 /// Pairs of texts in order.
@@ -77,37 +70,33 @@ pub fn new_with_replace(rt: &HostRuntime, row: &str) -> Result<Outcome, Fail> {
         return Err(Fail::new("a row has a module and a name"));
     };
     let pairs = pairs(rt.alloc(), rest)?;
-    begin(rt);
-    let returned = Path::new_with_replace(rt.alloc(), *ident, *module_path, pairs.as_slice());
-    end(rt);
-    Outcome::of(answer(rt.alloc(), returned))
+    Outcome::of_call(
+        rt,
+        || Path::new_with_replace(rt.alloc(), *ident, *module_path, pairs.as_slice()),
+        answer,
+    )
 }
 
 /// Makes a path of segments, each of which must be an identifier.
 pub fn from_segments(rt: &HostRuntime, row: &str) -> Result<Outcome, Fail> {
     let segments = all_of_program(rt.alloc(), row)?;
-    begin(rt);
-    let returned = Path::from_segments(rt.alloc(), segments);
-    end(rt);
-    Outcome::of(answer(rt.alloc(), returned))
+    Outcome::of_call(rt, || Path::from_segments(rt.alloc(), segments), answer)
 }
 
 /// Makes a path of segments that are not looked at.
 pub fn from_segments_unchecked(rt: &HostRuntime, row: &str) -> Result<Outcome, Fail> {
     let segments = bracketed(rt.alloc(), row)?;
     let texts = parts::texts(rt.alloc(), segments.as_slice())?;
-    begin(rt);
-    let returned = Path::from_segments_unchecked(rt.alloc(), texts);
-    end(rt);
-    Outcome::of(encoded(rt.alloc(), returned))
+    Outcome::of_call(
+        rt,
+        || Path::from_segments_unchecked(rt.alloc(), texts),
+        encoded,
+    )
 }
 
 /// Asks a portable path for its last segment.
 pub fn ident(rt: &HostRuntime, row: &str) -> Result<Outcome, Fail> {
     let segments = bracketed(rt.alloc(), row)?;
     let path = parts::path(rt.alloc(), segments.as_slice())?;
-    begin(rt);
-    let returned = path.ident(rt.alloc());
-    end(rt);
-    Outcome::of(shown(rt.alloc(), returned))
+    Outcome::of_call(rt, || path.ident(rt.alloc()), shown)
 }

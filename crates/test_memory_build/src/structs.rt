@@ -10,8 +10,8 @@ use std::test::Fail;
 use test_common::lists::{list_of, with};
 use test_common::shown::text_of;
 use test_memory_common::answers::{encoded, printed};
-use test_memory_common::by_name::{Known, for_known_type, found};
-use test_memory_common::marks::{begin, end};
+use test_memory_common::by_name::{Known, for_known_type};
+use test_memory_common::names::found;
 use test_memory_common::outcomes::Outcome;
 use test_memory_common::texts::bracketed;
 
@@ -56,17 +56,14 @@ impl Known for StructOf<'_> {
     type Returned = Result<Outcome, Fail>;
 
     fn of<T: HasIdentity>(self) -> Result<Outcome, Fail> {
-        let rt = self.rt;
-        begin(rt);
-        let returned = text_of(rt.alloc(), built::<T>(rt.alloc()));
-        end(rt);
-        Outcome::of(printed(rt.alloc(), returned))
+        let alloc = self.rt.alloc();
+        Outcome::of_call(self.rt, || text_of(alloc, built::<T>(alloc)), printed)
     }
 }
 
 /// Builds the generic struct of the type of this name.
 pub fn generic(rt: &HostRuntime, name: &str) -> Result<Outcome, Fail> {
-    found(for_known_type(StructOf { rt }, name))
+    found(for_known_type(StructOf { rt }, name))?
 }
 
 /// One field of this type without a name.
@@ -113,10 +110,11 @@ fn built_enum(alloc: Global, names: &str) -> Result<Type, AllocError> {
 
 /// Builds an enum of the variants of these names.
 pub fn enumeration(rt: &HostRuntime, names: &str) -> Result<Outcome, Fail> {
-    begin(rt);
-    let returned = text_of(rt.alloc(), built_enum(rt.alloc(), names));
-    end(rt);
-    Outcome::of(printed(rt.alloc(), returned))
+    Outcome::of_call(
+        rt,
+        || text_of(rt.alloc(), built_enum(rt.alloc(), names)),
+        printed,
+    )
 }
 
 /// Fields of a table's struct in the making.
@@ -149,8 +147,5 @@ fn built_portable(alloc: Global, names: &[&str]) -> Result<Type<PortableForm>, A
 /// Builds a struct of a table, of the texts between brackets.
 pub fn portable(rt: &HostRuntime, row: &str) -> Result<Outcome, Fail> {
     let names = bracketed(rt.alloc(), row)?;
-    begin(rt);
-    let returned = built_portable(rt.alloc(), names.as_slice());
-    end(rt);
-    Outcome::of(encoded(rt.alloc(), returned))
+    Outcome::of_call(rt, || built_portable(rt.alloc(), names.as_slice()), encoded)
 }

@@ -2,44 +2,38 @@
 use scale_info::build::{Fields, IndexNotAssigned, VariantBuilder, Variants};
 use scale_info::form::{MetaForm, PortableForm};
 use scale_info::{Items, TypeDefComposite, TypeDefVariant};
-use std::alloc::AllocError;
+use std::alloc::Global;
 use std::test::Fail;
 use test_common::parts::text;
-use test_memory_common::answers::{digits, done, registered};
+use test_memory_common::answers::{Answered, digits, done, registered};
 use test_memory_common::marks::{begin, end};
 use test_memory_common::outcomes::Outcome;
 
-/// The enum of a builder's variants.
-fn enumeration(returned: Result<Variants, AllocError>) -> Result<TypeDefVariant, AllocError> {
-    match returned {
-        Ok(variants) => Ok(TypeDefVariant::from(variants)),
-        Err(error) => Err(error),
-    }
+/// What shows the enum of a builder's variants.
+fn enumeration(alloc: Global, variants: Variants) -> Answered {
+    registered(alloc, TypeDefVariant::from(variants))
 }
 
 /// Adds a variant with a field.
 pub fn variant(rt: &HostRuntime) -> Result<Outcome, Fail> {
     let alloc = rt.alloc();
     let variants = Variants::new(alloc);
-    begin(rt);
-    let returned = variants.variant(alloc, "Some", |v| {
+    let add = || variants.variant(alloc, "Some", |v| {
         let fields = Fields::unnamed::<MetaForm>(alloc);
-        Ok(
-            v.index(1)
-                .fields(fields.field(alloc, |f| f.ty::<Vec<u32>>(alloc))?),
-        )
+        let fields = fields.field(alloc, |f| f.ty::<Vec<u32>>(alloc))?;
+        Ok(v.index(1).fields(fields))
     });
-    end(rt);
-    Outcome::of(registered(alloc, enumeration(returned)))
+    Outcome::of_call(rt, add, enumeration)
 }
 
 /// Adds a variant without fields.
 pub fn variant_unit(rt: &HostRuntime) -> Result<Outcome, Fail> {
     let variants = Variants::new(rt.alloc());
-    begin(rt);
-    let returned = variants.variant_unit(rt.alloc(), "None", 0);
-    end(rt);
-    Outcome::of(registered(rt.alloc(), enumeration(returned)))
+    Outcome::of_call(
+        rt,
+        || variants.variant_unit(rt.alloc(), "None", 0),
+        enumeration,
+    )
 }
 
 /// Gives a variant its index and its fields.

@@ -3,6 +3,7 @@ use crate::types::catalogue;
 use scale_info::{IntoPortable, Registry, Scale};
 use std::alloc::{AllocError, Global};
 use std::fmt::Debug;
+use std::test::Fail;
 use test_common::held::Held;
 
 /// What a call returned.
@@ -14,36 +15,41 @@ pub enum Answer {
     Failed(String),
 }
 
-/// The answer that this text shows.
-pub fn done(text: Result<String, AllocError>) -> Result<Answer, AllocError> {
+/// What shows a call, unless its text can't be made.
+pub type Answered = Result<Answer, Fail>;
+
+/// A value that this text shows.
+pub fn done(text: Result<String, AllocError>) -> Answered {
     Ok(Answer::Done(text?))
 }
 
-/// The answer of this error.
-pub fn failed<E: Debug>(alloc: Global, error: &E) -> Result<Answer, AllocError> {
+/// What shows this error.
+pub fn failed<E: Debug>(alloc: Global, error: &E) -> Answered {
     Ok(Answer::Failed(format!(in alloc; "{error:?}")?))
 }
 
-/// The answer of a value that is shown by its `Debug`, or of an error.
-pub fn shown<T: Debug + Drop, E: Debug + Drop>(
+/// What a call did: a value by a function, or an error.
+pub fn answered<T, E: Debug + Drop, A: FnOnce(Global, T) -> Answered>(
     alloc: Global,
     returned: Result<T, E>,
-) -> Result<Answer, AllocError> {
+    answer: A,
+) -> Answered
+    requires { A.IsAlwaysCallable answer }
+{
     match returned {
-        Ok(value) => done(format!(in alloc; "{value:?}")),
+        Ok(value) => answer(alloc, value),
         Err(error) => failed(alloc, &error),
     }
 }
 
-/// The answer of a text, or of an error.
-pub fn printed<E: Debug + Drop>(
-    alloc: Global,
-    returned: Result<String, E>,
-) -> Result<Answer, AllocError> {
-    match returned {
-        Ok(text) => done(Ok(text)),
-        Err(error) => failed(alloc, &error),
-    }
+/// What shows a value that is shown by its `Debug`.
+pub fn shown<T: Debug + Drop>(alloc: Global, value: T) -> Answered {
+    done(format!(in alloc; "{value:?}"))
+}
+
+/// What shows a text.
+pub fn printed(_alloc: Global, text: String) -> Answered {
+    done(Ok(text))
 }
 
 /// The encoding of a value in hexadecimal; of a value without an encoding the error.
@@ -55,41 +61,22 @@ pub fn digits<T: Scale>(alloc: Global, value: &T) -> Result<String, AllocError> 
     }
 }
 
-/// The answer of a portable value, which is shown by its encoding, or of an error.
-pub fn encoded<T: Scale, E: Debug + Drop>(
-    alloc: Global,
-    returned: Result<T, E>,
-) -> Result<Answer, AllocError> {
-    match returned {
-        Ok(value) => done(digits(alloc, &value)),
-        Err(error) => failed(alloc, &error),
-    }
+/// What shows a portable value, which is shown by its encoding.
+pub fn encoded<T: Scale>(alloc: Global, value: T) -> Answered {
+    done(digits(alloc, &value))
 }
 
-/// The answer of a value that holds types, which is shown by the encoding of its portable form.
-fn converted<T: IntoPortable + Drop>(alloc: Global, value: T) -> Result<Answer, AllocError>
+/// What shows a value that holds types, which is shown by the encoding of its portable form.
+pub fn registered<T: IntoPortable + Drop>(alloc: Global, value: T) -> Answered
 where
     T::Output: Scale,
 {
     match catalogue(alloc) {
         Ok(known) => {
             let mut registry = Held(Registry::new(alloc));
-            encoded(alloc, value.into_portable(alloc, &mut registry.0, &known))
+            let returned = value.into_portable(alloc, &mut registry.0, &known);
+            answered(alloc, returned, encoded)
         }
-        Err(error) => failed(alloc, &error),
-    }
-}
-
-/// The answer of a value that holds types, or of an error.
-pub fn registered<T: IntoPortable + Drop, E: Debug + Drop>(
-    alloc: Global,
-    returned: Result<T, E>,
-) -> Result<Answer, AllocError>
-where
-    T::Output: Scale,
-{
-    match returned {
-        Ok(value) => converted(alloc, value),
         Err(error) => failed(alloc, &error),
     }
 }

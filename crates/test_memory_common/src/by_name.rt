@@ -19,7 +19,6 @@ use std::num::{
 };
 use std::ops::{Range, RangeInclusive};
 use std::rc::Rc;
-use std::test::Fail;
 use std::time::Duration;
 
 type A = u8;
@@ -81,14 +80,6 @@ pub trait Known: Drop {
 
     /// Makes the call.
     fn of<T: HasIdentity>(self) -> Self::Returned;
-}
-
-/// What was made for the type of a name; an error where no type has it.
-pub fn found<T>(made: Option<Result<T, Fail>>) -> Result<T, Fail> {
-    match made {
-        Some(made) => made,
-        None => Err(Fail::new("no type has this name")),
-    }
 }
 
 /// Makes a call for the type with a description that has this name; None if there is none.

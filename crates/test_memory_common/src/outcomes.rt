@@ -1,8 +1,23 @@
 //! What a call did, as lines.
-use crate::answers::Answer;
-use std::alloc::AllocError;
+use crate::answers::{Answer, Answered, answered};
+use crate::marks::{begin, end};
+use std::alloc::{AllocError, Global};
+use std::fmt::Debug;
 use std::io;
 use std::test::Fail;
+
+/// What is lent to a call for writing.
+pub trait Lent: Drop {
+    /// What shows it.
+    fn state(&self, alloc: Global) -> Result<String, AllocError>;
+}
+
+/// Bytes, which are shown in hexadecimal.
+impl Lent for Vec<u8> {
+    fn state(&self, alloc: Global) -> Result<String, AllocError> {
+        hex::encode(alloc, self.as_slice())
+    }
+}
 
 /// What a call did.
 #[derive(Drop)]
@@ -17,7 +32,7 @@ pub struct Outcome {
 
 impl Outcome {
     /// The outcome of a call to which nothing is lent for writing.
-    pub fn of(answer: Result<Answer, AllocError>) -> Result<Outcome, Fail> {
+    pub fn of(answer: Answered) -> Result<Outcome, Fail> {
         Ok(Outcome {
             lent: None,
             asked: None,
@@ -25,16 +40,54 @@ impl Outcome {
         })
     }
 
+    /// Makes a call between the marks; its outcome shows what it returned.
+    pub fn of_call<
+        T,
+        E: Debug + Drop,
+        C: FnOnce() -> Result<T, E>,
+        A: FnOnce(Global, T) -> Answered,
+    >(rt: &HostRuntime, call: C, answer: A) -> Result<Outcome, Fail>
+        requires call { C.IsAlwaysCallable call }
+        requires answer { A.IsAlwaysCallable answer }
+    {
+        begin(rt);
+        let returned = call();
+        end(rt);
+        Outcome::of(answered(rt.alloc(), returned, answer))
+    }
+
+    /// Makes a call between the marks on what is lent to it for writing; its outcome shows that
+    /// before the call and after it, and what was returned.
+    pub fn of_change<
+        L: Lent,
+        T,
+        E: Debug + Drop,
+        C: FnOnce(&mut L) -> Result<T, E>,
+        A: FnOnce(Global, T) -> Answered,
+    >(rt: &HostRuntime, mut lent: L, call: C, answer: A) -> Result<Outcome, Fail>
+        requires call { C.IsAlwaysCallable call }
+        requires answer { A.IsAlwaysCallable answer }
+    {
+        let alloc = rt.alloc();
+        let before = lent.state(alloc);
+        begin(rt);
+        let returned = call(&mut lent);
+        end(rt);
+        let after = lent.state(alloc);
+        Outcome::lending(before, after, answered(alloc, returned, answer))
+    }
+
     /// The outcome of a call to which something is lent.
     pub fn lending(
         before: Result<String, AllocError>,
         after: Result<String, AllocError>,
-        answer: Result<Answer, AllocError>,
+        answer: Answered,
     ) -> Result<Outcome, Fail> {
+        let answer = answer?;
         Ok(Outcome {
             lent: Some((before?, after?)),
             asked: None,
-            answer: answer?,
+            answer,
         })
     }
 

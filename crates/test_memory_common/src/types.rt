@@ -1,12 +1,13 @@
 //! Types by their names, what they are described as, and a catalogue of them.
-use crate::by_name::{Described, Known, Twenty, for_known_type, for_type, found};
+use crate::by_name::{Described, Known, Twenty, for_known_type, for_type};
 use crate::described::described;
+use crate::names::found;
 use crate::own::{Missing, Recursive};
 use scale_info::impls::{Compact, meta_type};
-use scale_info::meta_type::{Catalogue, CatalogueError, HasIdentity, Identified};
+use scale_info::meta_type::{Catalogue, CatalogueError, HasIdentity, InfoError};
 use scale_info::{
-    Field, MetaType, Path, Type, TypeDef, TypeDefBitSequence, TypeDefComposite, TypeDefMap,
-    TypeDefVariant, TypeId, TypeInfo, TypeParameter, Variant,
+    Field, MetaType, Path, TryClone, Type, TypeDef, TypeDefBitSequence, TypeDefComposite,
+    TypeDefMap, TypeDefVariant, TypeInfo, TypeParameter, Variant,
 };
 use std::alloc::{AllocError, Global};
 use std::collections::{BTreeSet, VecDeque};
@@ -54,23 +55,31 @@ pub type Many = (
     Option<u128>,
 );
 
-/// Makes the type of a name.
+/// Makes the type of a name, or what that type is described as.
 #[derive(Drop)]
-struct MetaTypeOf {
+struct Make {
     alloc: Global,
 }
 
-impl Known for MetaTypeOf {
-    type Returned = Result<MetaType, Fail>;
+impl Known for Make {
+    type Returned = Result<MetaType, AllocError>;
 
-    fn of<T: HasIdentity>(self) -> Result<MetaType, Fail> {
-        Ok(meta_type::<T>(self.alloc)?)
+    fn of<T: HasIdentity>(self) -> Result<MetaType, AllocError> {
+        meta_type::<T>(self.alloc)
+    }
+}
+
+impl Described for Make {
+    type Returned = Result<Type, InfoError>;
+
+    fn of<T: TypeInfo>(self) -> Result<Type, InfoError> {
+        T::type_info(self.alloc)
     }
 }
 
 /// The type of this name. There is one of each kind of definition.
 pub fn type_named(alloc: Global, name: &str) -> Result<MetaType, Fail> {
-    found(for_known_type(MetaTypeOf { alloc }, name))
+    Ok(found(for_known_type(Make { alloc }, name))??)
 }
 
 /// The types of these names, in order, with ` | ` between two; none of an empty text.
@@ -84,39 +93,11 @@ pub fn types_named(alloc: Global, names: &str) -> Result<Vec<MetaType>, Fail> {
     Ok(types.into_inner())
 }
 
-/// Makes the identity that the type of a name is known by.
-#[derive(Drop)]
-struct IdentityOf {
-    alloc: Global,
-}
-
-impl Known for IdentityOf {
-    type Returned = Result<TypeId, AllocError>;
-
-    fn of<T: HasIdentity>(self) -> Result<TypeId, AllocError> {
-        T::Identity::type_id(self.alloc)
-    }
-}
-
-/// Makes the description of a standard type with a name.
-#[derive(Drop)]
-struct DescriptionOf {
-    alloc: Global,
-}
-
-impl Described for DescriptionOf {
-    type Returned = Result<Type, Fail>;
-
-    fn of<T: TypeInfo>(self) -> Result<Type, Fail> {
-        Ok(T::type_info(self.alloc)?)
-    }
-}
-
 /// What the type of this name is described as.
 pub fn description_named(alloc: Global, name: &str) -> Result<Type, Fail> {
     match own_description(alloc, name)? {
         Some(description) => Ok(description),
-        None => found(for_type(DescriptionOf { alloc }, name)),
+        None => Ok(found(for_type(Make { alloc }, name))??),
     }
 }
 
@@ -251,8 +232,8 @@ fn add_own_type(
     name: &str,
     description: Type,
 ) -> Result<bool, CatalogueError> {
-    match for_known_type(IdentityOf { alloc }, name) {
-        Some(id) => known.add_described(id?, description),
+    match for_known_type(Make { alloc }, name) {
+        Some(ty) => known.add_described(ty?.type_id().try_clone(alloc)?, description),
         None => Ok(false),
     }
 }

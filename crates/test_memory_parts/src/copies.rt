@@ -8,7 +8,6 @@ use test_common::held::Held;
 use test_common::parts;
 use test_memory_common::answers::{encoded, registered, shown};
 use test_memory_common::inputs::table_of;
-use test_memory_common::marks::{begin, end};
 use test_memory_common::outcomes::Outcome;
 use test_memory_common::types::{
     demo_path, description_named, documented_field, documented_variant, given_parameter, type_named,
@@ -16,10 +15,7 @@ use test_memory_common::types::{
 
 /// Copies a portable value.
 fn copy_of<T: TryClone + Scale>(rt: &HostRuntime, value: &T) -> Result<Outcome, Fail> {
-    begin(rt);
-    let returned = value.try_clone(rt.alloc());
-    end(rt);
-    Outcome::of(encoded(rt.alloc(), returned))
+    Outcome::of_call(rt, || value.try_clone(rt.alloc()), encoded)
 }
 
 /// Copies a portable value that is made for it; an Err is returned as it is.
@@ -36,18 +32,12 @@ fn copy_meta<T: TryClone + IntoPortable + Drop>(rt: &HostRuntime, value: T) -> R
 where
     T::Output: Scale,
 {
-    begin(rt);
-    let returned = value.try_clone(rt.alloc());
-    end(rt);
-    Outcome::of(registered(rt.alloc(), returned))
+    Outcome::of_call(rt, || value.try_clone(rt.alloc()), registered)
 }
 
 /// Copies a value that is shown by its `Debug`.
 fn copy_shown<T: TryClone + Debug + Drop>(rt: &HostRuntime, value: &T) -> Result<Outcome, Fail> {
-    begin(rt);
-    let returned = value.try_clone(rt.alloc());
-    end(rt);
-    Outcome::of(shown(rt.alloc(), returned))
+    Outcome::of_call(rt, || value.try_clone(rt.alloc()), shown)
 }
 
 /// Copies a portable part of a description.
@@ -128,48 +118,25 @@ pub fn list(rt: &HostRuntime, kind: &str) -> Result<Outcome, Fail> {
     }
 }
 
-/// Copies a type or a text by its form.
-pub fn by_form(rt: &HostRuntime, kind: &str) -> Result<Outcome, Fail> {
-    match kind {
-        "type of the program" => type_of_program(rt),
-        "portable type" => portable_type(rt),
-        "text of the program" => text_of_program(rt),
-        "portable text" => portable_text(rt),
-        _ => Err(Fail::new("no kind has this name")),
-    }
-}
-
 /// Copies a type of the program.
-fn type_of_program(rt: &HostRuntime) -> Result<Outcome, Fail> {
+pub fn type_of_program(rt: &HostRuntime) -> Result<Outcome, Fail> {
     let ty = Held(type_named(rt.alloc(), "Vec<u32>")?);
-    begin(rt);
-    let returned = MetaForm::copy_type(rt.alloc(), &ty.0);
-    end(rt);
-    Outcome::of(registered(rt.alloc(), returned))
+    Outcome::of_call(rt, || MetaForm::copy_type(rt.alloc(), &ty.0), registered)
 }
 
 /// Copies an id.
-fn portable_type(rt: &HostRuntime) -> Result<Outcome, Fail> {
+pub fn portable_type(rt: &HostRuntime) -> Result<Outcome, Fail> {
     let id = parts::id(7);
-    begin(rt);
-    let returned = PortableForm::copy_type(rt.alloc(), &id);
-    end(rt);
-    Outcome::of(encoded(rt.alloc(), returned))
+    Outcome::of_call(rt, || PortableForm::copy_type(rt.alloc(), &id), encoded)
 }
 
 /// Copies a text of the program.
-fn text_of_program(rt: &HostRuntime) -> Result<Outcome, Fail> {
-    begin(rt);
-    let returned = MetaForm::copy_string(rt.alloc(), &"a text");
-    end(rt);
-    Outcome::of(shown(rt.alloc(), returned))
+pub fn text_of_program(rt: &HostRuntime) -> Result<Outcome, Fail> {
+    Outcome::of_call(rt, || MetaForm::copy_string(rt.alloc(), &"a text"), shown)
 }
 
 /// Copies a text of a table.
-fn portable_text(rt: &HostRuntime) -> Result<Outcome, Fail> {
+pub fn portable_text(rt: &HostRuntime) -> Result<Outcome, Fail> {
     let text = parts::text(rt.alloc(), "a text")?;
-    begin(rt);
-    let returned = PortableForm::copy_string(rt.alloc(), &text);
-    end(rt);
-    Outcome::of(encoded(rt.alloc(), returned))
+    Outcome::of_call(rt, || PortableForm::copy_string(rt.alloc(), &text), encoded)
 }

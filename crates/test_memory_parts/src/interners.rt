@@ -1,15 +1,16 @@
 //! Interners of texts, which rows give between brackets.
 use crate::asked::{Asked, ask};
-use scale_info::interner::{InternError, Interner, UntrackedSymbol};
+use scale_info::interner::{InternError, Interner};
 use scale_info::{Text, TryClone};
 use std::alloc::{AllocError, Global};
 use std::test::Fail;
 use test_common::held::Held;
 use test_common::parts::text;
 use test_common::rows::parted;
-use test_memory_common::answers::{printed, shown};
+use test_memory_common::answers::{answered, printed};
+use test_memory_common::interners::numbered;
 use test_memory_common::marks::{begin, end};
-use test_memory_common::outcomes::Outcome;
+use test_memory_common::outcomes::{Lent, Outcome};
 use test_memory_common::texts::bracketed;
 
 /// Four texts.
@@ -33,41 +34,33 @@ fn interner(alloc: Global, row: &str) -> Result<Interner<Text>, InternError> {
     Ok(texts.into_inner())
 }
 
+/// An interner that is shown by its elements.
+#[derive(Drop)]
+struct Texts(Held<Interner<Text>>);
+
+impl Lent for Texts {
+    fn state(&self, alloc: Global) -> Result<String, AllocError> {
+        state(alloc, &self.0.0)
+    }
+}
+
 /// The elements of an interner.
 fn state(alloc: Global, texts: &Interner<Text>) -> Result<String, AllocError> {
     let elements = texts.elements();
     format!(in alloc; "{elements:?}")
 }
 
-/// Whether the element is new, and its number.
-fn numbered(
-    returned: Result<(bool, UntrackedSymbol<Text>), InternError>,
-) -> Result<(bool, u32), InternError> {
-    match returned {
-        Ok((is_new, symbol)) => Ok((is_new, symbol.id())),
-        Err(error) => Err(error),
-    }
-}
-
 /// Interns a text after four.
 pub fn intern_or_get(rt: &HostRuntime, chars: &str) -> Result<Outcome, Fail> {
-    let mut texts = Held(interner(rt.alloc(), FOUR)?);
     let value = text(rt.alloc(), chars)?;
-    let before = state(rt.alloc(), &texts.0);
-    begin(rt);
-    let returned = texts.0.intern_or_get(value);
-    end(rt);
-    let after = state(rt.alloc(), &texts.0);
-    Outcome::lending(before, after, shown(rt.alloc(), numbered(returned)))
+    let texts = Texts(Held(interner(rt.alloc(), FOUR)?));
+    Outcome::of_change(rt, texts, |texts| texts.0.0.intern_or_get(value), numbered)
 }
 
 /// Interns texts, each of which is new or has a number.
 pub fn intern(rt: &HostRuntime, row: &str) -> Result<Outcome, Fail> {
     let mut texts = Held(Interner::new(rt.alloc()));
-    begin(rt);
-    let returned = intern_all(rt.alloc(), &mut texts.0, row);
-    end(rt);
-    Outcome::of(printed(rt.alloc(), returned))
+    Outcome::of_call(rt, || intern_all(rt.alloc(), &mut texts.0, row), printed)
 }
 
 /// An interner with a text to look up, and another interner.
@@ -159,5 +152,5 @@ pub fn truncate(rt: &HostRuntime, row: &str) -> Result<Outcome, Fail> {
     end(rt);
     let after = state(rt.alloc(), &texts.0);
     let answer = truncated(rt.alloc(), texts.into_inner(), left, gone);
-    Outcome::lending(before, after, printed(rt.alloc(), answer))
+    Outcome::lending(before, after, answered(rt.alloc(), answer, printed))
 }

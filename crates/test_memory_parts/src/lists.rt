@@ -5,8 +5,7 @@ use std::fmt::Debug;
 use std::test::Fail;
 use test_common::parts::text;
 use test_common::rows::{numbers, parted};
-use test_memory_common::answers::{Answer, done, failed};
-use test_memory_common::marks::{begin, end};
+use test_memory_common::answers::{Answered, done};
 use test_memory_common::outcomes::Outcome;
 
 /// Pushes numbers.
@@ -27,24 +26,18 @@ fn sum(items: &Items<u32>) -> u32 {
     sum
 }
 
-/// A list, its length, whether it is empty, how many it goes over, and its sum.
-fn text_of(alloc: Global, items: Items<u32>) -> Result<String, AllocError> {
+/// What shows a list: it, its length, whether it is empty, how many it goes over, and its sum.
+fn described(alloc: Global, items: Items<u32>) -> Answered {
     let (len, is_empty) = (items.len(), items.is_empty());
     let (count, sum) = (items.iter().count(), sum(&items));
     let list = Vec::from(items);
-    format!(in alloc; "{list:?} {len} {is_empty} {count} {sum}")
+    done(format!(in alloc; "{list:?} {len} {is_empty} {count} {sum}"))
 }
 
 /// Pushes the numbers of a row.
 pub fn push(rt: &HostRuntime, row: &str) -> Result<Outcome, Fail> {
     let numbers = numbers(rt.alloc(), row)?;
-    begin(rt);
-    let returned = pushed(rt.alloc(), &numbers);
-    end(rt);
-    Outcome::of(match returned {
-        Ok(items) => done(text_of(rt.alloc(), items)),
-        Err(error) => failed(rt.alloc(), &error),
-    })
+    Outcome::of_call(rt, || pushed(rt.alloc(), &numbers), described)
 }
 
 /// The list of a value so often, grown towards a count that is announced.
@@ -61,18 +54,10 @@ fn grown<T: TryClone>(
     Ok(items.into_vec())
 }
 
-/// A list, and for how many elements it has room.
-fn roomy<T: Debug + Drop>(
-    alloc: Global,
-    returned: Result<Vec<T>, AllocError>,
-) -> Result<Answer, AllocError> {
-    match returned {
-        Ok(list) => {
-            let room = list.capacity();
-            done(format!(in alloc; "{list:?} with room for {room}"))
-        }
-        Err(error) => failed(alloc, &error),
-    }
+/// What shows a list, and for how many elements it has room.
+fn roomy<T: Debug + Drop>(alloc: Global, list: Vec<T>) -> Answered {
+    let room = list.capacity();
+    done(format!(in alloc; "{list:?} with room for {room}"))
 }
 
 /// Grows a list of a value.
@@ -85,10 +70,7 @@ fn grow<T: TryClone + Debug + Drop>(
     let [count, announced] = numbers.as_slice() else {
         return Err(Fail::new("a row has a count and an announced count"));
     };
-    begin(rt);
-    let returned = grown(rt.alloc(), &value, *count, *announced);
-    end(rt);
-    Outcome::of(roomy(rt.alloc(), returned))
+    Outcome::of_call(rt, || grown(rt.alloc(), &value, *count, *announced), roomy)
 }
 
 /// Grows a list of numbers or of texts so often, towards a count that is announced.
@@ -109,8 +91,5 @@ fn with_room(alloc: Global) -> Result<Vec<u32>, AllocError> {
 
 /// Makes a list with room for three.
 pub fn with_capacity(rt: &HostRuntime) -> Result<Outcome, Fail> {
-    begin(rt);
-    let returned = with_room(rt.alloc());
-    end(rt);
-    Outcome::of(roomy(rt.alloc(), returned))
+    Outcome::of_call(rt, || with_room(rt.alloc()), roomy)
 }

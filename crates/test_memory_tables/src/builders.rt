@@ -7,10 +7,10 @@ use std::test::Fail;
 use test_common::held::Held;
 use test_common::parts::sequence;
 use test_common::rows::row_bytes;
-use test_memory_common::answers::{digits, done, encoded, failed, shown};
+use test_memory_common::answers::{Answered, digits, done, encoded, shown};
 use test_memory_common::inputs::table_of;
 use test_memory_common::marks::{begin, end};
-use test_memory_common::outcomes::Outcome;
+use test_memory_common::outcomes::{Lent, Outcome};
 
 /// The builder of a table's descriptions.
 fn built(alloc: Global, table: PortableRegistry) -> Result<PortableRegistryBuilder, Fail> {
@@ -41,45 +41,53 @@ fn last_of(alloc: Global, row: &str) -> Result<Type<PortableForm>, Fail> {
     }
 }
 
-/// The encodings of a builder's descriptions, in order.
-fn state(alloc: Global, builder: &PortableRegistryBuilder) -> Result<String, AllocError> {
-    let mut text = String::new(alloc);
-    for id in 0..builder.next_type_id() {
-        if let Some(ty) = builder.get(id) {
-            text.push_str(digits(alloc, ty)?.as_str())?;
-            text.push_str(" ")?;
+/// A builder, which is shown by the encodings of its descriptions, in order.
+#[derive(Drop)]
+struct Builder(Held<PortableRegistryBuilder>);
+
+impl Lent for Builder {
+    fn state(&self, alloc: Global) -> Result<String, AllocError> {
+        let mut text = String::new(alloc);
+        for id in 0..self.0.0.next_type_id() {
+            if let Some(ty) = self.0.0.get(id) {
+                text.push_str(digits(alloc, ty)?.as_str())?;
+                text.push_str(" ")?;
+            }
         }
+        Ok(text)
     }
-    Ok(text)
 }
 
-/// Registers a description, and says what is lent and returned.
+/// Registers the last description of a table, and says what is lent and returned.
 fn register(
     rt: &HostRuntime,
-    mut builder: PortableRegistryBuilder,
-    ty: Type<PortableForm>,
+    builder: Result<PortableRegistryBuilder, Fail>,
+    row: &str,
 ) -> Result<Outcome, Fail> {
-    let before = state(rt.alloc(), &builder);
-    begin(rt);
-    let returned = builder.register_type(ty);
-    end(rt);
-    let after = state(rt.alloc(), &builder);
-    Outcome::lending(before, after, shown(rt.alloc(), returned))
+    let builder = Builder(Held(builder?));
+    let ty = last_of(rt.alloc(), row)?;
+    Outcome::of_change(rt, builder, |builder| builder.0.0.register_type(ty), shown)
 }
 
-/// Registers the last description of a table as a call of this name does: after fifteen others,
-/// behind which there is room; after sixteen others, which leave no room for one more, and none
-/// for its index; as the first one; or where the builder has it.
-pub fn register_type(rt: &HostRuntime, call: &str, row: &str) -> Result<Outcome, Fail> {
-    let ty = Held(last_of(rt.alloc(), row)?);
-    let builder = match call {
-        "register_type" => sequences(rt.alloc(), 1015)?,
-        "register_seventeenth_type" => sequences(rt.alloc(), 1016)?,
-        "register_first_type" => PortableRegistryBuilder::new(rt.alloc()),
-        "register_known_type" => built(rt.alloc(), table_of(rt.alloc(), row)?)?,
-        _ => return Err(Fail::new("no call of a builder has this name")),
-    };
-    register(rt, builder, ty.into_inner())
+/// Registers a description after fifteen others, after which there is room.
+pub fn register_type(rt: &HostRuntime, row: &str) -> Result<Outcome, Fail> {
+    register(rt, sequences(rt.alloc(), 1015), row)
+}
+
+/// Registers a description after sixteen others, which leave no room for one more, and none for its
+/// index.
+pub fn register_seventeenth_type(rt: &HostRuntime, row: &str) -> Result<Outcome, Fail> {
+    register(rt, sequences(rt.alloc(), 1016), row)
+}
+
+/// Registers a description as the first one.
+pub fn register_first_type(rt: &HostRuntime, row: &str) -> Result<Outcome, Fail> {
+    register(rt, Ok(PortableRegistryBuilder::new(rt.alloc())), row)
+}
+
+/// Registers a description that the builder has.
+pub fn register_known_type(rt: &HostRuntime, row: &str) -> Result<Outcome, Fail> {
+    register(rt, built(rt.alloc(), table_of(rt.alloc(), row)?), row)
 }
 
 /// Asks a builder for its next id, and for its first description.
@@ -94,10 +102,7 @@ pub fn look(rt: &HostRuntime, row: &str) -> Result<Outcome, Fail> {
 /// Makes the table of what was registered.
 pub fn finish(rt: &HostRuntime, row: &str) -> Result<Outcome, Fail> {
     let builder = Held(built(rt.alloc(), table_of(rt.alloc(), row)?)?);
-    begin(rt);
-    let returned = builder.into_inner().finish(rt.alloc());
-    end(rt);
-    Outcome::of(encoded(rt.alloc(), returned))
+    Outcome::of_call(rt, || builder.into_inner().finish(rt.alloc()), encoded)
 }
 
 /// The descriptions with these encodings, between which stand semicolons; each may have a name
@@ -113,12 +118,11 @@ fn described(alloc: Global, row: &str) -> Result<Vec<Type<PortableForm>>, Fail> 
     Ok(all.into_inner())
 }
 
-/// The ids of descriptions that are registered in this order, each with the next id after it, and
-/// the table of them.
-fn registered(
-    alloc: Global,
-    types: Vec<Type<PortableForm>>,
-) -> Result<(Vec<(u32, u32)>, PortableRegistry), InternError> {
+/// The ids of descriptions, each with the next id after it, and the table of them.
+type Registered = (Vec<(u32, u32)>, PortableRegistry);
+
+/// What is registered of descriptions in this order.
+fn registered(alloc: Global, types: Vec<Type<PortableForm>>) -> Result<Registered, InternError> {
     let mut builder = Held(PortableRegistryBuilder::new(alloc));
     let mut ids = Vec::new(alloc);
     for ty in types {
@@ -128,18 +132,14 @@ fn registered(
     Ok((ids, builder.into_inner().finish(alloc)?))
 }
 
+/// What shows ids, each with the next one, and the table of them.
+fn listed(alloc: Global, (ids, table): Registered) -> Answered {
+    let table = digits(alloc, &table)?;
+    done(format!(in alloc; "{ids:?} {table}"))
+}
+
 /// Registers descriptions, and makes the table of them.
 pub fn register_each(rt: &HostRuntime, row: &str) -> Result<Outcome, Fail> {
     let types = described(rt.alloc(), row)?;
-    begin(rt);
-    let returned = registered(rt.alloc(), types);
-    end(rt);
-    let answer = match returned {
-        Ok((ids, table)) => {
-            let table = digits(rt.alloc(), &table)?;
-            done(format!(in rt.alloc(); "{ids:?} {table}"))
-        }
-        Err(error) => failed(rt.alloc(), &error),
-    };
-    Outcome::of(answer)
+    Outcome::of_call(rt, || registered(rt.alloc(), types), listed)
 }

@@ -1,10 +1,10 @@
 //! Tables as bytes, and their copies.
 use scale_info::impls::Compact;
-use scale_info::{DecodeError, PortableRegistry, Scale, TryClone};
+use scale_info::{PortableRegistry, Scale, TryClone};
 use std::alloc::{AllocError, Global};
 use std::test::Fail;
 use test_common::held::Held;
-use test_memory_common::answers::{Answer, digits, done, encoded, failed, shown};
+use test_memory_common::answers::{Answered, digits, done, encoded, shown};
 use test_memory_common::inputs::{bytes_of, output, table_of};
 use test_memory_common::marks::{begin, end};
 use test_memory_common::outcomes::Outcome;
@@ -20,24 +20,15 @@ pub fn with_rest(digits: Result<String, AllocError>, rest: &[u8]) -> Result<Stri
     Ok(text)
 }
 
-/// The answer of a table that was decoded, and of what is left.
-fn decoded(
-    alloc: Global,
-    returned: Result<(PortableRegistry, &[u8]), DecodeError>,
-) -> Result<Answer, AllocError> {
-    match returned {
-        Ok((table, rest)) => done(with_rest(digits(alloc, &table), rest)),
-        Err(error) => failed(alloc, &error),
-    }
+/// What shows a table that was decoded, and of what is left.
+fn decoded(alloc: Global, (table, rest): (PortableRegistry, &[u8])) -> Answered {
+    done(with_rest(digits(alloc, &table), rest))
 }
 
 /// Decodes a table.
 pub fn decode(rt: &HostRuntime, row: &str) -> Result<Outcome, Fail> {
     let bytes = bytes_of(rt.alloc(), row)?;
-    begin(rt);
-    let returned = PortableRegistry::decode(rt.alloc(), &bytes);
-    end(rt);
-    Outcome::of(decoded(rt.alloc(), returned))
+    Outcome::of_call(rt, || PortableRegistry::decode(rt.alloc(), &bytes), decoded)
 }
 
 /// Decodes a compact integer, and encodes it again.
@@ -54,29 +45,17 @@ pub fn decode_compact(rt: &HostRuntime, row: &str) -> Result<Outcome, Fail> {
 /// Encodes a table.
 pub fn encode(rt: &HostRuntime, row: &str) -> Result<Outcome, Fail> {
     let table = Held(table_of(rt.alloc(), row)?);
-    let mut out = output(rt.alloc())?;
-    let before = hex::encode(rt.alloc(), out.as_slice());
-    begin(rt);
-    let returned = table.0.encode(&mut out);
-    end(rt);
-    let after = hex::encode(rt.alloc(), out.as_slice());
-    Outcome::lending(before, after, shown(rt.alloc(), returned))
+    Outcome::of_change(rt, output(rt.alloc())?, |out| table.0.encode(out), shown)
 }
 
 /// Copies a table.
 pub fn try_clone(rt: &HostRuntime, row: &str) -> Result<Outcome, Fail> {
     let table = Held(table_of(rt.alloc(), row)?);
-    begin(rt);
-    let returned = table.0.try_clone(rt.alloc());
-    end(rt);
-    Outcome::of(encoded(rt.alloc(), returned))
+    Outcome::of_call(rt, || table.0.try_clone(rt.alloc()), encoded)
 }
 
 /// Copies each entry of a table.
 pub fn try_clone_entries(rt: &HostRuntime, row: &str) -> Result<Outcome, Fail> {
     let table = Held(table_of(rt.alloc(), row)?);
-    begin(rt);
-    let returned = table.0.types.try_clone(rt.alloc());
-    end(rt);
-    Outcome::of(encoded(rt.alloc(), returned))
+    Outcome::of_call(rt, || table.0.types.try_clone(rt.alloc()), encoded)
 }

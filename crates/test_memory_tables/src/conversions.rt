@@ -1,6 +1,6 @@
 //! Values that hold types, converted.
 use crate::registrations::into_portable;
-use scale_info::meta_type::{Catalogue, CatalogueError};
+use scale_info::meta_type::Catalogue;
 use scale_info::{
     IntoPortable, Scale, TypeDefArray, TypeDefBitSequence, TypeDefCompact, TypeDefComposite,
     TypeDefSequence, TypeDefTuple, TypeDefVariant, tuple_meta_type,
@@ -15,17 +15,20 @@ use test_memory_common::types::{
     map, type_named,
 };
 
-/// The catalogue by which a value is converted.
-type Known = Result<Catalogue, CatalogueError>;
-
-/// Converts a value of this kind, a part of a description, by a catalogue.
-pub fn part(rt: &HostRuntime, known: Known, kind: &str) -> Result<Outcome, Fail> {
-    let known = Held(known?);
-    part_by(rt, &known.0, kind)
+/// Converts a value of this kind, a part of a description, by the catalogue of all types.
+pub fn described_part(rt: &HostRuntime, kind: &str) -> Result<Outcome, Fail> {
+    let known = Held(catalogue(rt.alloc())?);
+    part(rt, &known.0, kind)
 }
 
-/// Converts a value of this kind by a catalogue, which is lent.
-fn part_by(rt: &HostRuntime, known: &Catalogue, kind: &str) -> Result<Outcome, Fail> {
+/// Converts a value of this kind, a part of a description, by a catalogue without descriptions.
+pub fn undescribed_part(rt: &HostRuntime, kind: &str) -> Result<Outcome, Fail> {
+    let nothing = Held(Catalogue::new(rt.alloc()));
+    part(rt, &nothing.0, kind)
+}
+
+/// Converts a value of this kind by a catalogue.
+fn part(rt: &HostRuntime, known: &Catalogue, kind: &str) -> Result<Outcome, Fail> {
     match kind {
         "text" => into_portable(rt, known, "a text"),
         "path" => into_portable(rt, known, demo_path(rt.alloc())?),

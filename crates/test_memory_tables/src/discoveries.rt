@@ -1,15 +1,12 @@
 //! Discoveries of types, and how often the cache of their numbers serves.
 use scale_info::interner::Interner;
 use scale_info::meta_type::TypeId;
-use scale_info::registry::RegisterError;
-use scale_info::{MetaType, Type};
 use scale_info_catalogue::discovery::discover;
 use scale_info_catalogue::number_cache::NumberCache;
-use std::alloc::{AllocError, Global};
 use std::test::Fail;
 use test_common::held::Held;
 use test_common::lists::list_of;
-use test_memory_common::answers::{Answer, done, failed};
+use test_memory_common::answers::{answered, done};
 use test_memory_common::marks::{begin, end};
 use test_memory_common::outcomes::Outcome;
 use test_memory_common::types::{catalogue, type_named};
@@ -22,22 +19,6 @@ fn served(identities: &Interner<TypeId>, cache: &NumberCache) -> usize {
         count = count.saturating_add(is_known as usize);
     }
     count
-}
-
-/// How many descriptions were found, and how many of the identities are in the cache.
-fn found(
-    alloc: Global,
-    returned: Result<Vec<&Type>, RegisterError>,
-    identities: &Interner<TypeId>,
-    cache: &NumberCache,
-) -> Result<Answer, AllocError> {
-    match returned {
-        Ok(found) => {
-            let (all, cached) = (identities.elements().len(), served(identities, cache));
-            done(format!(in alloc; "{} described, {cached} of {all} in the cache", found.len()))
-        }
-        Err(error) => failed(alloc, &error),
-    }
 }
 
 /// Numbers a type and all that is reached from it.
@@ -56,5 +37,11 @@ pub fn discover_type(rt: &HostRuntime, name: &str) -> Result<Outcome, Fail> {
         &known.0,
     );
     end(rt);
-    Outcome::of(found(rt.alloc(), returned, &identities.0, &cache.0))
+    let (all, cached) = (
+        identities.0.elements().len(),
+        served(&identities.0, &cache.0),
+    );
+    Outcome::of(answered(rt.alloc(), returned, |alloc, found| {
+        done(format!(in alloc; "{} described, {cached} of {all} in the cache", found.len()))
+    }))
 }

@@ -9,7 +9,7 @@ use std::test::Fail;
 use test_common::catalogues::add_own;
 use test_common::held::Held;
 use test_common::rows::numbers;
-use test_memory_common::answers::{Answer, done, failed};
+use test_memory_common::answers::{Answered, answered, done};
 use test_memory_common::inputs::output;
 use test_memory_common::marks::{begin, end};
 use test_memory_common::outcomes::Outcome;
@@ -26,7 +26,7 @@ type Second = Own<101>;
 type Third = Own<102>;
 
 /// The ids and the map of what was written.
-fn written(alloc: Global, exported: Exported) -> Result<Answer, AllocError> {
+fn written(alloc: Global, exported: Exported) -> Answered {
     let (ids, map) = (exported.ids, exported.map);
     done(format!(in alloc; "{ids:?} {map:?}"))
 }
@@ -103,9 +103,6 @@ pub fn export_types(rt: &HostRuntime, row: &str) -> Result<Outcome, Fail> {
     );
     end(rt);
     let after = hex::encode(rt.alloc(), out.as_slice());
-    let answer = match returned {
-        Ok(exported) => written(rt.alloc(), exported),
-        Err(error) => failed(rt.alloc(), &error),
-    };
+    let answer = answered(rt.alloc(), returned, written);
     Outcome::asking(Outcome::lending(before, after, answer), asked as usize)
 }

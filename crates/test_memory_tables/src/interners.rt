@@ -4,9 +4,10 @@ use scale_info::interner::{InternError, Interner};
 use std::alloc::{AllocError, Global};
 use std::test::Fail;
 use test_common::held::Held;
-use test_memory_common::answers::{done, shown};
+use test_memory_common::answers::done;
+use test_memory_common::interners::numbered;
 use test_memory_common::marks::{begin, end};
-use test_memory_common::outcomes::Outcome;
+use test_memory_common::outcomes::{Lent, Outcome};
 
 /// The digits of a number.
 fn digits_of(alloc: Global, number: usize) -> Result<Text, AllocError> {
@@ -22,39 +23,39 @@ fn first_numbers(alloc: Global, count: usize) -> Result<Interner<Text>, InternEr
     Ok(texts.into_inner())
 }
 
-/// How many elements an interner has, and how many of them are the digits of their index.
-fn state_of_numbers(alloc: Global, texts: &Interner<Text>) -> Result<String, AllocError> {
-    let elements = texts.elements();
-    let mut same = 0usize;
-    for (index, element) in elements.iter().enumerate() {
-        same = same.saturating_add((digits_of(alloc, index)? == *element) as usize);
+/// An interner of the digits of numbers: how many elements it has, and how many of them are the
+/// digits of their index.
+#[derive(Drop)]
+struct Numbers(Held<Interner<Text>>);
+
+impl Lent for Numbers {
+    fn state(&self, alloc: Global) -> Result<String, AllocError> {
+        let elements = self.0.0.elements();
+        let mut same = 0usize;
+        for (index, element) in elements.iter().enumerate() {
+            same = same.saturating_add((digits_of(alloc, index)? == *element) as usize);
+        }
+        format!(in alloc; "{} {same}", elements.len())
     }
-    format!(in alloc; "{} {same}", elements.len())
 }
 
 /// Cuts the interner of the digits of so many numbers back to so many: two numbers in a text.
 pub fn truncate_numbers(rt: &HostRuntime, counts: &str) -> Result<Outcome, Fail> {
     let (count, kept) = counts.split_once(' ').unwrap_or((counts, "0"));
     let (count, kept): (usize, usize) = (count.parse()?, kept.parse()?);
-    let mut texts = Held(first_numbers(rt.alloc(), count)?);
-    let before = state_of_numbers(rt.alloc(), &texts.0);
+    let mut texts = Numbers(Held(first_numbers(rt.alloc(), count)?));
+    let before = texts.state(rt.alloc());
     begin(rt);
-    texts.0.truncate(kept);
+    texts.0.0.truncate(kept);
     end(rt);
-    let after = state_of_numbers(rt.alloc(), &texts.0);
+    let after = texts.state(rt.alloc());
     Outcome::lending(before, after, done(format!(in rt.alloc(); "truncated")))
 }
 
 /// Interns one more number's digits after those of so many.
 pub fn intern_or_get_after(rt: &HostRuntime, count: &str) -> Result<Outcome, Fail> {
     let count: usize = count.parse()?;
-    let mut texts = Held(first_numbers(rt.alloc(), count)?);
     let value = digits_of(rt.alloc(), count)?;
-    let before = state_of_numbers(rt.alloc(), &texts.0);
-    begin(rt);
-    let returned = texts.0.intern_or_get(value);
-    end(rt);
-    let after = state_of_numbers(rt.alloc(), &texts.0);
-    let numbered = returned.map(|(is_new, symbol)| (is_new, symbol.id()));
-    Outcome::lending(before, after, shown(rt.alloc(), numbered))
+    let texts = Numbers(Held(first_numbers(rt.alloc(), count)?));
+    Outcome::of_change(rt, texts, |texts| texts.0.0.intern_or_get(value), numbered)
 }

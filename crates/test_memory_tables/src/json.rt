@@ -2,25 +2,21 @@
 use scale_info::{append_json, append_json_of, from_json, to_json};
 use serde_json::Value;
 use std::alloc::Global;
-use std::fmt::Debug;
 use std::test::Fail;
 use test_common::held::Held;
-use test_memory_common::answers::{done, encoded, failed};
+use test_memory_common::answers::{Answered, done, encoded};
 use test_memory_common::inputs::{bytes_of, output, table_of};
-use test_memory_common::marks::{begin, end};
 use test_memory_common::outcomes::Outcome;
+
+/// What shows a tree.
+fn printed(alloc: Global, tree: Value) -> Answered {
+    done(tree.to_string(alloc))
+}
 
 /// The tree of a table.
 pub fn tree_of(rt: &HostRuntime, row: &str) -> Result<Outcome, Fail> {
     let table = Held(table_of(rt.alloc(), row)?);
-    begin(rt);
-    let returned = to_json(rt.alloc(), &table.0);
-    end(rt);
-    let answer = match returned {
-        Ok(tree) => done(tree.to_string(rt.alloc())),
-        Err(error) => failed(rt.alloc(), &error),
-    };
-    Outcome::of(answer)
+    Outcome::of_call(rt, || to_json(rt.alloc(), &table.0), printed)
 }
 
 /// The tree of a text that comes after the word "text", or else of the table of this name.
@@ -34,10 +30,7 @@ fn tree(alloc: Global, row: &str) -> Result<Value, Fail> {
 /// The table of a tree.
 pub fn table_from(rt: &HostRuntime, row: &str) -> Result<Outcome, Fail> {
     let tree = Held(tree(rt.alloc(), row)?);
-    begin(rt);
-    let returned = from_json(rt.alloc(), &tree.0);
-    end(rt);
-    Outcome::of(encoded(rt.alloc(), returned))
+    Outcome::of_call(rt, || from_json(rt.alloc(), &tree.0), encoded)
 }
 
 /// A text that was appended to the byte `aa`, with the byte before it in hexadecimal.
@@ -50,35 +43,21 @@ pub fn appended(alloc: Global, bytes: &[u8]) -> Result<String, Fail> {
     Ok(format!(in alloc; "{first} {text}")?)
 }
 
-/// The answer of a text that was appended, or of an error.
-fn written<E: Debug + Drop>(alloc: Global, returned: Result<Vec<u8>, E>) -> Result<Outcome, Fail> {
-    let answer = match returned {
-        Ok(bytes) => done(Ok(appended(alloc, &bytes)?)),
-        Err(error) => failed(alloc, &error),
-    };
-    Outcome::of(answer)
+/// What shows a text that was appended.
+fn written(alloc: Global, bytes: Vec<u8>) -> Answered {
+    done(Ok(appended(alloc, &bytes)?))
 }
 
 /// The text of a table.
 pub fn text_of(rt: &HostRuntime, row: &str) -> Result<Outcome, Fail> {
     let table = Held(table_of(rt.alloc(), row)?);
     let out = output(rt.alloc())?;
-    begin(rt);
-    let returned = append_json(&table.0, out);
-    end(rt);
-    written(rt.alloc(), returned)
+    Outcome::of_call(rt, || append_json(&table.0, out), written)
 }
 
 /// The text of a table from its bytes.
 pub fn text_of_bytes(rt: &HostRuntime, row: &str) -> Result<Outcome, Fail> {
-    let bytes = bytes_of(rt.alloc(), row)?;
-    let out = output(rt.alloc())?;
-    begin(rt);
-    let returned = append_json_of(rt.alloc(), &bytes, out);
-    end(rt);
-    let text = match returned {
-        Ok((text, _)) => Ok(text),
-        Err(error) => Err(error),
-    };
-    written(rt.alloc(), text)
+    let (bytes, out) = (bytes_of(rt.alloc(), row)?, output(rt.alloc())?);
+    let append = || append_json_of(rt.alloc(), &bytes, out);
+    Outcome::of_call(rt, append, |alloc, (text, _)| written(alloc, text))
 }

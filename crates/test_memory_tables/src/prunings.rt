@@ -1,11 +1,11 @@
 //! Walks over tables, and what is kept of them.
 use scale_info::walk::{Numbering, Refs, number, number_recursive};
-use scale_info::{PortableRegistry, RetainError, append_pruned, prune};
+use scale_info::{PortableRegistry, PortableType, RetainError, append_pruned, prune};
 use std::alloc::{AllocError, Global};
 use std::test::Fail;
 use test_common::held::Held;
 use test_common::rows::{numbers, parted};
-use test_memory_common::answers::{digits, done, failed, shown};
+use test_memory_common::answers::{Answered, answered, digits, done, shown};
 use test_memory_common::inputs::{bytes_of, is_malformed, output, table_of};
 use test_memory_common::marks::{begin, end};
 use test_memory_common::outcomes::Outcome;
@@ -65,66 +65,62 @@ pub fn retain(rt: &HostRuntime, row: &str) -> Result<Outcome, Fail> {
     });
     end(rt);
     let after = digits(rt.alloc(), &table.0);
-    let outcome = Outcome::lending(before, after, shown(rt.alloc(), returned));
+    let outcome = Outcome::lending(before, after, answered(rt.alloc(), returned, shown));
     Outcome::asking(outcome, asked as usize)
+}
+
+/// The bytes of a row, and the given ids.
+fn pruned(alloc: Global, row: &str) -> Result<(Vec<u8>, Vec<u32>), Fail> {
+    let (name, ids) = given(alloc, row)?;
+    Ok((bytes_of(alloc, name)?, ids))
 }
 
 /// Appends the table of what the given ids reach, with the new ids.
 pub fn prune_bytes(rt: &HostRuntime, row: &str) -> Result<Outcome, Fail> {
-    let (name, ids) = given(rt.alloc(), row)?;
-    let bytes = bytes_of(rt.alloc(), name)?;
-    let mut out = output(rt.alloc())?;
-    let before = hex::encode(rt.alloc(), out.as_slice());
-    begin(rt);
-    let returned = prune(rt.alloc(), &bytes, &ids, &mut out);
-    end(rt);
-    let after = hex::encode(rt.alloc(), out.as_slice());
-    Outcome::lending(before, after, shown(rt.alloc(), returned))
+    let (alloc, out) = (rt.alloc(), output(rt.alloc())?);
+    let (bytes, ids) = pruned(alloc, row)?;
+    Outcome::of_change(rt, out, |out| prune(alloc, &bytes, &ids, out), shown)
 }
 
 /// Appends the table of what the given ids reach.
 pub fn append_pruned_bytes(rt: &HostRuntime, row: &str) -> Result<Outcome, Fail> {
-    let (name, ids) = given(rt.alloc(), row)?;
-    let bytes = bytes_of(rt.alloc(), name)?;
-    let mut out = output(rt.alloc())?;
-    let before = hex::encode(rt.alloc(), out.as_slice());
-    begin(rt);
-    let returned = append_pruned(rt.alloc(), &bytes, &ids, &mut out);
-    end(rt);
-    let after = hex::encode(rt.alloc(), out.as_slice());
-    Outcome::lending(before, after, shown(rt.alloc(), returned))
+    let (alloc, out) = (rt.alloc(), output(rt.alloc())?);
+    let (bytes, ids) = pruned(alloc, row)?;
+    Outcome::of_change(
+        rt,
+        out,
+        |out| append_pruned(alloc, &bytes, &ids, out),
+        shown,
+    )
 }
 
-/// The outcome of a walk.
-fn walked(alloc: Global, returned: Result<Numbering, RetainError>) -> Result<Outcome, Fail> {
-    let answer = match returned {
-        Ok(found) => {
-            let (order, steps) = (found.order, found.steps);
-            done(format!(in alloc; "{order:?} in {steps} steps"))
-        }
-        Err(error) => failed(alloc, &error),
-    };
-    Outcome::of(answer)
+/// What shows a walk.
+fn walked(alloc: Global, found: Numbering) -> Answered {
+    let (order, steps) = (found.order, found.steps);
+    done(format!(in alloc; "{order:?} in {steps} steps"))
+}
+
+/// Numbers what the given ids reach by a call.
+fn numbered<C: FnOnce(Global, &[PortableType], &[u32]) -> Result<Numbering, RetainError>>(
+    rt: &HostRuntime,
+    row: &str,
+    call: C,
+) -> Result<Outcome, Fail>
+    requires { C.IsAlwaysCallable call }
+{
+    let (name, ids) = given(rt.alloc(), row)?;
+    let table = Held(table_of(rt.alloc(), name)?);
+    Outcome::of_call(rt, || call(rt.alloc(), table.0.types(), &ids), walked)
 }
 
 /// Numbers what the given ids reach.
 pub fn number_table(rt: &HostRuntime, row: &str) -> Result<Outcome, Fail> {
-    let (name, ids) = given(rt.alloc(), row)?;
-    let table = Held(table_of(rt.alloc(), name)?);
-    begin(rt);
-    let returned = number(rt.alloc(), table.0.types(), &ids);
-    end(rt);
-    walked(rt.alloc(), returned)
+    numbered(rt, row, number)
 }
 
 /// Numbers what the given ids reach, by a recursion.
 pub fn number_table_recursively(rt: &HostRuntime, row: &str) -> Result<Outcome, Fail> {
-    let (name, ids) = given(rt.alloc(), row)?;
-    let table = Held(table_of(rt.alloc(), name)?);
-    begin(rt);
-    let returned = number_recursive(rt.alloc(), table.0.types(), &ids);
-    end(rt);
-    walked(rt.alloc(), returned)
+    numbered(rt, row, number_recursive)
 }
 
 /// The references of the first description.
@@ -141,9 +137,14 @@ fn all_of(alloc: Global, mut refs: Refs) -> Result<Vec<u32>, AllocError> {
 }
 
 /// The references of the first description, as a text.
-fn listed(alloc: Global, refs: Refs) -> Result<String, AllocError> {
+fn text_of(alloc: Global, refs: Refs) -> Result<String, AllocError> {
     let ids = all_of(alloc, refs)?;
     format!(in alloc; "{ids:?}")
+}
+
+/// What shows references.
+fn listed(alloc: Global, refs: Refs) -> Answered {
+    done(text_of(alloc, refs))
 }
 
 /// Lists the references of the entry at index 0.
@@ -152,14 +153,7 @@ pub fn refs_of(rt: &HostRuntime, row: &str) -> Result<Outcome, Fail> {
     let Some(ty) = table.0.resolve(0) else {
         return Err(Fail::new("the table is empty"));
     };
-    begin(rt);
-    let returned = Refs::of(rt.alloc(), ty);
-    end(rt);
-    let answer = match returned {
-        Ok(refs) => done(listed(rt.alloc(), refs)),
-        Err(error) => failed(rt.alloc(), &error),
-    };
-    Outcome::of(answer)
+    Outcome::of_call(rt, || Refs::of(rt.alloc(), ty), listed)
 }
 
 /// Puts the references of the entry at index 0 before one that is left.
@@ -174,6 +168,6 @@ pub fn prepend(rt: &HostRuntime, row: &str) -> Result<Outcome, Fail> {
     let returned = refs.prepend_of(rt.alloc(), ty);
     end(rt);
     let before = String::from_str(rt.alloc(), "[9]");
-    let after = listed(rt.alloc(), refs);
-    Outcome::lending(before, after, shown(rt.alloc(), returned))
+    let after = text_of(rt.alloc(), refs);
+    Outcome::lending(before, after, answered(rt.alloc(), returned, shown))
 }

@@ -1,7 +1,7 @@
 //! Registries, and what they show.
 use scale_info::meta_type::Catalogue;
 use scale_info::registry::RegisterError;
-use scale_info::{Items, MetaType, Registry};
+use scale_info::{MetaType, Registry};
 use std::alloc::{AllocError, Global};
 use std::test::Fail;
 use test_common::held::Held;
@@ -49,12 +49,4 @@ pub fn state(alloc: Global, registry: &Registry, known: &Catalogue) -> Result<St
     let mut text = descriptions(alloc, registry)?;
     text.push_str(if is_anew { "as made anew" } else { "changed" })?;
     Ok(text)
-}
-
-/// The values of a list, where there is one.
-pub fn listed<T, E>(returned: Result<Vec<T>, E>) -> Result<Items<T>, E> {
-    match returned {
-        Ok(all) => Ok(Items::from(all)),
-        Err(error) => Err(error),
-    }
 }

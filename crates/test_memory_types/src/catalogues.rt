@@ -1,14 +1,14 @@
 //! Catalogues, to which descriptions are added.
 use scale_info::meta_type::{Catalogue, CatalogueError, Identified};
-use scale_info::{Type, TypeDefPrimitive, TypeId, TypeInfo};
+use scale_info::{TryClone, Type, TypeDefPrimitive, TypeId, TypeInfo};
 use std::alloc::{AllocError, Global};
 use std::test::Fail;
 use test_common::catalogues::add_own;
 use test_common::held::Held;
 use test_common::shown::Show;
-use test_memory_common::answers::{Answer, done, shown};
+use test_memory_common::answers::{done, shown};
 use test_memory_common::marks::{begin, end};
-use test_memory_common::outcomes::Outcome;
+use test_memory_common::outcomes::{Lent, Outcome};
 use test_memory_common::own::Missing;
 use test_memory_common::types::{Pair, add_all, catalogue, description_named, type_named};
 
@@ -52,61 +52,61 @@ fn found(alloc: Global, known: &Catalogue, identity: &TypeId) -> Result<String, 
     Ok(text)
 }
 
-/// How many descriptions a catalogue has, how many of the fifteen it has, and what it describes
-/// under this identity.
-fn state(alloc: Global, known: &Catalogue, identity: &TypeId) -> Result<String, AllocError> {
-    let (len, kept) = (known.len(), kept(alloc, known)?);
-    let found = found(alloc, known, identity)?;
-    format!(in alloc; "{len} {kept} {found}")
+/// A catalogue, and an identity under which a description may be added to it.
+#[derive(Drop)]
+struct Under {
+    known: Held<Catalogue>,
+    identity: TypeId,
+}
+
+impl Lent for Under {
+    /// How many descriptions the catalogue has, how many of the fifteen it has, and what it
+    /// describes under the identity.
+    fn state(&self, alloc: Global) -> Result<String, AllocError> {
+        let (len, kept) = (self.known.0.len(), kept(alloc, &self.known.0)?);
+        let found = found(alloc, &self.known.0, &self.identity)?;
+        format!(in alloc; "{len} {kept} {found}")
+    }
+}
+
+/// Adds a type to a catalogue.
+fn add_type<T: TypeInfo>(rt: &HostRuntime, known: Catalogue) -> Result<Outcome, Fail> {
+    let known = Held(known);
+    let identity = T::Identity::type_id(rt.alloc())?;
+    Outcome::of_change(
+        rt,
+        Under { known, identity },
+        |to| to.known.0.add::<T>(),
+        shown,
+    )
 }
 
 /// Adds a type to the fifteen and the types of these names.
 pub fn add<T: TypeInfo>(rt: &HostRuntime, before: &str) -> Result<Outcome, Fail> {
     let mut known = Held(fifteen(rt.alloc())?);
     add_all(rt.alloc(), &mut known.0, before)?;
-    let identity = T::Identity::type_id(rt.alloc())?;
-    let before = state(rt.alloc(), &known.0, &identity);
-    begin(rt);
-    let returned = known.0.add::<T>();
-    end(rt);
-    let after = state(rt.alloc(), &known.0, &identity);
-    Outcome::lending(before, after, shown(rt.alloc(), returned))
+    add_type::<T>(rt, known.into_inner())
 }
 
 /// Adds the pair of `u32` and `bool`, whose identity has the description of `u32`.
 pub fn add_described_otherwise(rt: &HostRuntime) -> Result<Outcome, Fail> {
     let mut known = Held(fifteen(rt.alloc())?);
-    let identity = Pair::type_id(rt.alloc())?;
     add_own(
         &mut known.0,
         Pair::type_id(rt.alloc())?,
         Ok(plain(rt.alloc())),
     )?;
-    let before = state(rt.alloc(), &known.0, &identity);
-    begin(rt);
-    let returned = known.0.add::<Pair>();
-    end(rt);
-    let after = state(rt.alloc(), &known.0, &identity);
-    Outcome::lending(before, after, shown(rt.alloc(), returned))
+    add_type::<Pair>(rt, known.into_inner())
 }
 
-/// Adds the description of this name under an identity, and says what is returned.
-fn added(rt: &HostRuntime, known: &mut Catalogue, name: &str) -> Result<Answer, Fail> {
-    let identity = Missing::type_id(rt.alloc())?;
+/// Adds the description of this name under an identity.
+fn add_to(rt: &HostRuntime, known: Catalogue, name: &str) -> Result<Outcome, Fail> {
+    let known = Held(known);
     let description = Held(description_named(rt.alloc(), name)?);
-    begin(rt);
-    let returned = known.add_described(identity, description.into_inner());
-    end(rt);
-    Ok(shown(rt.alloc(), returned)?)
-}
-
-/// Adds the description of this name under an identity, and says what is lent and returned.
-fn add_to(rt: &HostRuntime, mut known: Catalogue, name: &str) -> Result<Outcome, Fail> {
     let identity = Missing::type_id(rt.alloc())?;
-    let before = state(rt.alloc(), &known, &identity);
-    let answer = added(rt, &mut known, name)?;
-    let after = state(rt.alloc(), &known, &identity);
-    Outcome::lending(before, after, Ok(answer))
+    let added = identity.try_clone(rt.alloc())?;
+    let add = |to: &mut Under| to.known.0.add_described(added, description.into_inner());
+    Outcome::of_change(rt, Under { known, identity }, add, shown)
 }
 
 /// Adds the description of this name under a new identity.
@@ -121,13 +121,23 @@ pub fn add_first_described(rt: &HostRuntime, name: &str) -> Result<Outcome, Fail
 }
 
 /// Adds the description of this name under an identity that has the other one.
-pub fn add_described_after(rt: &HostRuntime, other: &str, name: &str) -> Result<Outcome, Fail> {
+fn add_after(rt: &HostRuntime, other: &str, name: &str) -> Result<Outcome, Fail> {
     let mut known = Held(fifteen(rt.alloc())?);
     let identity = Missing::type_id(rt.alloc())?;
     known
         .0
         .add_described(identity, description_named(rt.alloc(), other)?)?;
     add_to(rt, known.into_inner(), name)
+}
+
+/// Adds the description of this name under an identity that has it.
+pub fn add_described_again(rt: &HostRuntime, name: &str) -> Result<Outcome, Fail> {
+    add_after(rt, name, name)
+}
+
+/// Adds the description of this name under an identity that has the one of `u32`.
+pub fn add_another_described(rt: &HostRuntime, name: &str) -> Result<Outcome, Fail> {
+    add_after(rt, "u32", name)
 }
 
 /// Looks the type of this name up in the catalogue of all types.

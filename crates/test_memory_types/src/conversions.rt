@@ -1,5 +1,5 @@
 //! Values that hold the type of a row, with ids in the place of types.
-use crate::registrations::{Given, read, state};
+use crate::registrations::{Given, read};
 use scale_info::meta_type::HasIdentity;
 use scale_info::{
     Field, IntoPortable, MetaType, Scale, TypeDef, TypeDefArray, TypeDefBitSequence,
@@ -11,8 +11,8 @@ use std::test::Fail;
 use test_common::lists::{list_of, with};
 use test_common::rows::parted;
 use test_memory_common::answers::encoded;
-use test_memory_common::by_name::{Known, for_known_type, found};
-use test_memory_common::marks::{begin, end};
+use test_memory_common::by_name::{Known, for_known_type};
+use test_memory_common::names::found;
 use test_memory_common::outcomes::Outcome;
 use test_memory_common::types::{description_named, type_named};
 
@@ -25,17 +25,9 @@ fn convert<T: IntoPortable + Drop>(
 where
     T::Output: Scale,
 {
-    let Given {
-        mut registry,
-        known,
-    } = given;
-    let value = value?;
-    let before = state(rt.alloc(), &registry.0);
-    begin(rt);
-    let returned = value.into_portable(rt.alloc(), &mut registry.0, &known.0);
-    end(rt);
-    let after = state(rt.alloc(), &registry.0);
-    Outcome::lending(before, after, encoded(rt.alloc(), returned))
+    let (value, alloc) = (value?, rt.alloc());
+    let convert = |to: &mut Given| value.into_portable(alloc, &mut to.registry.0, &to.known.0);
+    Outcome::of_change(rt, given, convert, encoded)
 }
 
 /// The field `a` of a type.
@@ -64,17 +56,19 @@ fn tuple(alloc: Global, first: MetaType, ty: MetaType) -> Result<TypeDefTuple, A
     TypeDefTuple::new(alloc, with(list_of(alloc, first), Ok(ty))?)
 }
 
-/// Makes a sequence of bits in `u8`, in the order of a type with a name.
+/// Converts a sequence of bits in `u8`, in the order of a type with a name.
 #[derive(Drop)]
-struct BitsInOrder {
-    alloc: Global,
+struct ConvertBits<'a> {
+    rt: &'a HostRuntime,
+    given: Given,
 }
 
-impl Known for BitsInOrder {
-    type Returned = Result<TypeDefBitSequence, Fail>;
+impl Known for ConvertBits<'_> {
+    type Returned = Result<Outcome, Fail>;
 
-    fn of<T: HasIdentity>(self) -> Result<TypeDefBitSequence, Fail> {
-        Ok(TypeDefBitSequence::new::<u8, T>(self.alloc)?)
+    fn of<T: HasIdentity>(self) -> Result<Outcome, Fail> {
+        let bits = TypeDefBitSequence::new::<u8, T>(self.rt.alloc());
+        convert(self.rt, self.given, bits)
     }
 }
 
@@ -117,10 +111,7 @@ pub fn value(rt: &HostRuntime, row: &str) -> Result<Outcome, Fail> {
             let described = description_named(rt.alloc(), name)?;
             convert(rt, given, Ok(described))
         }
-        "a bit sequence" => {
-            let bits = BitsInOrder { alloc: rt.alloc() };
-            convert(rt, given, Ok(found(for_known_type(bits, name))?))
-        }
+        "a bit sequence" => found(for_known_type(ConvertBits { rt, given }, name))?,
         _ => {
             let ty = type_named(rt.alloc(), name)?;
             part(rt, given, kind, ty)

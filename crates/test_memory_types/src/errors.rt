@@ -9,15 +9,11 @@ use std::alloc::Global;
 use std::fmt::Display;
 use std::test::Fail;
 use test_memory_common::answers::printed;
-use test_memory_common::marks::{begin, end};
 use test_memory_common::outcomes::Outcome;
 
 /// Writes a value.
 fn text_of<T: Display + Drop>(rt: &HostRuntime, value: T) -> Result<Outcome, Fail> {
-    begin(rt);
-    let text = format!(in rt.alloc(); "{value}");
-    end(rt);
-    Outcome::of(printed(rt.alloc(), text))
+    Outcome::of_call(rt, || format!(in rt.alloc(); "{value}"), printed)
 }
 
 /// The error that names an identity.

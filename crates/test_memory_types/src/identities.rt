@@ -2,64 +2,16 @@
 //! name.
 use crate::catalogues;
 use scale_info::impls::meta_type;
-use scale_info::meta_type::{HasIdentity, Identified};
 use scale_info::{MetaType, TypeDefSequence, TypeInfo};
 use std::test::Fail;
 use test_common::shown;
 use test_memory_common::answers::{printed, registered, shown};
-use test_memory_common::by_name::{Described, for_type, found};
-use test_memory_common::marks::{begin, end};
+use test_memory_common::by_name::{Described, for_type};
+use test_memory_common::names::found;
 use test_memory_common::outcomes::Outcome;
 
-/// Makes the identity of a type.
-fn identity<T: Identified>(rt: &HostRuntime) -> Result<Outcome, Fail> {
-    begin(rt);
-    let returned = T::type_id(rt.alloc());
-    end(rt);
-    Outcome::of(shown(rt.alloc(), returned))
-}
-
-/// Makes the description of a type, which refers to types of the catalogue.
-fn description<T: TypeInfo>(rt: &HostRuntime) -> Result<Outcome, Fail> {
-    begin(rt);
-    let returned = T::type_info(rt.alloc());
-    end(rt);
-    Outcome::of(registered(rt.alloc(), returned))
-}
-
-/// Makes the identities and the description of a type, as a text.
-fn text<T: TypeInfo>(rt: &HostRuntime) -> Result<Outcome, Fail> {
-    begin(rt);
-    let returned = shown::shown::<T>(rt.alloc());
-    end(rt);
-    Outcome::of(printed(rt.alloc(), returned))
-}
-
-/// Makes a type by its identity.
-fn by_identity<T: HasIdentity>(rt: &HostRuntime) -> Result<Outcome, Fail> {
-    begin(rt);
-    let returned = MetaType::new::<T>(rt.alloc());
-    end(rt);
-    Outcome::of(registered(rt.alloc(), returned))
-}
-
-/// Makes a type by the function of that name.
-fn by_function<T: HasIdentity>(rt: &HostRuntime) -> Result<Outcome, Fail> {
-    begin(rt);
-    let returned = meta_type::<T>(rt.alloc());
-    end(rt);
-    Outcome::of(registered(rt.alloc(), returned))
-}
-
-/// Makes the definition of a sequence.
-fn sequence<T: HasIdentity>(rt: &HostRuntime) -> Result<Outcome, Fail> {
-    begin(rt);
-    let returned = TypeDefSequence::of::<T>(rt.alloc());
-    end(rt);
-    Outcome::of(registered(rt.alloc(), returned))
-}
-
-/// A call that is made for a type.
+/// A call that is made for a type: of its identity, its description, the texts of both, the type
+/// by its identity or by the function of that name, a sequence of it, or of a catalogue.
 #[derive(Drop)]
 struct CallOfType<'a> {
     rt: &'a HostRuntime,
@@ -71,14 +23,19 @@ impl Described for CallOfType<'_> {
     type Returned = Result<Outcome, Fail>;
 
     fn of<T: TypeInfo>(self) -> Result<Outcome, Fail> {
-        match self.name {
-            "type_id" => identity::<T>(self.rt),
-            "type_info" => description::<T>(self.rt),
-            "describe" => text::<T>(self.rt),
-            "MetaType::new" => by_identity::<T>(self.rt),
-            "meta_type" => by_function::<T>(self.rt),
-            "TypeDefSequence::of" => sequence::<T>(self.rt),
-            _ => catalogues::add::<T>(self.rt, self.before),
+        let CallOfType { rt, name, before } = self;
+        let alloc = rt.alloc();
+        match name {
+            "type_id" => Outcome::of_call(rt, || T::type_id(alloc), shown),
+            "type_info" => Outcome::of_call(rt, || T::type_info(alloc), registered),
+            "describe" => Outcome::of_call(rt, || shown::shown::<T>(alloc), printed),
+            "MetaType::new" => Outcome::of_call(rt, || MetaType::new::<T>(alloc), registered),
+            "meta_type" => Outcome::of_call(rt, || meta_type::<T>(alloc), registered),
+            "TypeDefSequence::of" => {
+                Outcome::of_call(rt, || TypeDefSequence::of::<T>(alloc), registered)
+            }
+            "Catalogue::add" => catalogues::add::<T>(rt, before),
+            _ => Err(Fail::new("no call has this name")),
         }
     }
 }
@@ -87,5 +44,5 @@ impl Described for CallOfType<'_> {
 /// catalogue.
 pub fn call(rt: &HostRuntime, name: &str, input: &str) -> Result<Outcome, Fail> {
     let (before, last) = input.rsplit_once(" | ").unwrap_or(("", input));
-    found(for_type(CallOfType { rt, name, before }, last))
+    found(for_type(CallOfType { rt, name, before }, last))?
 }

@@ -5,14 +5,12 @@
 //! no such part.
 use crate::nested;
 use scale_info::meta_type::{Catalogue, CatalogueError};
-use scale_info::registry::RegisterError;
 use scale_info::{MetaType, PortableRegistry, Registry, TypeId, UntrackedSymbol};
 use std::alloc::{AllocError, Global};
 use std::test::Fail;
 use test_common::held::Held;
-use test_memory_common::answers::{Answer, digits, failed, printed};
-use test_memory_common::marks::{begin, end};
-use test_memory_common::outcomes::Outcome;
+use test_memory_common::answers::{Answered, digits, done};
+use test_memory_common::outcomes::{Lent, Outcome};
 use test_memory_common::types::{catalogue, catalogue_of, type_named, types_named};
 
 /// A registry, to which types are added by a catalogue.
@@ -59,12 +57,14 @@ pub fn read<'a>(alloc: Global, row: &'a str) -> Result<(Given, &'a str), Fail> {
     Ok((Given { registry, known }, names))
 }
 
-/// The table of a registry, and whether each reference leads to a type.
-pub fn state(alloc: Global, registry: &Registry) -> Result<String, AllocError> {
-    let table = PortableRegistry::from_registry(alloc, registry)?;
-    let digits = digits(alloc, &table)?;
-    let mark = if table.is_closed() { "closed" } else { "open" };
-    format!(in alloc; "{digits} {mark}")
+impl Lent for Given {
+    /// The table of the registry, and whether each reference leads to a type.
+    fn state(&self, alloc: Global) -> Result<String, AllocError> {
+        let table = PortableRegistry::from_registry(alloc, &self.registry.0)?;
+        let digits = digits(alloc, &table)?;
+        let mark = if table.is_closed() { "closed" } else { "open" };
+        format!(in alloc; "{digits} {mark}")
+    }
 }
 
 /// The ids of types.
@@ -77,80 +77,57 @@ fn ids(alloc: Global, symbols: &[UntrackedSymbol<TypeId>]) -> Result<String, All
     Ok(text)
 }
 
-/// The answer of the ids of types.
-fn listed(
-    alloc: Global,
-    returned: Result<Vec<UntrackedSymbol<TypeId>>, RegisterError>,
-) -> Result<Answer, AllocError> {
-    match returned {
-        Ok(symbols) => printed(alloc, ids(alloc, &symbols)),
-        Err(error) => failed(alloc, &error),
-    }
+/// What shows the ids of types.
+fn listed(alloc: Global, symbols: Vec<UntrackedSymbol<TypeId>>) -> Answered {
+    done(ids(alloc, &symbols))
+}
+
+/// What shows the id of a type.
+fn identified(alloc: Global, symbol: UntrackedSymbol<TypeId>) -> Answered {
+    done(ids(alloc, &[symbol]))
 }
 
 /// Registers types, which are handed over.
-fn register_types(rt: &HostRuntime, given: Given, types: Vec<MetaType>) -> Result<Outcome, Fail> {
-    let Given {
-        mut registry,
-        known,
-    } = given;
-    let before = state(rt.alloc(), &registry.0);
-    begin(rt);
-    let returned = registry.0.register_types(types, &known.0);
-    end(rt);
-    let after = state(rt.alloc(), &registry.0);
-    Outcome::lending(before, after, listed(rt.alloc(), returned))
+fn hand_over(rt: &HostRuntime, given: Given, types: Vec<MetaType>) -> Result<Outcome, Fail> {
+    Outcome::of_change(
+        rt,
+        given,
+        |to| to.registry.0.register_types(types, &to.known.0),
+        listed,
+    )
 }
 
-/// Registers types, which stay where they are.
-fn register_all(rt: &HostRuntime, given: Given, types: &[MetaType]) -> Result<Outcome, Fail> {
-    let Given {
-        mut registry,
-        known,
-    } = given;
-    let before = state(rt.alloc(), &registry.0);
-    begin(rt);
-    let returned = registry.0.register_all(types, &known.0);
-    end(rt);
-    let after = state(rt.alloc(), &registry.0);
-    Outcome::lending(before, after, listed(rt.alloc(), returned))
-}
-
-/// Registers a type.
-fn register_type(rt: &HostRuntime, given: Given, ty: &MetaType) -> Result<Outcome, Fail> {
-    let Given {
-        mut registry,
-        known,
-    } = given;
-    let before = state(rt.alloc(), &registry.0);
-    begin(rt);
-    let returned = registry.0.register_type(ty, &known.0);
-    end(rt);
-    let after = state(rt.alloc(), &registry.0);
-    let answer = match returned {
-        Ok(symbol) => printed(rt.alloc(), ids(rt.alloc(), &[symbol])),
-        Err(error) => failed(rt.alloc(), &error),
-    };
-    Outcome::lending(before, after, answer)
-}
-
-/// Registers the types of a row by the call of this name.
-pub fn register(rt: &HostRuntime, call: &str, row: &str) -> Result<Outcome, Fail> {
+/// Registers the types of a row, which are handed over.
+pub fn register_types(rt: &HostRuntime, row: &str) -> Result<Outcome, Fail> {
     let (given, names) = read(rt.alloc(), row)?;
-    match call {
-        "Registry::register_types" => register_types(rt, given, types_named(rt.alloc(), names)?),
-        "Registry::register_all" => {
-            register_all(rt, given, &Held(types_named(rt.alloc(), names)?).0)
-        }
-        _ => register_type(rt, given, &Held(type_named(rt.alloc(), names)?).0),
-    }
+    hand_over(rt, given, types_named(rt.alloc(), names)?)
+}
+
+/// Registers the types of a row, which stay where they are.
+pub fn register_all(rt: &HostRuntime, row: &str) -> Result<Outcome, Fail> {
+    let (given, names) = read(rt.alloc(), row)?;
+    let types = Held(types_named(rt.alloc(), names)?);
+    Outcome::of_change(
+        rt,
+        given,
+        |to| to.registry.0.register_all(&types.0, &to.known.0),
+        listed,
+    )
+}
+
+/// Registers the type of a row.
+pub fn register_type(rt: &HostRuntime, row: &str) -> Result<Outcome, Fail> {
+    let (given, name) = read(rt.alloc(), row)?;
+    let ty = Held(type_named(rt.alloc(), name)?);
+    let register = |to: &mut Given| to.registry.0.register_type(&ty.0, &to.known.0);
+    Outcome::of_change(rt, given, register, identified)
 }
 
 /// Registers 24 lists, each of which refers to the next type.
 pub fn register_nested(rt: &HostRuntime) -> Result<Outcome, Fail> {
     let registry = Held(Registry::new(rt.alloc()));
     let known = Held(nested::catalogue(rt.alloc())?);
-    register_types(
+    hand_over(
         rt,
         Given { registry, known },
         nested::outermost(rt.alloc())?,

@@ -1,6 +1,6 @@
 //! Values that borrow what they hold.
 use crate::digest::Digest;
-use crate::readings::{Input, Reading};
+use crate::readings::{Input, Reading, put_variant};
 use anyhow::Result;
 use scale_info::lent::{Integers, Lent, decode_lent};
 use std::alloc::Global;
@@ -22,8 +22,7 @@ fn put_value(value: &Lent<'_, '_>, digest: &mut Digest) {
             index,
             fields,
         } => {
-            digest.put_bytes(name.as_bytes());
-            digest.put(*index as u64);
+            put_variant(name, *index, digest);
             put_fields(fields.as_slice(), digest);
         }
     }

@@ -22,90 +22,90 @@ pub trait Reading {
     fn put(alloc: Global, input: Input<'_>, digest: &mut Digest) -> Result<()>;
 }
 
-/// Reads a value.
-fn put<R: Reading>(
+/// Reads values by a table, and sums them up.
+#[derive(Drop)]
+struct Reader<'a> {
     alloc: Global,
-    table: &PortableRegistry,
-    id: u32,
-    bytes: &[u8],
-    digest: &mut Digest,
-) -> Result<()> {
-    R::put(alloc, Input { table, id, bytes }, digest)
+    table: &'a PortableRegistry,
+    digest: Digest,
+}
+
+impl Reader<'_> {
+    /// Reads the value of the type with this id, and takes its bytes away.
+    fn read<R: Reading>(&mut self, id: u32, input: &mut Vec<u8>) -> Result<()> {
+        let (table, bytes) = (self.table, input.as_slice());
+        R::put(self.alloc, Input { table, id, bytes }, &mut self.digest)?;
+        input.clear();
+        Ok(())
+    }
+}
+
+/// What reads values by this table.
+fn reader_by(alloc: Global, table: &PortableRegistry) -> Reader<'_> {
+    let digest = Digest::new();
+    Reader {
+        alloc,
+        table,
+        digest,
+    }
 }
 
 /// Reads the values of `records`, in order.
 pub fn read_records<R: Reading>(alloc: Global, seed: u32, rounds: u32) -> Result<Digest> {
     let mut random = Random::new(seed, 1);
-    let mut digest = Digest::new();
     let events = event_table(alloc, &mut random)?;
     let (table, _) = PortableRegistry::decode(alloc, &events.table)?;
+    let mut reader = reader_by(alloc, &table);
     for _ in 0..rounds {
         let mut input = Vec::new(alloc);
         let count = 100 + random.below(64);
         events.push_block(&mut input, &mut random, count)?;
-        put::<R>(alloc, &table, events.block, &input, &mut digest)?;
-        input.clear();
+        reader.read::<R>(events.block, &mut input)?;
         events.push_accounts(&mut input, &mut random, count)?;
-        put::<R>(alloc, &table, events.accounts, &input, &mut digest)?;
+        reader.read::<R>(events.accounts, &mut input)?;
     }
-    Ok(digest)
+    Ok(reader.digest)
 }
 
 /// Reads the values of `payloads`, in order.
 pub fn read_payloads<R: Reading>(alloc: Global, seed: u32, rounds: u32) -> Result<Digest> {
     let mut random = Random::new(seed, 2);
-    let mut digest = Digest::new();
-    let (table, ids) = payloads::payload_table(alloc)?;
-    let (table, _) = PortableRegistry::decode(alloc, &table)?;
+    let (bytes, ids) = payloads::payload_table(alloc)?;
+    let (table, _) = PortableRegistry::decode(alloc, &bytes)?;
+    let mut reader = reader_by(alloc, &table);
     let mut input = Vec::new(alloc);
     for round in 0..rounds {
         if round % 8 == 7 {
             payloads::push_many(&mut input, &mut random, 1048576)?;
-            put::<R>(alloc, &table, ids.bytes, &input, &mut digest)?;
+            reader.read::<R>(ids.bytes, &mut input)?;
         }
-        read_large::<R>(alloc, &table, ids, &mut random, &mut digest)?;
-        read_small::<R>(alloc, &table, ids, &mut random, &mut digest)?;
-        input.clear();
+        read_round::<R>(&mut reader, ids, &mut random)?;
     }
-    Ok(digest)
+    Ok(reader.digest)
 }
 
-/// Reads calls, and many numbers.
-fn read_large<R: Reading>(
-    alloc: Global,
-    table: &PortableRegistry,
-    ids: Ids,
-    random: &mut Random,
-    digest: &mut Digest,
-) -> Result<()> {
-    let mut input = Vec::new(alloc);
+/// Reads a value of each kind: calls, many numbers, and many small values of the wide enum, of the
+/// deep struct, and maps.
+fn read_round<R: Reading>(reader: &mut Reader, ids: Ids, random: &mut Random) -> Result<()> {
+    let mut input = Vec::new(reader.alloc);
     payloads::push_calls(&mut input, random)?;
-    put::<R>(alloc, table, ids.calls, &input, digest)?;
-    input.clear();
+    reader.read::<R>(ids.calls, &mut input)?;
     for _ in 0..32768 {
         push_word(&mut input, random.word())?;
     }
-    put::<R>(alloc, table, ids.numbers, &input, digest)?;
-    input.clear();
+    reader.read::<R>(ids.numbers, &mut input)?;
     payloads::push_compacts(&mut input, random, 4096)?;
-    put::<R>(alloc, table, ids.compacts, &input, digest)
+    reader.read::<R>(ids.compacts, &mut input)?;
+    payloads::push_wide(&mut input, random, 4096)?;
+    reader.read::<R>(ids.wide, &mut input)?;
+    payloads::push_deep(&mut input, random, 64)?;
+    reader.read::<R>(ids.deep, &mut input)?;
+    payloads::push_maps(&mut input, random, 64)?;
+    reader.read::<R>(ids.maps, &mut input)
 }
 
-/// Reads many small values: of the wide enum, of the deep struct, and maps.
-fn read_small<R: Reading>(
-    alloc: Global,
-    table: &PortableRegistry,
-    ids: Ids,
-    random: &mut Random,
-    digest: &mut Digest,
-) -> Result<()> {
-    let mut input = Vec::new(alloc);
-    payloads::push_wide(&mut input, random, 4096)?;
-    put::<R>(alloc, table, ids.wide, &input, digest)?;
-    input.clear();
-    payloads::push_deep(&mut input, random, 64)?;
-    put::<R>(alloc, table, ids.deep, &input, digest)?;
-    input.clear();
-    payloads::push_maps(&mut input, random, 64)?;
-    put::<R>(alloc, table, ids.maps, &input, digest)
+/// Puts in the name and the index of a variant, as those of one that is made are put in.
+pub fn put_variant(name: &str, index: u8, digest: &mut Digest) {
+    digest.put_bytes(name.as_bytes());
+    digest.put(index as u64);
 }

@@ -1,6 +1,6 @@
 //! Values that are shown, or lent, and not made.
 use crate::digest::Digest;
-use crate::readings::{Input, Reading};
+use crate::readings::{Input, Reading, put_variant};
 use anyhow::{Result, bail};
 use scale_info::form::PortableForm;
 use scale_info::visit::{ValueVisitor, visit_value};
@@ -69,8 +69,7 @@ impl ValueVisitor for DigestVisitor<'_> {
         _choice: &[Variant<PortableForm>],
         variant: &Variant<PortableForm>,
     ) -> Result<(), Infallible> {
-        self.digest.put_bytes(variant.name.as_bytes());
-        self.digest.put(variant.index as u64);
+        put_variant(variant.name.as_str(), variant.index, self.digest);
         self.digest.put(variant.fields.len() as u64);
         Ok(())
     }
