@@ -298,24 +298,19 @@ impl Events {
         }
         Ok(())
     }
+}
 
-    /// Appends so many accounts: each a key, four small numbers and four large ones.
-    pub fn push_accounts(
-        &self,
-        out: &mut Vec<u8>,
-        random: &mut Random,
-        count: u32,
-    ) -> Result<(), AllocError> {
-        push_compact(out, count)?;
-        for _ in 0..count {
-            push_key(out, random)?;
-            for _ in 0..4 {
-                out.extend_from_slice(&random.below(200).to_le_bytes())?;
-            }
-            for _ in 0..4 {
-                push_part(out, random, Part::Wide)?;
-            }
+/// Appends so many accounts: each a key, four small numbers and four large ones.
+pub fn push_accounts(out: &mut Vec<u8>, random: &mut Random, count: u32) -> Result<(), AllocError> {
+    push_compact(out, count)?;
+    for _ in 0..count {
+        push_key(out, random)?;
+        for _ in 0..4 {
+            out.extend_from_slice(&random.below(200).to_le_bytes())?;
         }
-        Ok(())
+        for _ in 0..4 {
+            push_part(out, random, Part::Wide)?;
+        }
     }
+    Ok(())
 }

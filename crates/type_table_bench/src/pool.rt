@@ -5,6 +5,7 @@ use anyhow::Result;
 use scale_info::meta_type::{Catalogue, HasIdentity};
 use scale_info::{MetaType, TryClone, Type, TypeInfo};
 use std::alloc::Global;
+use std::marker::PhantomData;
 use std::ops::Range;
 
 /// Four options around a type.
@@ -33,9 +34,9 @@ pub fn make_pool(alloc: Global, random: Random) -> Result<Pool> {
     pool.add::<u64>(alloc)?;
     add_standard::<u8>(alloc, &mut pool)?;
     add_standard::<u64>(alloc, &mut pool)?;
-    add_four_levels::<u8>(alloc, &mut pool)?;
+    FourLevels::add::<u8>(alloc, &mut pool)?;
     if pool.random.is_one_in(2) {
-        add_four_levels::<u64>(alloc, &mut pool)?;
+        FourLevels::add::<u64>(alloc, &mut pool)?;
     }
     Ok(pool)
 }
@@ -96,29 +97,35 @@ fn add_level<T: HasIdentity>(alloc: Global, pool: &mut Pool) -> Result<()> {
     pool.add_own::<Layer<T>>(alloc, layer)
 }
 
-/// Adds the program's own types of a type, and such types of them.
-fn add_two_levels<T: HasIdentity>(alloc: Global, pool: &mut Pool) -> Result<()> {
-    add_level::<T>(alloc, pool)?;
-    add_level::<Account<T>>(alloc, pool)?;
-    add_level::<Call<T>>(alloc, pool)?;
-    add_level::<Event<T>>(alloc, pool)?;
-    add_level::<Layer<T>>(alloc, pool)
+/// So many levels of the program's own types.
+trait Levels {
+    /// Adds them for a type.
+    fn add<T: HasIdentity>(alloc: Global, pool: &mut Pool) -> Result<()>;
 }
 
-/// Adds three levels of the program's own types.
-fn add_three_levels<T: HasIdentity>(alloc: Global, pool: &mut Pool) -> Result<()> {
-    add_level::<T>(alloc, pool)?;
-    add_two_levels::<Account<T>>(alloc, pool)?;
-    add_two_levels::<Call<T>>(alloc, pool)?;
-    add_two_levels::<Event<T>>(alloc, pool)?;
-    add_two_levels::<Layer<T>>(alloc, pool)
+/// One level.
+struct One;
+
+impl Levels for One {
+    fn add<T: HasIdentity>(alloc: Global, pool: &mut Pool) -> Result<()> {
+        add_level::<T>(alloc, pool)
+    }
 }
 
-/// Adds four levels of the program's own types.
-fn add_four_levels<T: HasIdentity>(alloc: Global, pool: &mut Pool) -> Result<()> {
-    add_level::<T>(alloc, pool)?;
-    add_three_levels::<Account<T>>(alloc, pool)?;
-    add_three_levels::<Call<T>>(alloc, pool)?;
-    add_three_levels::<Event<T>>(alloc, pool)?;
-    add_three_levels::<Layer<T>>(alloc, pool)
+/// One level, and such levels of each type in it.
+struct OneAnd<L> {
+    marker: PhantomData<L>,
 }
+
+impl<L: Levels> Levels for OneAnd<L> {
+    fn add<T: HasIdentity>(alloc: Global, pool: &mut Pool) -> Result<()> {
+        add_level::<T>(alloc, pool)?;
+        L::add::<Account<T>>(alloc, pool)?;
+        L::add::<Call<T>>(alloc, pool)?;
+        L::add::<Event<T>>(alloc, pool)?;
+        L::add::<Layer<T>>(alloc, pool)
+    }
+}
+
+/// Four levels of the program's own types.
+type FourLevels = OneAnd<OneAnd<OneAnd<One>>>;

@@ -1,6 +1,6 @@
 //! The inputs of `records` and of `payloads`, read in other ways.
 use crate::digest::Digest;
-use crate::events::event_table;
+use crate::events::{event_table, push_accounts};
 use crate::payloads::{self, Ids};
 use crate::random::Random;
 use crate::scale::push_word;
@@ -61,7 +61,7 @@ pub fn read_records<R: Reading>(alloc: Global, seed: u32, rounds: u32) -> Result
         let count = 100 + random.below(64);
         events.push_block(&mut input, &mut random, count)?;
         reader.read::<R>(events.block, &mut input)?;
-        events.push_accounts(&mut input, &mut random, count)?;
+        push_accounts(&mut input, &mut random, count)?;
         reader.read::<R>(events.accounts, &mut input)?;
     }
     Ok(reader.digest)

@@ -1,6 +1,6 @@
 //! Values that are records: the events and the accounts of blocks.
 use crate::digest::Digest;
-use crate::events::event_table;
+use crate::events::{event_table, push_accounts};
 use crate::random::Random;
 use anyhow::Result;
 use scale_info::PortableRegistry;
@@ -19,7 +19,7 @@ pub fn run(alloc: Global, seed: u32, rounds: u32) -> Result<Digest> {
         events.push_block(&mut input, &mut random, count)?;
         put_decoded(alloc, &table, events.block, &input, &mut digest)?;
         input.clear();
-        events.push_accounts(&mut input, &mut random, count)?;
+        push_accounts(&mut input, &mut random, count)?;
         put_decoded(alloc, &table, events.accounts, &input, &mut digest)?;
     }
     Ok(digest)

@@ -78,11 +78,18 @@ impl TableBytes {
         self.end()
     }
 
+    /// A definition of this kind that is ids alone.
+    fn of_ids(&mut self, kind: u8, ids: &[u32]) -> Result<u32, AllocError> {
+        self.begin(&[], kind)?;
+        for id in ids {
+            push_compact(&mut self.entries, *id)?;
+        }
+        self.end()
+    }
+
     /// A sequence of the type with this id.
     pub fn sequence(&mut self, item: u32) -> Result<u32, AllocError> {
-        self.begin(&[], 2)?;
-        push_compact(&mut self.entries, item)?;
-        self.end()
+        self.of_ids(2, &[item])
     }
 
     /// An array of so many of the type with this id.
@@ -105,17 +112,12 @@ impl TableBytes {
 
     /// A compact integer of the type with this id.
     pub fn compact(&mut self, number: u32) -> Result<u32, AllocError> {
-        self.begin(&[], 6)?;
-        push_compact(&mut self.entries, number)?;
-        self.end()
+        self.of_ids(6, &[number])
     }
 
     /// A map from the one type to the other.
     pub fn map(&mut self, key: u32, value: u32) -> Result<u32, AllocError> {
-        self.begin(&[], 8)?;
-        push_compact(&mut self.entries, key)?;
-        push_compact(&mut self.entries, value)?;
-        self.end()
+        self.of_ids(8, &[key, value])
     }
 
     /// A struct with these fields, each a name and an id. A field without a name has the empty one.
