@@ -1,6 +1,9 @@
 //! The program's generic types, and what they are described as.
-ghost use Rattle.std.specs.Prelude.{◌≡◌};
-ghost use Rattle.type_table_bench.specs.Described.{head_of, own_term};
+ghost use Rattle.std.specs.Prelude.{◌≡◌, IfOk};
+ghost use Rattle.scale_info_identities.specs.TypeIds.{term_of};
+ghost use Rattle.scale_info_type_ids.specs.StandardTerms.{applied as applied_term};
+ghost use Rattle.type_table_bench.specs.Described.{account_term, call_term};
+ghost use Rattle.type_table_bench.specs.Described.{event_term, layer_term};
 
 use crate::random::Random;
 use scale_info::meta_type::{HasIdentity, Identified};
@@ -39,43 +42,80 @@ const NAMES: [&str; 24] = [
     "Rebond",
 ];
 
-/// A generic type of the program, which differs from the others by its number.
-pub struct Own<const N: usize, T> {
+/// A struct of the program.
+pub struct Account<T> {
+    marker: PhantomData<T>,
+}
+
+/// An enum of the program.
+pub struct Call<T> {
+    marker: PhantomData<T>,
+}
+
+/// An enum of the program.
+pub struct Event<T> {
     marker: PhantomData<T>,
 }
 
 /// A struct of the program.
-pub type Account<T> = Own<0, T>;
-/// An enum of the program.
-pub type Call<T> = Own<1, T>;
-/// An enum of the program.
-pub type Event<T> = Own<2, T>;
-/// A struct of the program.
-pub type Layer<T> = Own<3, T>;
+pub struct Layer<T> {
+    marker: PhantomData<T>,
+}
 
-impl<const N: usize, T: Identified> Identified for Own<N, T> {
-    ghost own = { own_term N T.own };
+impl<T: Identified> Identified for Account<T> {
+    ghost own = { account_term T.own };
 
     fn type_id(alloc: Global) -> Result<TypeId, AllocError> {
-        let args = vec![in alloc; T::type_id(alloc)?]?;
-        Ok(TypeId::new(head(N), Vec::new(alloc), args))
+        applied::<T>(alloc, "example_runtime::pallets::accounts::Account")
     }
 }
 
-impl<const N: usize, T: Identified> HasIdentity for Own<N, T> {
-    type Identity = Own<N, T>;
+impl<T: Identified> HasIdentity for Account<T> {
+    type Identity = Account<T>;
 }
 
-/// The name of the generic type with this number.
-fn head(number: usize) -> &'static str
-    ensures { result.now ≡ head_of number }
+impl<T: Identified> Identified for Call<T> {
+    ghost own = { call_term T.own };
+
+    fn type_id(alloc: Global) -> Result<TypeId, AllocError> {
+        applied::<T>(alloc, "example_runtime::pallets::accounts::Call")
+    }
+}
+
+impl<T: Identified> HasIdentity for Call<T> {
+    type Identity = Call<T>;
+}
+
+impl<T: Identified> Identified for Event<T> {
+    ghost own = { event_term T.own };
+
+    fn type_id(alloc: Global) -> Result<TypeId, AllocError> {
+        applied::<T>(alloc, "example_runtime::pallets::accounts::Event")
+    }
+}
+
+impl<T: Identified> HasIdentity for Event<T> {
+    type Identity = Event<T>;
+}
+
+impl<T: Identified> Identified for Layer<T> {
+    ghost own = { layer_term T.own };
+
+    fn type_id(alloc: Global) -> Result<TypeId, AllocError> {
+        applied::<T>(alloc, "example_runtime::pallets::accounts::Layer")
+    }
+}
+
+impl<T: Identified> HasIdentity for Layer<T> {
+    type Identity = Layer<T>;
+}
+
+/// The identity of a type with the one parameter `T`.
+fn applied<T: Identified>(alloc: Global, head: &'static str) -> Result<TypeId, AllocError>
+    ensures { IfOk result (λ id. term_of id ≡ applied_term head.now T.own) }
 {
-    match number {
-        0 => "example_runtime::pallets::accounts::Account",
-        1 => "example_runtime::pallets::accounts::Call",
-        2 => "example_runtime::pallets::accounts::Event",
-        _ => "example_runtime::pallets::accounts::Layer",
-    }
+    let args = vec![in alloc; T::type_id(alloc)?]?;
+    Ok(TypeId::new(head, Vec::new(alloc), args))
 }
 
 /// A struct of one to six fields, each of this type or of `u32`.
