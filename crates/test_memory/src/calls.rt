@@ -2,7 +2,7 @@
 //! the rest of the line.
 //!
 //! A table for each library: the proof of a search takes long where a table is long.
-use crate::{passes, runs, values, views};
+use crate::{json, passes, runs, values, views};
 use std::test::Fail;
 use test_memory_build::{
     constructors, descriptions, fields, lists as built_lists, paths, structs, variants,
@@ -11,7 +11,7 @@ use test_memory_common::names::named;
 use test_memory_common::outcomes::Outcome;
 use test_memory_parts::{copies, interners as texts, lists, looks as parts, moves, orders};
 use test_memory_tables::{
-    builders, bytes, conversions, discoveries, exports, interners, json, looks, prunings,
+    builders, bytes, conversions, discoveries, exports, interners, looks, prunings,
     registrations as registries,
 };
 use test_memory_types::{
@@ -24,8 +24,8 @@ type Call = fn(&HostRuntime, &str) -> Result<Outcome, Fail>;
 /// A call of a line that has no input.
 type CallAlone = fn(&HostRuntime) -> Result<Outcome, Fail>;
 
-/// Whole lines.
-const LINES: [(&str, CallAlone); 39] = [
+/// Calls of whole lines, on parts of descriptions, lists and types.
+const LINES: [(&str, CallAlone); 19] = [
     (
         "add_described_otherwise (u32, bool)",
         catalogues::add_described_otherwise,
@@ -51,6 +51,10 @@ const LINES: [(&str, CallAlone); 39] = [
     ("move_into identity", moves::identity),
     ("move_into empty parts", moves::empty_parts),
     ("move_into empty collections", moves::empty_collections),
+];
+
+/// Calls of whole lines by builders, constructors and macros.
+const LINES_OF_BUILDERS: [(&str, CallAlone); 20] = [
     ("field portable named", fields::portable_named),
     ("field portable unnamed", fields::portable_unnamed),
     ("variant with a field", variants::variant),
@@ -133,7 +137,7 @@ const OF_PARTS: [(&str, Call); 24] = [
 ];
 
 /// Calls on bytes, tables and registries.
-const OF_TABLES: [(&str, Call); 28] = [
+const OF_TABLES: [(&str, Call); 24] = [
     ("PortableRegistryBuilder::finish", builders::finish),
     (
         "PortableRegistryBuilder::register_each",
@@ -161,10 +165,6 @@ const OF_TABLES: [(&str, Call); 28] = [
     ("try_clone_table", bytes::try_clone),
     ("try_clone_entries", bytes::try_clone_entries),
     ("decode_compact", bytes::decode_compact),
-    ("to_json", json::tree_of),
-    ("from_json", json::table_from),
-    ("append_json", json::text_of),
-    ("append_json_of", json::text_of_bytes),
     ("retain", prunings::retain),
     ("prune", prunings::prune_bytes),
     ("append_pruned", prunings::append_pruned_bytes),
@@ -210,15 +210,19 @@ const OF_TYPES: [(&str, Call); 27] = [
     ("error", errors::error),
 ];
 
-/// Calls on views, texts, values and their bytes, and runs of the program `type_table`.
-const OF_VALUES: [(&str, Call); 16] = [
+/// Calls on views, JSON, values and their bytes, and runs of the program `type_table`.
+const OF_VALUES: [(&str, Call); 20] = [
     ("TableView::new", views::view),
     ("TableView::try_to_owned", views::owned),
     ("TableView::resolve", views::resolve),
     ("TableView::references", views::references),
     ("TableView::number", views::number),
     ("TableView::find_by_path", views::find_by_path),
-    ("from_json_text", views::from_text),
+    ("to_json", json::tree_of),
+    ("from_json", json::table_from),
+    ("from_json_text", json::table_from_text),
+    ("append_json", json::text_of),
+    ("append_json_of", json::text_of_bytes),
     ("encode_value", values::encode),
     ("decode_value", values::decode),
     ("decode_lent", values::decode_and_lend),
@@ -233,6 +237,14 @@ const OF_VALUES: [(&str, Call); 16] = [
 /// Makes the call of a line.
 pub fn call(rt: &HostRuntime, line: &str) -> Result<Outcome, Fail> {
     match named(&LINES, line) {
+        Some(call) => call(rt),
+        None => call_of_line(rt, line),
+    }
+}
+
+/// Makes the call of a line, one by builders without input or one of its first word.
+fn call_of_line(rt: &HostRuntime, line: &str) -> Result<Outcome, Fail> {
+    match named(&LINES_OF_BUILDERS, line) {
         Some(call) => call(rt),
         None => {
             let (name, input) = line.split_once(' ').unwrap_or((line, ""));
@@ -273,7 +285,7 @@ fn call_of_types(rt: &HostRuntime, name: &str, input: &str) -> Result<Outcome, F
     }
 }
 
-/// Makes the call of this name, one on values or else one for a type.
+/// Makes the call of this name, one on views, JSON and values, or else one for a type.
 fn call_of_values(rt: &HostRuntime, name: &str, input: &str) -> Result<Outcome, Fail> {
     match named(&OF_VALUES, name) {
         Some(call) => call(rt, input),

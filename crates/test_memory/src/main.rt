@@ -4,6 +4,7 @@
 #![tactic(auto)]
 
 mod calls;
+mod json;
 mod passes;
 mod runs;
 mod values;

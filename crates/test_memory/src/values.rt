@@ -1,4 +1,5 @@
 //! Values that are decoded by a table, encoded again, lent, and written as text.
+use crate::json::appended;
 use example_callers::print::print_decoded;
 use scale_info::PortableRegistry;
 use scale_info::lent::decode_lent;
@@ -12,7 +13,6 @@ use test_memory_common::answers::{answered, done, failed, shown};
 use test_memory_common::inputs::{output, table_of};
 use test_memory_common::marks::{begin, end};
 use test_memory_common::outcomes::Outcome;
-use test_memory_tables::json::appended;
 
 /// The id, the input and the table of a row: after a name and a colon an id, a table and an input,
 /// with semicolons between them.

@@ -1,11 +1,10 @@
-//! Tables that stay bytes, and tables read from text with no tree.
+//! Tables that stay bytes.
 use scale_info::view::TableView;
-use scale_info::{append_json, from_json_text};
 use std::alloc::Global;
 use std::test::Fail;
 use test_common::rows::{numbers, parted};
 use test_memory_common::answers::{Answered, done, encoded, shown};
-use test_memory_common::inputs::{bytes_of, table_of};
+use test_memory_common::inputs::bytes_of;
 use test_memory_common::marks::{begin, end};
 use test_memory_common::outcomes::Outcome;
 
@@ -82,22 +81,4 @@ pub fn find_by_path(rt: &HostRuntime, row: &str) -> Result<Outcome, Fail> {
     let found = view.find_by_path(&path);
     end(rt);
     Outcome::of(shown(alloc, found))
-}
-
-/// The text of a row: what comes after the word "text", or else that of the table of this name.
-fn text_of(alloc: Global, row: &str) -> Result<String, Fail> {
-    match row.strip_prefix("text ") {
-        Some(text) => Ok(String::from_str(alloc, text)?),
-        None => {
-            let text = append_json(&table_of(alloc, row)?, Vec::new(alloc))?;
-            Ok(String::from_utf8(text)?)
-        }
-    }
-}
-
-/// Reads a table from text.
-pub fn from_text(rt: &HostRuntime, row: &str) -> Result<Outcome, Fail> {
-    let alloc = rt.alloc();
-    let text = text_of(alloc, row)?;
-    Outcome::of_call(rt, || from_json_text(alloc, text.as_str()), encoded)
 }

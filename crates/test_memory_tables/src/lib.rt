@@ -7,7 +7,6 @@ pub mod conversions;
 pub mod discoveries;
 pub mod exports;
 pub mod interners;
-pub mod json;
 pub mod looks;
 pub mod prunings;
 pub mod registrations;

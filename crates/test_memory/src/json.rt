@@ -1,5 +1,5 @@
-//! Tables as JSON.
-use scale_info::{append_json, append_json_of, from_json, to_json};
+//! Tables as JSON: trees and texts.
+use scale_info::{append_json, append_json_of, from_json, from_json_text, to_json};
 use serde_json::Value;
 use std::alloc::Global;
 use std::test::Fail;
@@ -31,6 +31,24 @@ fn tree(alloc: Global, row: &str) -> Result<Value, Fail> {
 pub fn table_from(rt: &HostRuntime, row: &str) -> Result<Outcome, Fail> {
     let tree = Held(tree(rt.alloc(), row)?);
     Outcome::of_call(rt, || from_json(rt.alloc(), &tree.0), encoded)
+}
+
+/// The text of a row: what comes after the word "text", or else that of the table of this name.
+fn text(alloc: Global, row: &str) -> Result<String, Fail> {
+    match row.strip_prefix("text ") {
+        Some(text) => Ok(String::from_str(alloc, text)?),
+        None => {
+            let text = append_json(&table_of(alloc, row)?, Vec::new(alloc))?;
+            Ok(String::from_utf8(text)?)
+        }
+    }
+}
+
+/// The table of a text.
+pub fn table_from_text(rt: &HostRuntime, row: &str) -> Result<Outcome, Fail> {
+    let alloc = rt.alloc();
+    let text = text(alloc, row)?;
+    Outcome::of_call(rt, || from_json_text(alloc, text.as_str()), encoded)
 }
 
 /// A text that was appended to the byte `aa`, with the byte before it in hexadecimal.
