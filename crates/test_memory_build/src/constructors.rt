@@ -25,7 +25,8 @@ pub fn description(rt: &HostRuntime, name: &str) -> Result<Outcome, Fail> {
     let params = Held(parameters(alloc)?);
     let def = description_named(alloc, name)?.type_def;
     let (path, params) = (path.into_inner(), params.into_inner());
-    Outcome::of_call(rt, || Type::new(alloc, path, params, def, docs), registered)
+    let make = || Type::new(alloc, path, params, def, docs);
+    Outcome::of_call(rt, make, |alloc, ty| registered(alloc, ty))
 }
 
 /// Makes a portable description.
@@ -45,13 +46,15 @@ pub fn portable_description(rt: &HostRuntime) -> Result<Outcome, Fail> {
 /// Makes the definition of a composite.
 pub fn composite(rt: &HostRuntime) -> Result<Outcome, Fail> {
     let fields = list_of(rt.alloc(), documented_field(rt.alloc())?)?;
-    Outcome::of_call(rt, || TypeDefComposite::new(rt.alloc(), fields), registered)
+    let make = || TypeDefComposite::new(rt.alloc(), fields);
+    Outcome::of_call(rt, make, |alloc, def| registered(alloc, def))
 }
 
 /// Makes the definition of an enum.
 pub fn variants(rt: &HostRuntime) -> Result<Outcome, Fail> {
     let variants = list_of(rt.alloc(), documented_variant(rt.alloc())?)?;
-    Outcome::of_call(rt, || TypeDefVariant::new(rt.alloc(), variants), registered)
+    let make = || TypeDefVariant::new(rt.alloc(), variants);
+    Outcome::of_call(rt, make, |alloc, def| registered(alloc, def))
 }
 
 /// Makes the definition of a composite of the types with these ids.
