@@ -1,6 +1,6 @@
 //! Walks over tables, and what is kept of them.
 use scale_info::walk::{Numbering, Refs, number, number_recursive};
-use scale_info::{PortableRegistry, PortableType, RetainError, append_pruned, prune};
+use scale_info::{PortableRegistry, append_pruned, prune};
 use std::alloc::{AllocError, Global};
 use std::test::Fail;
 use test_common::held::Held;
@@ -100,27 +100,23 @@ fn walked(alloc: Global, found: Numbering) -> Answered {
     done(format!(in alloc; "{order:?} in {steps} steps"))
 }
 
-/// Numbers what the given ids reach by a call.
-fn numbered<C: FnOnce(Global, &[PortableType], &[u32]) -> Result<Numbering, RetainError>>(
-    rt: &HostRuntime,
-    row: &str,
-    call: C,
-) -> Result<Outcome, Fail>
-    requires { C.IsAlwaysCallable call }
-{
-    let (name, ids) = given(rt.alloc(), row)?;
-    let table = Held(table_of(rt.alloc(), name)?);
-    Outcome::of_call(rt, || call(rt.alloc(), table.0.types(), &ids), walked)
+/// The table of a row, and the given ids.
+fn roots(alloc: Global, row: &str) -> Result<(Held<PortableRegistry>, Vec<u32>), Fail> {
+    let (name, ids) = given(alloc, row)?;
+    Ok((Held(table_of(alloc, name)?), ids))
 }
 
 /// Numbers what the given ids reach.
 pub fn number_table(rt: &HostRuntime, row: &str) -> Result<Outcome, Fail> {
-    numbered(rt, row, number)
+    let (table, ids) = roots(rt.alloc(), row)?;
+    Outcome::of_call(rt, || number(rt.alloc(), table.0.types(), &ids), walked)
 }
 
 /// Numbers what the given ids reach, by a recursion.
 pub fn number_table_recursively(rt: &HostRuntime, row: &str) -> Result<Outcome, Fail> {
-    numbered(rt, row, number_recursive)
+    let (table, ids) = roots(rt.alloc(), row)?;
+    let walk = || number_recursive(rt.alloc(), table.0.types(), &ids);
+    Outcome::of_call(rt, walk, walked)
 }
 
 /// The references of the first description.
