@@ -32,7 +32,8 @@ fn copy_meta<T: TryClone + IntoPortable + Drop>(rt: &HostRuntime, value: T) -> R
 where
     T::Output: Scale,
 {
-    Outcome::of_call(rt, || value.try_clone(rt.alloc()), registered)
+    let copy = || value.try_clone(rt.alloc());
+    Outcome::of_call(rt, copy, |alloc, copy| registered(alloc, copy))
 }
 
 /// Copies a value that is shown by its `Debug`.
@@ -121,7 +122,8 @@ pub fn list(rt: &HostRuntime, kind: &str) -> Result<Outcome, Fail> {
 /// Copies a type of the program.
 pub fn type_of_program(rt: &HostRuntime) -> Result<Outcome, Fail> {
     let ty = Held(type_named(rt.alloc(), "Vec<u32>")?);
-    Outcome::of_call(rt, || MetaForm::copy_type(rt.alloc(), &ty.0), registered)
+    let copy = || MetaForm::copy_type(rt.alloc(), &ty.0);
+    Outcome::of_call(rt, copy, |alloc, copy| registered(alloc, copy))
 }
 
 /// Copies an id.

@@ -11,6 +11,11 @@ use test_memory_common::by_name::{Described, for_type};
 use test_memory_common::names::found;
 use test_memory_common::outcomes::Outcome;
 
+/// What shows a type.
+fn referred(alloc: Global, ty: MetaType) -> Answered {
+    registered(alloc, ty)
+}
+
 /// What shows a description.
 fn described(alloc: Global, ty: Type) -> Answered {
     registered(alloc, ty)
@@ -40,8 +45,8 @@ impl Described for CallOfType<'_> {
             "type_id" => Outcome::of_call(rt, || T::type_id(alloc), shown),
             "type_info" => Outcome::of_call(rt, || T::type_info(alloc), described),
             "describe" => Outcome::of_call(rt, || shown::shown::<T>(alloc), printed),
-            "MetaType::new" => Outcome::of_call(rt, || MetaType::new::<T>(alloc), registered),
-            "meta_type" => Outcome::of_call(rt, || meta_type::<T>(alloc), registered),
+            "MetaType::new" => Outcome::of_call(rt, || MetaType::new::<T>(alloc), referred),
+            "meta_type" => Outcome::of_call(rt, || meta_type::<T>(alloc), referred),
             "TypeDefSequence::of" => {
                 Outcome::of_call(rt, || TypeDefSequence::of::<T>(alloc), sequence)
             }
