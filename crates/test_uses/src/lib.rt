@@ -17,3 +17,5 @@ mod entries;
 mod runs;
 #[cfg(test)]
 mod streams;
+#[cfg(test)]
+mod viewed;
