@@ -1,0 +1,376 @@
+//! Descriptions.
+ghost use Rattle.scale_info_bytes.specs.Encodings.{HasNoPrefix, HasPrefix, IfMalformed};
+ghost use Rattle.scale_info_grammar.specs.Ty.{EncodesArray, EncodesBitSequence};
+ghost use Rattle.scale_info_grammar.specs.Ty.{EncodesCompactType, EncodesComposite};
+ghost use Rattle.scale_info_grammar.specs.Ty.{EncodesDescription, EncodesField, EncodesMap};
+ghost use Rattle.scale_info_grammar.specs.Ty.{EncodesParameter, EncodesPath, EncodesSequence};
+ghost use Rattle.scale_info_grammar.specs.Ty.{EncodesTuple, EncodesTypeDef};
+ghost use Rattle.scale_info_grammar.specs.Ty.{EncodesTypeDefWithIndex, EncodesVariant};
+ghost use Rattle.scale_info_grammar.specs.Ty.{EncodesVariants};
+ghost use Rattle.scale_info_grammar.specs.TyLaws.{array_law, bit_sequence_law, compact_type_law};
+ghost use Rattle.scale_info_grammar.specs.TyLaws.{composite_law, description_law, field_law};
+ghost use Rattle.scale_info_grammar.specs.TyLaws.{map_law, parameter_law, path_law};
+ghost use Rattle.scale_info_grammar.specs.TyLaws.{sequence_law, tuple_law, type_def_law};
+ghost use Rattle.scale_info_grammar.specs.TyLaws.{variant_law, variants_law};
+ghost use Rattle.scale_info_lent_form.specs.LentDescriptions.{array_of, bit_sequence_of};
+ghost use Rattle.scale_info_lent_form.specs.LentDescriptions.{compact_of, composite_of};
+ghost use Rattle.scale_info_lent_form.specs.LentDescriptions.{definition_of, description_of};
+ghost use Rattle.scale_info_lent_form.specs.LentDescriptions.{field_of, map_of, parameter_of};
+ghost use Rattle.scale_info_lent_form.specs.LentDescriptions.{path_of, sequence_of, tuple_of};
+ghost use Rattle.scale_info_lent_form.specs.LentDescriptions.{variant_of, variants_of};
+ghost use Rattle.scale_info_types.specs.Portable as portables;
+ghost use Rattle.std.specs.Prelude.{IfErr, IfOk};
+
+use crate::form::LentForm;
+use crate::read::Read;
+use scale_info_bytes::error::DecodeError;
+use scale_info_collections::items::Items;
+use scale_info_types::ty::path::Path;
+use scale_info_types::ty::variant::Variant;
+use scale_info_types::ty::{
+    Field, Type, TypeDef, TypeDefArray, TypeDefBitSequence, TypeDefCompact, TypeDefComposite,
+    TypeDefMap, TypeDefPrimitive, TypeDefSequence, TypeDefTuple, TypeDefVariant, TypeParameter,
+};
+use std::alloc::Global;
+
+/// The description at the start of the input, whose strings stay there, and the rest.
+///
+/// Errors: `Malformed`, if no prefix of the input encodes a description; `Memory`, if an allocation
+/// failed.
+///
+/// ```text
+/// let (ty, rest) = decode_description(alloc, &bytes)?;
+/// ty.path.segments.last()  // the type's name, in `bytes`
+/// ```
+pub fn decode_description<'i>(
+    alloc: Global,
+    input: &'i [u8],
+) -> Result<(Type<LentForm<'i>>, &'i [u8]), DecodeError>
+    ensures ok { IfOk result (λ found.
+        HasPrefix (EncodesDescription (description_of found.0)) input.now found.1.now) }
+    ensures malformed { IfErr result (IfMalformed (HasNoPrefix EncodesDescription input.now)) }
+{
+    Read::read(alloc, input)
+}
+
+impl<'i> Read<'i> for Path<LentForm<'i>> {
+    ghost Portable = { portables.Path };
+
+    ghost portable = { path_of };
+
+    ghost encodes = { EncodesPath };
+
+    fn read(alloc: Global, input: &'i [u8]) -> Result<(Path<LentForm<'i>>, &'i [u8]), DecodeError> {
+        let (segments, rest) = Items::<&'i str>::read(alloc, input)?;
+        Ok((Path::from(segments), rest))
+    }
+
+    ghost law = { path_law };
+}
+
+impl<'i> Read<'i> for TypeParameter<LentForm<'i>> {
+    ghost Portable = { portables.TypeParameter };
+
+    ghost portable = { parameter_of };
+
+    ghost encodes = { EncodesParameter };
+
+    fn read(
+        alloc: Global,
+        input: &'i [u8],
+    ) -> Result<(TypeParameter<LentForm<'i>>, &'i [u8]), DecodeError> {
+        let ((name, ty), rest) = Read::read(alloc, input)?;
+        Ok((TypeParameter { name, ty }, rest))
+    }
+
+    ghost law = { parameter_law };
+}
+
+impl<'i> Read<'i> for Field<LentForm<'i>> {
+    ghost Portable = { portables.Field };
+
+    ghost portable = { field_of };
+
+    ghost encodes = { EncodesField };
+
+    fn read(
+        alloc: Global,
+        input: &'i [u8],
+    ) -> Result<(Field<LentForm<'i>>, &'i [u8]), DecodeError> {
+        let ((name, (ty, (type_name, docs))), rest) = Read::read(alloc, input)?;
+        let field = Field {
+            name,
+            ty,
+            type_name,
+            docs,
+        };
+        Ok((field, rest))
+    }
+
+    ghost law = { field_law };
+}
+
+impl<'i> Read<'i> for Variant<LentForm<'i>> {
+    ghost Portable = { portables.Variant };
+
+    ghost portable = { variant_of };
+
+    ghost encodes = { EncodesVariant };
+
+    fn read(
+        alloc: Global,
+        input: &'i [u8],
+    ) -> Result<(Variant<LentForm<'i>>, &'i [u8]), DecodeError> {
+        let ((name, (fields, (index, docs))), rest) = Read::read(alloc, input)?;
+        let variant = Variant {
+            name,
+            fields,
+            index,
+            docs,
+        };
+        Ok((variant, rest))
+    }
+
+    ghost law = { variant_law };
+}
+
+impl<'i> Read<'i> for TypeDefComposite<LentForm<'i>> {
+    ghost Portable = { portables.TypeDefComposite };
+
+    ghost portable = { composite_of };
+
+    ghost encodes = { EncodesComposite };
+
+    fn read(
+        alloc: Global,
+        input: &'i [u8],
+    ) -> Result<(TypeDefComposite<LentForm<'i>>, &'i [u8]), DecodeError> {
+        let (fields, rest) = Read::read(alloc, input)?;
+        Ok((TypeDefComposite { fields }, rest))
+    }
+
+    ghost law = { composite_law };
+}
+
+impl<'i> Read<'i> for TypeDefVariant<LentForm<'i>> {
+    ghost Portable = { portables.TypeDefVariant };
+
+    ghost portable = { variants_of };
+
+    ghost encodes = { EncodesVariants };
+
+    fn read(
+        alloc: Global,
+        input: &'i [u8],
+    ) -> Result<(TypeDefVariant<LentForm<'i>>, &'i [u8]), DecodeError> {
+        let (variants, rest) = Read::read(alloc, input)?;
+        Ok((TypeDefVariant { variants }, rest))
+    }
+
+    ghost law = { variants_law };
+}
+
+impl<'i> Read<'i> for TypeDefSequence<LentForm<'i>> {
+    ghost Portable = { portables.TypeDefSequence };
+
+    ghost portable = { sequence_of };
+
+    ghost encodes = { EncodesSequence };
+
+    fn read(
+        alloc: Global,
+        input: &'i [u8],
+    ) -> Result<(TypeDefSequence<LentForm<'i>>, &'i [u8]), DecodeError> {
+        let (type_param, rest) = Read::read(alloc, input)?;
+        Ok((TypeDefSequence::new(type_param), rest))
+    }
+
+    ghost law = { sequence_law };
+}
+
+impl<'i> Read<'i> for TypeDefArray<LentForm<'i>> {
+    ghost Portable = { portables.TypeDefArray };
+
+    ghost portable = { array_of };
+
+    ghost encodes = { EncodesArray };
+
+    fn read(
+        alloc: Global,
+        input: &'i [u8],
+    ) -> Result<(TypeDefArray<LentForm<'i>>, &'i [u8]), DecodeError> {
+        let ((len, type_param), rest) = Read::read(alloc, input)?;
+        Ok((TypeDefArray::new(len, type_param), rest))
+    }
+
+    ghost law = { array_law };
+}
+
+impl<'i> Read<'i> for TypeDefTuple<LentForm<'i>> {
+    ghost Portable = { portables.TypeDefTuple };
+
+    ghost portable = { tuple_of };
+
+    ghost encodes = { EncodesTuple };
+
+    fn read(
+        alloc: Global,
+        input: &'i [u8],
+    ) -> Result<(TypeDefTuple<LentForm<'i>>, &'i [u8]), DecodeError> {
+        let (fields, rest) = Items::read(alloc, input)?;
+        Ok((TypeDefTuple::from(fields), rest))
+    }
+
+    ghost law = { tuple_law };
+}
+
+impl<'i> Read<'i> for TypeDefCompact<LentForm<'i>> {
+    ghost Portable = { portables.TypeDefCompact };
+
+    ghost portable = { compact_of };
+
+    ghost encodes = { EncodesCompactType };
+
+    fn read(
+        alloc: Global,
+        input: &'i [u8],
+    ) -> Result<(TypeDefCompact<LentForm<'i>>, &'i [u8]), DecodeError> {
+        let (type_param, rest) = Read::read(alloc, input)?;
+        Ok((TypeDefCompact::new(type_param), rest))
+    }
+
+    ghost law = { compact_type_law };
+}
+
+impl<'i> Read<'i> for TypeDefBitSequence<LentForm<'i>> {
+    ghost Portable = { portables.TypeDefBitSequence };
+
+    ghost portable = { bit_sequence_of };
+
+    ghost encodes = { EncodesBitSequence };
+
+    fn read(
+        alloc: Global,
+        input: &'i [u8],
+    ) -> Result<(TypeDefBitSequence<LentForm<'i>>, &'i [u8]), DecodeError> {
+        let ((store, order), rest) = Read::read(alloc, input)?;
+        Ok((TypeDefBitSequence::of_types(store, order), rest))
+    }
+
+    ghost law = { bit_sequence_law };
+}
+
+impl<'i> Read<'i> for TypeDefMap<LentForm<'i>> {
+    ghost Portable = { portables.TypeDefMap };
+
+    ghost portable = { map_of };
+
+    ghost encodes = { EncodesMap };
+
+    fn read(
+        alloc: Global,
+        input: &'i [u8],
+    ) -> Result<(TypeDefMap<LentForm<'i>>, &'i [u8]), DecodeError> {
+        let ((key, value), rest) = Read::read(alloc, input)?;
+        Ok((TypeDefMap::new(key, value), rest))
+    }
+
+    ghost law = { map_law };
+}
+
+/// Reads the parts of the definition with this index.
+fn read_parts<'i>(
+    alloc: Global,
+    index: u8,
+    input: &'i [u8],
+) -> Result<(TypeDef<LentForm<'i>>, &'i [u8]), DecodeError>
+    ensures ok { IfOk result (λ found.
+        HasPrefix (EncodesTypeDefWithIndex index (definition_of found.0)) input.now
+        found.1.now) }
+    ensures malformed { IfErr result
+        (IfMalformed (HasNoPrefix (EncodesTypeDefWithIndex index) input.now)) }
+{
+    match index {
+        0 => {
+            let (def, rest) = TypeDefComposite::read(alloc, input)?;
+            Ok((TypeDef::Composite(def), rest))
+        }
+        1 => {
+            let (def, rest) = TypeDefVariant::read(alloc, input)?;
+            Ok((TypeDef::Variant(def), rest))
+        }
+        2 => {
+            let (def, rest) = TypeDefSequence::read(alloc, input)?;
+            Ok((TypeDef::Sequence(def), rest))
+        }
+        3 => {
+            let (def, rest) = TypeDefArray::read(alloc, input)?;
+            Ok((TypeDef::Array(def), rest))
+        }
+        4 => {
+            let (def, rest) = TypeDefTuple::read(alloc, input)?;
+            Ok((TypeDef::Tuple(def), rest))
+        }
+        5 => {
+            let (def, rest) = TypeDefPrimitive::read(alloc, input)?;
+            Ok((TypeDef::Primitive(def), rest))
+        }
+        6 => {
+            let (def, rest) = TypeDefCompact::read(alloc, input)?;
+            Ok((TypeDef::Compact(def), rest))
+        }
+        7 => {
+            let (def, rest) = TypeDefBitSequence::read(alloc, input)?;
+            Ok((TypeDef::BitSequence(def), rest))
+        }
+        8 => {
+            let (def, rest) = TypeDefMap::read(alloc, input)?;
+            Ok((TypeDef::Map(def), rest))
+        }
+        _ => Err(DecodeError::Malformed),
+    }
+}
+
+impl<'i> Read<'i> for TypeDef<LentForm<'i>> {
+    ghost Portable = { portables.TypeDef };
+
+    ghost portable = { definition_of };
+
+    ghost encodes = { EncodesTypeDef };
+
+    fn read(
+        alloc: Global,
+        input: &'i [u8],
+    ) -> Result<(TypeDef<LentForm<'i>>, &'i [u8]), DecodeError> {
+        match input {
+            [] => Err(DecodeError::Malformed),
+            [index, rest @ ..] => {
+                let (def, rest) = read_parts(alloc, *index, rest)?;
+                Ok((def, rest))
+            }
+        }
+    }
+
+    ghost law = { type_def_law };
+}
+
+impl<'i> Read<'i> for Type<LentForm<'i>> {
+    ghost Portable = { portables.Description };
+
+    ghost portable = { description_of };
+
+    ghost encodes = { EncodesDescription };
+
+    fn read(alloc: Global, input: &'i [u8]) -> Result<(Type<LentForm<'i>>, &'i [u8]), DecodeError> {
+        let ((path, (type_params, (type_def, docs))), rest) = Read::read(alloc, input)?;
+        let description = Type {
+            path,
+            type_params,
+            type_def,
+            docs,
+        };
+        Ok((description, rest))
+    }
+
+    ghost law = { description_law };
+}
