@@ -59,18 +59,38 @@ fn put_values<T: Definitions>(
     chosen: &Chosen,
     digest: &mut Digest,
 ) -> Result<()> {
+    let [first, second, third] = chosen.ids;
+    let mut input = chosen.input.as_slice();
     for place in 0..VALUES {
-        let id = chosen.ids[place % 3];
-        let (value, rest) = decode_value(alloc, types, id, &chosen.input[place..])?;
+        let [_, more @ ..] = input else {
+            bail!("too few bytes");
+        };
+        let id = match place % 3 {
+            0 => first,
+            1 => second,
+            _ => third,
+        };
+        let (value, rest) = decode_value(alloc, types, id, input)?;
         digest.put_value(&value);
         digest.put(rest.len() as u64);
+        input = more;
     }
     Ok(())
 }
 
-/// Whether values of a type are read from each of the bytes on.
+/// Whether values of a type are read from each of the first bytes on.
 fn is_read(alloc: Global, table: &PortableRegistry, id: u32, input: &[u8]) -> bool {
-    (0..VALUES).all(|place| decode_value(alloc, table, id, &input[place..]).is_ok())
+    let mut input = input;
+    for _ in 0..VALUES {
+        let [_, more @ ..] = input else {
+            return false;
+        };
+        if decode_value(alloc, table, id, input).is_err() {
+            return false;
+        }
+        input = more;
+    }
+    true
 }
 
 /// The last three types whose values can be read, and bytes of 0 and 1.
