@@ -14,8 +14,6 @@ mod changes;
 #[cfg(test)]
 mod entries;
 #[cfg(test)]
-mod inputs;
-#[cfg(test)]
 mod runs;
 #[cfg(test)]
 mod streams;
