@@ -15,12 +15,13 @@ use scale_info_types::ty::PortableType;
 /// docs, and which is the same in all else: ids, paths, parameters and definitions. It is no longer
 /// than the table was. The bytes are gone over once, and nothing but the output is allocated.
 ///
-/// Errors: `Malformed`, if no prefix of the input is a table; `Memory`, if an allocation failed. The
-/// output is then as it was.
+/// Errors: `Malformed`, if no prefix of the input is a table; `Memory`, if an allocation failed.
+/// The output is then as it was.
 ///
 /// ```text
 /// // one entry: no path, no parameter, bool, one line of docs of one byte
-/// append_without_docs(&[4, 0, 0, 0, 5, 0, 4, 4, 100], &mut out)?   // appends [4, 0, 0, 0, 5, 0, 0]
+/// append_without_docs(&[4, 0, 0, 0, 5, 0, 4, 4, 100], &mut out)?
+/// // appended [4, 0, 0, 0, 5, 0, 0]
 /// ```
 pub fn append_without_docs<'a>(input: &'a [u8], out: &mut Vec<u8>) -> Result<&'a [u8], DecodeError>
     ensures ok { IfOk result (λ rest. AppendsChanged EncodesTypes (map entry_without_docs)

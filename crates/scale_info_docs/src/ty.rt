@@ -7,15 +7,16 @@ ghost use Rattle.scale_info_bytes.specs.PartLaws.{list_law, option_law, through_
 ghost use Rattle.scale_info_bytes.specs.Parts.{EncodesList, EncodesOption};
 ghost use Rattle.scale_info_bytes.specs.StringLaws.{text_law};
 ghost use Rattle.scale_info_bytes.specs.Strings.{EncodesText};
-ghost use Rattle.scale_info_docs.specs.WithoutDocs.{definition_without_docs, description_without_docs};
+ghost use Rattle.scale_info_docs.specs.WithoutDocs.{definition_without_docs};
+ghost use Rattle.scale_info_docs.specs.WithoutDocs.{description_without_docs};
 ghost use Rattle.scale_info_docs.specs.WithoutDocs.{entry_without_docs, field_without_docs};
 ghost use Rattle.scale_info_docs.specs.WithoutDocs.{variant_without_docs};
 ghost use Rattle.scale_info_grammar.specs.Ty.{EncodesDescription, EncodesField, EncodesId};
 ghost use Rattle.scale_info_grammar.specs.Ty.{EncodesParameter, EncodesPath, EncodesPortableType};
 ghost use Rattle.scale_info_grammar.specs.Ty.{EncodesTypeDef, EncodesVariant};
 ghost use Rattle.scale_info_grammar.specs.TyLaws.{description_law, field_law, parameter_law};
-ghost use Rattle.scale_info_grammar.specs.TyLaws.{id_law, path_law, portable_type_law, type_def_law};
-ghost use Rattle.scale_info_grammar.specs.TyLaws.{variant_law};
+ghost use Rattle.scale_info_grammar.specs.TyLaws.{id_law, path_law, portable_type_law};
+ghost use Rattle.scale_info_grammar.specs.TyLaws.{type_def_law, variant_law};
 
 use crate::list::append_list;
 use crate::part::{WithoutDocs, append_copy};

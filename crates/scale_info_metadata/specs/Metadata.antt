@@ -23,7 +23,8 @@ pub record EncodesSomeBytes (bytes input : List ℕ) : Type 0 where
 pub data IsMetadata : List ℕ → List ℕ → Type 0 where
   alone : {after input : List ℕ} → input ≡ word ++ after → IsMetadata after input
   in_string : {after input : List ℕ} → EncodesBytes (word ++ after) input → IsMetadata after input
-  in_option : {after input : List ℕ} → EncodesSomeBytes (word ++ after) input → IsMetadata after input
+  in_option :
+      {after input : List ℕ} → EncodesSomeBytes (word ++ after) input → IsMetadata after input
 
 -- the input is no metadata
 abbrev pub IsNoMetadata : List ℕ → Type 0

@@ -69,8 +69,8 @@ fn bytes_by(alloc: Global, digits: &[u8]) -> Result<Option<Vec<u8>>, AllocError>
 /// The bytes that a text writes in two hexadecimal digits each, in either case, after `0x` or
 /// without it, with blanks, line feeds and quotes around them; None for any other text.
 ///
-/// So a node's answer over HTTP is read, where it was cut out of its JSON with the quotes or without
-/// them. No table that a registry gives is such a text: see `FORMATS.md`.
+/// So what a node returns over HTTP is read, where it was cut out of its JSON with the quotes or
+/// without them. No table that a registry gives is such a text: see `FORMATS.md`.
 ///
 /// Errors: an allocation failed.
 ///

@@ -1,8 +1,8 @@
 //! The table inside a node's metadata.
 //!
-//! [`metadata::table_of`] finds the bytes of the table in metadata of the versions 14 to 16, also in
-//! the byte strings in which runtimes answer; [`hexadecimal::bytes_of_text`] takes the bytes out of
-//! an answer that is text.
+//! [`metadata::table_of`] finds the bytes of the table in metadata of the versions 14 to 16, also
+//! in the byte strings that runtimes return; [`hexadecimal::bytes_of_text`] takes the bytes out of
+//! what a node returns as text.
 #![tactic(auto)]
 
 pub mod hexadecimal;

@@ -49,8 +49,8 @@ IsRenumberingError input ids (Retain retain.Memory) = ⊥
 IsRenumberingError input ids (Encode e) = ⊥
 IsRenumberingError input ids Memory = Unit {0}
 
--- the answer tells whether a match takes what the ids reach in the table that the first input
--- encodes to what the others reach in that of the second, one to one and in order
+-- whether a match takes what the ids reach in the table that the first input encodes to what the
+-- others reach in that of the second, one to one and in order
 pub record TellsMatch (first ids second others : List ℕ) (same : Bool) : Type 0 where
   pub types : List PortableType
   pub other_types : List PortableType

@@ -1,6 +1,6 @@
 //! Whether types of two tables are the same.
-ghost use Rattle.std.specs.Prelude.{◌≡◌, ◌<◌, ◌⊎◌, ◌↔◌, ℕ, List, All, Contains, IfOk, IfErr, IfSome, IfNone};
-ghost use Rattle.std.specs.Prelude.{IsTrue, slice_index_or};
+ghost use Rattle.std.specs.Prelude.{◌≡◌, ◌<◌, ◌⊎◌, ◌↔◌, ℕ, List, All, Contains, IsTrue};
+ghost use Rattle.std.specs.Prelude.{IfOk, IfErr, IfSome, IfNone, slice_index_or};
 ghost use Rattle.scale_info_numberings.specs.Tables.{ArePlaces};
 ghost use Rattle.scale_info_prune.specs.Roots.{IsNoSuchType};
 ghost use Rattle.scale_info_prune.specs.SameTypes.{IsRenumbered, IsRenumberingError, TellsMatch};
