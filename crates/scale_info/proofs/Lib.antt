@@ -8,5 +8,5 @@ pub use Rattle.scale_info_bytes.proofs.Errors
 pub use Rattle.scale_info_types.proofs.Iterators
 pub use Rattle.scale_info_tables.proofs.Interned
 pub use Rattle.scale_info_tables.proofs.Below
-pub use Rattle.scale_info_export.proofs.SameTables
+pub use Rattle.scale_info_prune.proofs.SameTables
 pub use Rattle.scale_info_export.proofs.Exported

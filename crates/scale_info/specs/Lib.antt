@@ -48,6 +48,12 @@ pub use Rattle.scale_info_walk.specs.Walks
 pub use Rattle.scale_info_prune.specs.Prunes
 pub use Rattle.scale_info_prune.specs.Roots
 pub use Rattle.scale_info_prune.specs.TableIndexes
+pub use Rattle.scale_info_prune.specs.SameTypes
+pub use Rattle.scale_info_docs.specs.Changes
+pub use Rattle.scale_info_docs.specs.WithoutDocs
+pub use Rattle.scale_info_metadata.specs.HexTexts
+pub use Rattle.scale_info_metadata.specs.Metadata
+pub use Rattle.scale_info_metadata.specs.TablesFound
 pub use Rattle.scale_info_catalogue.specs.CatalogueSystems
 pub use Rattle.scale_info_catalogue.specs.Discoveries
 pub use Rattle.scale_info_registry.specs.Registrations

@@ -35,7 +35,7 @@ use Rattle.scale_info_export.specs.Headline.{AreAccepted, AreChosenTypes, AreNew
 use Rattle.scale_info_export.specs.Headline.{IsTableOf}
 use Rattle.scale_info_export.specs.Headline.{IsWritten, Pruning, catalogue_of, registry_of}
 use Rattle.scale_info_export.proofs.Exported.{one_system}
-use Rattle.scale_info_export.proofs.SameTables.{PartsLaw, same_types}
+use Rattle.scale_info_prune.proofs.SameTables.{PartsLaw, same_types}
 
 -- numbered entries have their indices as ids
 numbered_ids :

@@ -1,4 +1,3 @@
 pub mod Exported
 pub mod Headline
 pub mod NumberedEntries
-pub mod SameTables

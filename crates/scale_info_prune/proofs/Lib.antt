@@ -2,3 +2,5 @@ pub mod ByteIndexes
 pub mod AscendingRoots
 pub mod TableIndexes
 pub mod Pruning
+pub mod SameTables
+pub mod Renumbering

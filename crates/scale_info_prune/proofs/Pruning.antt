@@ -1,24 +1,28 @@
 -- What a numbered index says of the table that the input encodes.
 use Rattle.std.proofs.Common.{◌≢◌, ◌↔◌, Some, slice_get, ◌≡◌, ℕ, ◌<◌, ◌≤◌, List, [], ◌∷◌, length}
-use Rattle.std.proofs.Common.{refl, ap, sym, ◌∙◌, subst, arith, suc, All, get_or}
+use Rattle.std.proofs.Common.{refl, ap, sym, ◌∙◌, subst, arith, suc, All, get_or, map}
 use Rattle.std.proofs.lemmas.List.Elements.{Contains-get_or}
 use Rattle.std.proofs.lemmas.Option.{slice_get_within}
 use Rattle.std.specs.BTreeMap.{BTreeMap, get}
 use Rattle.std.specs.Ordering.{nat_cmp}
 use Rattle.scale_info_bytes.specs.declared.error.DecodeError.TheVariants as decode
-use Rattle.scale_info_passes.specs.Entries.{AreAtOffsets, HasEntriesAt}
+use Rattle.scale_info_numberings.specs.Numberings.{IsNumbering}
+use Rattle.scale_info_numberings.specs.Tables.{IsTable}
+use Rattle.scale_info_passes.specs.Entries.{AreAtOffsets, AreKeptEntries, HasEntriesAt}
 use Rattle.scale_info_passes.specs.Visits.{renumbered}
 use Rattle.scale_info_types.specs.declared.ty.PortableType.{PortableType}
 use Rattle.scale_info_walk.proofs.KeptEntries.{kept_table, kept_ids}
 use Rattle.scale_info_walk.proofs.Visiting.{numbers_long, numbers_within}
-use Rattle.scale_info_walk.specs.TypeSystems.{types_system}
+use Rattle.scale_info_walk.specs.Kept.{AreKept}
+use Rattle.scale_info_walk.specs.TypeSystems.{entry_of, types_system}
 use Rattle.scale_info_walk.specs.declared.walk.RetainError.TheVariants as retain
 use Rattle.scale_info_prune.proofs.ByteIndexes.{index_alike, index_long, same_numbering}
 use Rattle.scale_info_prune.proofs.ByteIndexes.{same_reached}
 use Rattle.scale_info_prune.proofs.TableIndexes.{kept_entries, written_agrees, written_number}
 use Rattle.scale_info_prune.specs.ByteIndexes.{index_system}
 use Rattle.scale_info_prune.specs.Prunes.{HasNewIds, IsIndexError, IsIndexNumbering, IsPruneError}
-use Rattle.scale_info_prune.specs.Prunes.{IsNumberedTable, IsPrunedEncoding, IsTableError}
+use Rattle.scale_info_prune.specs.Prunes.{IsNumberedFrom, IsNumberedTable, IsPrunedEncoding}
+use Rattle.scale_info_prune.specs.Prunes.{IsRootsNumberingError, IsTableError}
 use Rattle.scale_info_prune.specs.Roots.{AreRoots, IsNoSuchType}
 use Rattle.scale_info_prune.specs.TableIndexes.{AppendsKeptTable, IsTableIndex}
 use Rattle.scale_info_prune.specs.declared.prune.PruneError.{PruneError}
@@ -81,12 +85,12 @@ module _ (count : ℕ) (input body offsets starts references : List ℕ)
   pub has_entries : HasEntriesAt body offsets
   has_entries = record { entries = x.types; at_offsets = x.at_offsets }
 
-  module _ (given order numbers : List ℕ) (y : IsIndexNumbering count starts references given order numbers) where
+  module _ (roots order numbers : List ℕ) (z : IsNumberedFrom starts references roots order numbers) where
     -- each index in the order is that of an entry
     pub order_within : All (λ index. index < length offsets) order
     order_within k d h =
-        let inside = numbers_within order numbers y.dense (get_or order k d) (Contains-get_or order k d h) in
-        let a = y.long in
+        let inside = numbers_within order numbers z.dense (get_or order k d) (Contains-get_or order k d h) in
+        let a = z.long in
         let b = starts_count in
         let c = zip_long x.types offsets x.at_offsets in
         let e = x.long in
@@ -95,11 +99,35 @@ module _ (count : ℕ) (input body offsets starts references : List ℕ)
     -- the order has no more than 4294967295 indices
     pub order_few : length order ≤ 4294967295
     order_few =
-        let long = numbers_long order numbers y.dense in
-        let a = y.long in
-        let few = y.few in
+        let long = numbers_long order numbers z.dense in
+        let a = z.long in
+        let few = z.few in
         omega arith
 
+    -- the order numbers the table
+    pub numbering_of : IsNumbering (types_system x.types) roots order
+    numbering_of =
+        same_numbering (index_system starts references) (types_system x.types)
+        (index_alike x.types starts references x.are_starts x.are_references) roots order z.numbering
+
+    module _ (kept : List PortableType)
+        (are_kept : AreKeptEntries x.types (renumbered numbers) 0 order kept) where
+      kept_as_written : AreKept x.types order (written_number numbers) kept
+      kept_as_written = kept_entries x.types numbers order kept are_kept
+
+      -- what is kept of the order is its table
+      pub table_of : IsTable (types_system x.types) order (map entry_of kept)
+      table_of =
+          kept_table x.types roots order numbers (written_number numbers) kept numbering_of z.dense
+          (written_agrees numbers) kept_as_written
+
+      -- what is kept has its indices as ids
+      pub ids_of_kept : (i : ℕ) (entry : PortableType) → slice_get kept i ≡ Some entry → entry.id ≡ i
+      ids_of_kept =
+          kept_ids x.types roots order numbers (written_number numbers) kept numbering_of z.dense
+          (written_agrees numbers) kept_as_written
+
+  module _ (given order numbers : List ℕ) (y : IsIndexNumbering count starts references given order numbers) where
     -- a kept table of the order, appended, is that of the input pruned to the given ids
     pub is_pruned :
         (old new : List ℕ)
@@ -108,23 +136,15 @@ module _ (count : ℕ) (input body offsets starts references : List ℕ)
         → IsPrunedEncoding input given order old new
     is_pruned old new f =
         let k = f x.types x.at_offsets in
-        let numbering =
-        same_numbering (index_system starts references) (types_system x.types)
-        (index_alike x.types starts references x.are_starts x.are_references) y.roots order y.numbering in
-        let kept = kept_entries x.types numbers order k.kept k.are_kept in
         record {
           types = x.types;
           encodes = x.encodes;
           roots = y.roots;
           are_roots = subst (λ n. AreRoots n given y.roots) (sym x.long) y.are_roots;
-          numbering = numbering;
+          numbering = numbering_of y.roots order numbers y.from;
           kept = k.kept;
-          table =
-              kept_table x.types y.roots order numbers (written_number numbers) k.kept numbering y.dense
-              (written_agrees numbers) kept;
-          ids =
-              kept_ids x.types y.roots order numbers (written_number numbers) k.kept numbering y.dense
-              (written_agrees numbers) kept;
+          table = table_of y.roots order numbers y.from k.kept k.are_kept;
+          ids = ids_of_kept y.roots order numbers y.from k.kept k.are_kept;
           appends = k.appends;
         }
 
@@ -135,20 +155,33 @@ module _ (count : ℕ) (input body offsets starts references : List ℕ)
         ↔ ((slice_get numbers old ≡ Some new) × (new ≢ 4294967295)))
         → HasNewIds order new_ids
     new_ids_of new_ids m old new = (
-      (λ e. let h = (m old new).0 e in y.dense.numbered old new h.0 h.1),
+      (λ e. let h = (m old new).0 e in y.from.dense.numbered old new h.0 h.1),
       (λ e.
           let within = slice_get_within order new old e in
-          let few = order_few in
-          (m old new).1 (y.dense.placed new old e, λ same. omega arith)),
+          let few = order_few y.roots order numbers y.from in
+          (m old new).1 (y.from.dense.placed new old e, λ same. omega arith)),
     )
 
     -- the table was numbered, as pruning needs it
     pub numbered_table : IsNumberedTable input given body offsets order numbers
     numbered_table = record {
       entries = has_entries;
-      within = order_within;
-      few = order_few;
-      long = let a = y.long in let b = y.few in omega arith;
+      within = order_within y.roots order numbers y.from;
+      few = order_few y.roots order numbers y.from;
+      long = let a = y.from.long in let b = y.from.few in omega arith;
       new_ids = new_ids_of;
       pruned = is_pruned;
     }
+
+-- why an index is not numbered from the roots of given ids is why it is not numbered from these
+pub error_of_roots :
+    (count : ℕ) (starts references given roots : List ℕ) (e : PruneError) → AreRoots count given roots
+    → IsRootsNumberingError starts references roots e → IsIndexError count starts references given e
+error_of_roots count starts references given roots (Decode e) a h = h
+error_of_roots count starts references given roots Trailing a h = h
+error_of_roots count starts references given roots (NoSuchType id) a h = absurd h
+error_of_roots count starts references given roots (Retain (retain.Dangling id)) a h = (roots, a, h.0, h.1)
+error_of_roots count starts references given roots (Retain retain.TooManyTypes) a h = h
+error_of_roots count starts references given roots (Retain retain.Memory) a h = h
+error_of_roots count starts references given roots (Encode e) a h = h
+error_of_roots count starts references given roots Memory a h = h

@@ -1,5 +1,6 @@
 pub mod ByteIndexes
 pub mod Prunes
 pub mod Roots
+pub mod SameTypes
 pub mod TableIndexes
 pub use Rattle.scale_info_grammar.specs.Ty

@@ -77,15 +77,19 @@ abbrev pub HasNewIds : List ℕ → BTreeMap ℕ ℕ → Type 0
 HasNewIds order new_ids =
     (old new : ℕ) → (get nat_cmp new_ids old ≡ Some new) ↔ (slice_get order new ≡ Some old)
 
+-- a numbering of an index from these roots, with its dense list
+pub record IsNumberedFrom (starts references roots order numbers : List ℕ) : Type 0 where
+  pub numbering : IsNumbering (index_system starts references) roots order
+  pub dense : AreNumbers order numbers
+  pub long : length numbers ≡ length starts
+  pub few : length starts ≤ 4294967295
+
 -- a numbering of an index from the given ids, with its dense list
 pub record IsIndexNumbering (count : ℕ)
     (starts references given order numbers : List ℕ) : Type 0 where
   pub roots : List ℕ
   pub are_roots : AreRoots count given roots
-  pub numbering : IsNumbering (index_system starts references) roots order
-  pub dense : AreNumbers order numbers
-  pub long : length numbers ≡ length starts
-  pub few : length starts ≤ 4294967295
+  pub from : IsNumberedFrom starts references roots order numbers
 
 -- a table that was numbered from the given ids, as pruning needs it: the entries are at the offsets
 -- in its body; the order has indices of entries alone, and no more than an encoding counts; the
@@ -105,6 +109,18 @@ pub record IsNumberedTable (input given body offsets order numbers : List ℕ) :
       → ((entries : List PortableType) → AreAtOffsets body entries offsets
       → AppendsKeptTable entries (renumbered numbers) order old new)
       → IsPrunedEncoding input given order old new
+
+-- why an index is not numbered from these roots
+abbrev pub IsRootsNumberingError : List ℕ → List ℕ → List ℕ → PruneError → Type 0
+IsRootsNumberingError starts references roots (Retain (retain.Dangling id)) =
+    IsReached (index_system starts references) roots id × (length starts ≤ id)
+IsRootsNumberingError starts references roots (Retain retain.TooManyTypes) = ⊥
+IsRootsNumberingError starts references roots (Retain retain.Memory) = ⊥
+IsRootsNumberingError starts references roots (Decode e) = ⊥
+IsRootsNumberingError starts references roots Trailing = ⊥
+IsRootsNumberingError starts references roots (NoSuchType id) = ⊥
+IsRootsNumberingError starts references roots (Encode e) = ⊥
+IsRootsNumberingError starts references roots Memory = Unit {0}
 
 -- why an index is not numbered from the given ids
 abbrev pub IsIndexError : ℕ → List ℕ → List ℕ → List ℕ → PruneError → Type 0

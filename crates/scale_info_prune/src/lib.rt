@@ -5,4 +5,5 @@ mod byte_references;
 pub mod laws;
 pub mod prune;
 mod roots;
+pub mod same_types;
 mod table_index;

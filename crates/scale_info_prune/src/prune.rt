@@ -1,8 +1,9 @@
 //! Pruning of a table from bytes to bytes.
-ghost use Rattle.std.specs.Prelude.{◌≡◌, List, ℕ, length, IfOk, IfErr, OnOk, OnErr};
+ghost use Rattle.std.specs.Prelude.{◌≡◌, ◌≤◌, List, ℕ, length, IfOk, IfErr, OnOk, OnErr};
 ghost use Rattle.scale_info_prune.specs.Prunes.{IsIndexError, IsIndexNumbering};
 ghost use Rattle.scale_info_prune.specs.Prunes.{HasNewIds, IsNumberedTable, IsPruneError};
-ghost use Rattle.scale_info_prune.specs.Prunes.{IsPrunedEncoding};
+ghost use Rattle.scale_info_prune.specs.Prunes.{IsNumberedFrom, IsPrunedEncoding};
+ghost use Rattle.scale_info_prune.specs.Prunes.{IsRootsNumberingError};
 ghost use Rattle.scale_info_prune.specs.declared.prune.PruneError.TheVariants as prune_error;
 
 use crate::byte_references::ByteReferences;
@@ -134,11 +135,29 @@ fn number_index(
         Err(RootsError::NoSuchType(id)) => return Err(PruneError::NoSuchType(id)),
         Err(RootsError::Memory) => return Err(PruneError::Memory),
     };
+    match number_from(alloc, index, &roots) {
+        Ok(found) => Ok(found),
+        Err(error) => Err(error),
+    }
+}
+
+/// Numbers what the roots reach, in their order, over the index of a table.
+pub(crate) fn number_from(
+    alloc: Global,
+    index: &EntryIndex,
+    roots: &[u32],
+) -> Result<Renumbering, PruneError>
+    requires { length index.now.starts.items ≤ 4294967295 }
+    ensures ok { IfOk result (λ found. IsNumberedFrom index.now.starts.items
+        index.now.references.items roots.now found.order.items found.numbers.items) }
+    ensures err { IfErr result (IsRootsNumberingError index.now.starts.items
+        index.now.references.items roots.now) }
+{
     let source = ByteReferences {
         starts: &index.starts,
         references: &index.references,
     };
-    match number_references(alloc, &source, &roots) {
+    match number_references(alloc, &source, roots) {
         Ok(found) => Ok(found),
         Err(RetainError::Memory) => Err(PruneError::Memory),
         Err(RetainError::Dangling { id }) => Err(PruneError::Retain(RetainError::Dangling { id })),
