@@ -8,8 +8,8 @@ use Rattle.scale_info_encode.specs.declared.path.Step.TheVariants as step
 use Rattle.scale_info_encode.specs.declared.error.EncodeValueError.{EncodeValueError}
 use Rattle.scale_info_encode.specs.declared.error.EncodeValueError.TheVariants as error
 
--- Why a value has no bytes: an id is no index of the table, values of a type are not encoded, a value
--- is more than 128 deep, or the part to which these steps lead is none of its type.
+-- Why a value has no bytes: an id is no index of the table, values of a type are not encoded, a
+-- value is more than 128 deep, or the part to which these steps lead is none of its type.
 pub data Refusal : Type 0 where
   no_such_type : Refusal
   unsupported : Refusal
@@ -60,8 +60,9 @@ step_to place None = step.Index place
 abbrev pub item : {A : Type 0} → Writer A → ℕ → Writer A
 item write place value = of_part (step.Index place) (write value)
 
--- The values in order from this place on, each by the writer in its place; the first refusal counts.
--- Where there are more values than writers, or fewer, those that have both come first.
+-- The values in order, of which the first has this place, each by the writer in its place; the
+-- first refusal counts. Where there are more values than writers, or fewer, those that have both
+-- come first.
 abbrev pub in_turn : {A : Type 0} → ℕ → List (ℕ → Writer A) → Writer (List A)
 in_turn place [] [] = written []
 in_turn place [] (value ∷ values) = refused mismatch

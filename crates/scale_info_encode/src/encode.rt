@@ -27,23 +27,25 @@ use scale_info_value::variants::variant_with_index;
 
 /// Appends the encoding of a value of the type with this id.
 ///
-/// An id is an index of the table, as for [`PortableRegistry::resolve`]. What is appended is decoded
-/// by `decode_value` as this value, whatever follows it, and a value that `decode_value` gave is
-/// encoded to the bytes that it was decoded from. The parts of a value are encoded in order, and
-/// the first error is returned; where there is one, the output is as it was before the call.
-/// Allocates for the output alone.
+/// An id is an index of the table, as for [`PortableRegistry::resolve`]. What is appended is
+/// decoded by `decode_value` as this value, whatever follows it, and a value that `decode_value`
+/// gave is encoded to the bytes that it was decoded from. The parts of a value are encoded in order,
+/// and the first error is returned; where there is one, the output is as it was before the call.
+/// Allocates for the output, and for the path of a mismatch.
 ///
 /// A value has depth 1, and each part of a value is one deeper than the value; at most 128 is
 /// encoded. The work is bounded by the value and the bytes.
 ///
 /// Errors: `TooDeep`, where a value is more than 128 deep; `NoSuchType`, where an id is no index of
 /// the table; `Unsupported`, where values of a type are not encoded; `Mismatch`, where the value is
-/// none of the type; `Memory`, where an allocation failed.
+/// none of the type, with the [path](crate::path::ValuePath) to the first part that is none of its
+/// own; `Memory`, where an allocation failed.
 ///
 /// With a table that has `Vec<u32>` at index 0, and the list of 1 and 2 as `value`:
 ///
 /// ```text
 /// encode_value(&table, 0, &value, &mut out)?;   // appends [8, 1, 0, 0, 0, 2, 0, 0, 0]
+/// // with `true` in the place of 2 the error is printed as `Mismatch at 1`
 /// ```
 pub fn encode_value(
     table: &PortableRegistry,

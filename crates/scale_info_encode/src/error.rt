@@ -22,9 +22,9 @@ pub enum EncodeValueError {
     #[error("TooDeep")]
     TooDeep,
     /// The value is none of the type, and this is the path to the first part that is none of its
-    /// own. Where a list or a record has too many parts, or too few, that is the list or the record;
-    /// where a field has another name than the type says, the field; where a variant has another
-    /// name or index, the variant.
+    /// own: to the list or the record, where it has too many parts, or too few; to the field, where
+    /// it has another name than the type says; to the variant, where its name and index are those
+    /// of none.
     #[error("Mismatch at {0}")]
     Mismatch(ValuePath),
     /// An allocation failed.

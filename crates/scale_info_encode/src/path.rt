@@ -29,8 +29,9 @@ impl fmt::Display for Step {
 
 /// The path from a value to one of its parts.
 ///
-/// Each step goes one part deeper. A variant takes no step of its own: what it holds are its fields.
-/// The pair of a map is an item of the map, with the key at index 0 and the value at index 1.
+/// Each step goes one part deeper, so a path has at most 127. A variant takes no step of its own:
+/// its parts are its fields. The pair of a map is an item of the map, with the key at index 0 and
+/// the value at index 1.
 ///
 /// It is printed with its steps joined by dots, and as `value` where it has none:
 ///
