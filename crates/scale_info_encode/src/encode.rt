@@ -29,8 +29,9 @@ use scale_info_value::variants::variant_with_index;
 ///
 /// An id is an index of the table, as for [`PortableRegistry::resolve`]. What is appended is
 /// decoded by `decode_value` as this value, whatever follows it, and a value that `decode_value`
-/// gave is encoded to the bytes that it was decoded from. The parts of a value are encoded in order,
-/// and the first error is returned; where there is one, the output is as it was before the call.
+/// gave is encoded to the bytes that it was decoded from. The parts of a value are encoded in
+/// order, and the first error is returned; where there is one, the output is as it was before the
+/// call.
 /// Allocates for the output, and for the path of a mismatch.
 ///
 /// A value has depth 1, and each part of a value is one deeper than the value; at most 128 is
