@@ -5,7 +5,6 @@ pub mod examples;
 pub use scale_info_catalogue::laws::equal_catalogue_errors;
 pub use scale_info_catalogue::laws::equal_register_errors;
 pub use scale_info_encode::laws::equal_encode_errors;
-pub use scale_info_encode::laws::equal_refusals;
 pub use scale_info_encode::laws::never_read;
 pub use scale_info_encode::laws::one_reading;
 pub use scale_info_encode::laws::read_back;

@@ -1,8 +1,10 @@
-//! Values of types that a table describes: decoded, encoded, and taken from JSON.
+//! Values of types that a table describes: decoded, made, encoded, and taken from JSON.
 
 pub use scale_info_encode::encode::encode_value;
-pub use scale_info_encode::error::{EncodeValueError, Refusal};
+pub use scale_info_encode::error::EncodeValueError;
+pub use scale_info_encode::path::{Step, ValuePath};
 pub use scale_info_value::definition::Definitions;
-pub use scale_info_value::value::{Dyn, Failure, ValueError, decode_value};
+pub use scale_info_value::value::{Dyn, Failure, ValueError, decode_value, decode_value_by};
+pub use scale_info_value::variants::variant_index;
 pub use scale_info_value_json::error::{TreeRefusal, ValueJsonError};
 pub use scale_info_value_json::take::from_json;

@@ -1,5 +1,5 @@
 -- Values by the definitions of their types.
-use Rattle.std.proofs.Common.{◌≡◌, ℕ, List, [], ◌∷◌, map, length}
+use Rattle.std.proofs.Common.{◌≡◌, ℕ, ◌+◌, List, [], ◌∷◌, map, length}
 use Rattle.scale_info_types.specs.Portable.{Id, Field, TypeDef}
 use Rattle.scale_info_types.specs.declared.ty.TypeDef.TheVariants as def
 use Rattle.scale_info_types.specs.Shapes.{map_definition, map_field}
@@ -11,12 +11,12 @@ use Rattle.scale_info_value.specs.IntegerDecoders as integers
 use Rattle.scale_info_value.specs.ValueDefinitions as values
 use Rattle.scale_info_value.specs.ValueDefinitions.{Part}
 use Rattle.scale_info_encode.specs.Writers as outcome
-use Rattle.scale_info_encode.specs.Writers.{Writer, written, in_turn}
+use Rattle.scale_info_encode.specs.Writers.{Writer, written, item, in_turn}
 use Rattle.scale_info_encode.specs.IntegerWriters.{count}
 use Rattle.scale_info_encode.specs.DefinitionWriters.{Writers, held, list_in, record_in, fields, items, members}
 use Rattle.scale_info_encode.specs.DefinitionWriters.{pair, pairs, counted, value_by, compact_by, compact_field}
 use Rattle.scale_info_encode.proofs.Inverse.{IsInverse, of_kind, nothing, followed, none_in_turn, one_in_turn}
-use Rattle.scale_info_encode.proofs.Inverse.{repeated, as_many}
+use Rattle.scale_info_encode.proofs.Inverse.{items_at, repeated, as_many}
 use Rattle.scale_info_encode.proofs.NamedParts.{AreInverse, fields_read_back, variants_read_back}
 use Rattle.scale_info_encode.proofs.Primitives.{primitives, compact_primitives}
 use Rattle.scale_info_encode.proofs.Texts.{counts}
@@ -38,31 +38,41 @@ list_read_back read write inverse = of_kind dyn.List list_in read write lists in
 module _ (part : Id → Part) (writers : Id → Writers) (inverse : (r : Id) → AreInverse (part r) (writers r)) where
   -- so many values of one type are read and written
   items_read_back : (r : Id) (n : ℕ) → IsInverse (values.items n (part r)) (items n (writers r))
-  items_read_back r n = repeated n (part r).value (writers r).value (inverse r).value
+  items_read_back r n =
+      repeated n 0 (part r).value (item (writers r).value) (items_at (part r).value (writers r).value (inverse r).value)
+
+  -- values of each type from a place on, in order, are read and written
+  members_from :
+      (place : ℕ) (types : List Id)
+      → IsInverse (values.members (map part types)) (in_turn place (map (λ p. item p.value) (map writers types)))
+  members_from place [] = none_in_turn place
+  members_from place (r ∷ types) =
+      one_in_turn place (part r).value (item (writers r).value) (map (λ p. p.value) (map part types))
+      (map (λ p. item p.value) (map writers types)) (items_at (part r).value (writers r).value (inverse r).value place)
+      (members_from (place + 1) types)
 
   -- values of each type in order are read and written
   members_read_back : (types : List Id) → IsInverse (values.members (map part types)) (members (map writers types))
-  members_read_back [] = none_in_turn
-  members_read_back (r ∷ types) =
-      one_in_turn (part r).value (writers r).value (map (λ p. p.value) (map part types))
-      (map (λ p. p.value) (map writers types)) (inverse r).value (members_read_back types)
+  members_read_back types = members_from 0 types
 
   -- a key and a value are read and written
   pair_read_back :
       (key value : Id) → IsInverse (values.pair (part key) (part value)) (pair (writers key) (writers value))
   pair_read_back key value =
       list_read_back (outcomes.in_turn ((part key).inner ∷ (part value).inner ∷ []))
-      (in_turn ((writers key).inner ∷ (writers value).inner ∷ []))
-      (one_in_turn (part key).inner (writers key).inner ((part value).inner ∷ []) ((writers value).inner ∷ [])
-      (inverse key).inner
-      (one_in_turn (part value).inner (writers value).inner [] [] (inverse value).inner none_in_turn))
+      (in_turn 0 (item (writers key).inner ∷ item (writers value).inner ∷ []))
+      (one_in_turn 0 (part key).inner (item (writers key).inner) ((part value).inner ∷ []) (item (writers value).inner ∷ [])
+      (items_at (part key).inner (writers key).inner (inverse key).inner 0)
+      (one_in_turn 1 (part value).inner (item (writers value).inner) [] []
+      (items_at (part value).inner (writers value).inner (inverse value).inner 1) (none_in_turn 2)))
 
   -- so many keys and values are read and written
   pairs_read_back :
       (key value : Id) (n : ℕ)
       → IsInverse (values.pairs n (part key) (part value)) (pairs n (writers key) (writers value))
   pairs_read_back key value n =
-      repeated n (values.pair (part key) (part value)) (pair (writers key) (writers value)) (pair_read_back key value)
+      repeated n 0 (values.pair (part key) (part value)) (item (pair (writers key) (writers value)))
+      (items_at (values.pair (part key) (part value)) (pair (writers key) (writers value)) (pair_read_back key value))
 
   -- a value of each kind of definition is read and written
   pub values_read_back :
@@ -78,7 +88,7 @@ module _ (part : Id → Part) (writers : Id → Writers) (inverse : (r : Id) →
       let r = d.type_param in
       list_read_back (values.counted (λ n. values.items n (part r))) (counted (λ n. items n (writers r)))
       (counted_read_back (λ n. values.items n (part r)) (λ n. items n (writers r)) (items_read_back r)
-      (λ n all b e. as_many n (writers r).value all b e))
+      (λ n all b e. as_many n 0 (item (writers r).value) all b e))
   values_read_back (def.Array d) =
       let r = d.type_param in
       list_read_back (values.items d.len (part r)) (items d.len (writers r)) (items_read_back r d.len)
@@ -91,7 +101,7 @@ module _ (part : Id → Part) (writers : Id → Writers) (inverse : (r : Id) →
       list_read_back (values.counted (λ n. values.pairs n (part d.key) (part d.value)))
       (counted (λ n. pairs n (writers d.key) (writers d.value)))
       (counted_read_back (λ n. values.pairs n (part d.key) (part d.value)) (λ n. pairs n (writers d.key) (writers d.value))
-      (pairs_read_back d.key d.value) (λ n all b e. as_many n (pair (writers d.key) (writers d.value)) all b e))
+      (pairs_read_back d.key d.value) (λ n all b e. as_many n 0 (item (pair (writers d.key) (writers d.value))) all b e))
 
 module _ (read : Id → Decoder ℕ) (write : Id → Writer Dyn)
     (inverse : (r : Id) → IsInverse (λ input. outcome_map dyn.Unsigned (read r input)) (write r)) where

@@ -1,5 +1,5 @@
 -- Decoders and the writers that are their inverses.
-use Rattle.std.proofs.Common.{◌≡◌, ℕ, zero, suc, List, [], ◌∷◌, ◌++◌, length, replicate, Option, Some, None}
+use Rattle.std.proofs.Common.{◌≡◌, ℕ, zero, suc, ◌+◌, List, [], ◌∷◌, ◌++◌, length, replicate, Option, Some, None}
 use Rattle.std.proofs.Common.{refl, ap, sym, ◌∙◌, append_assoc, subst}
 use Rattle.std.specs.List.{AllByRecursion}
 use Rattle.scale_info_bytes.specs.Encodings.{HasPrefix, IsByte}
@@ -10,8 +10,9 @@ use Rattle.scale_info_value.specs.Outcomes.{Decoder, Outcome, decoded, failed, a
 use Rattle.scale_info_value.specs.Outcomes as outcomes
 use Rattle.scale_info_value.specs.declared.value.Dyn.{Dyn, out-Dyn}
 use Rattle.scale_info_value.specs.declared.value.Dyn.TheOpen.{Dyn-F}
-use Rattle.scale_info_encode.specs.declared.error.Refusal.{Refusal}
-use Rattle.scale_info_encode.specs.Writers.{Written, Writer, written, refused, followed_by, in_turn}
+use Rattle.scale_info_encode.specs.declared.path.Step.{Step}
+use Rattle.scale_info_encode.specs.declared.path.Step.TheVariants as step
+use Rattle.scale_info_encode.specs.Writers.{Refusal, Written, Writer, written, refused, followed_by, of_part, item, in_turn}
 use Rattle.scale_info_encode.specs.DefinitionWriters.{if_found, held}
 use Rattle.scale_info_encode.proofs.ValueKinds.{IsKind}
 
@@ -157,12 +158,34 @@ followed tag read write next more first second tagged = record {
       prefix_map (λ bytes both. whole ∙ joined (write p.0) (more p.0 value) bytes both) (prefix_both q r);
 }
 
+-- a part has the bytes that it has by itself
+part_written : (s : Step) (w : Written) (bytes : List ℕ) → of_part s w ≡ written bytes → w ≡ written bytes
+part_written s (written b) bytes e = e
+part_written s (refused why) bytes e = cc
+
+-- parts, to which steps lead, are read and written as they are by themselves
+pub parts_read_back :
+    {A : Type 0} (to : A → Step) (read : Decoder A) (write : Writer A) → IsInverse read write
+    → IsInverse read (λ value. of_part (to value) (write value))
+parts_read_back to read write inverse = record {
+  back = λ value bytes rest e. inverse.back value bytes rest (part_written (to value) (write value) bytes e);
+  forth = λ input value rest all e.
+      let q = inverse.forth input value rest all e in
+      record { encoding = q.encoding; encodes = ap (of_part (to value)) q.encodes; parts = q.parts };
+}
+
+-- so are items
+pub items_at :
+    {A : Type 0} (read : Decoder A) (write : Writer A) → IsInverse read write → (place : ℕ)
+    → IsInverse read (item write place)
+items_at read write inverse place = parts_read_back (λ value. step.Index place) read write inverse
+
 -- no decoder and no writer
-pub none_in_turn : {A : Type 0} → IsInverse {A = List A} (outcomes.in_turn []) (in_turn [])
-none_in_turn {A} = record { back = back; forth = forth }
+pub none_in_turn : {A : Type 0} (place : ℕ) → IsInverse {A = List A} (outcomes.in_turn []) (in_turn place [])
+none_in_turn {A} place = record { back = back; forth = forth }
   where
     back :
-        (values : List A) (bytes rest : List ℕ) → in_turn [] values ≡ written bytes
+        (values : List A) (bytes rest : List ℕ) → in_turn place [] values ≡ written bytes
         → outcomes.in_turn [] (bytes ++ rest) ≡ decoded values rest
     back [] bytes rest e = let none : [] ≡ bytes = cc in ap (λ b. decoded [] (b ++ rest)) (sym none)
     back (value ∷ values) bytes rest e = cc
@@ -170,23 +193,24 @@ none_in_turn {A} = record { back = back; forth = forth }
     forth :
         (input : List ℕ) (values : List A) (rest : List ℕ) → AllByRecursion IsByte input
         → outcomes.in_turn [] input ≡ decoded values rest
-        → HasPrefix (λ bytes. in_turn [] values ≡ written bytes) input rest
+        → HasPrefix (λ bytes. in_turn place [] values ≡ written bytes) input rest
     forth input [] rest all e = let same : input ≡ rest = cc in record { encoding = []; encodes = refl; parts = same }
     forth input (value ∷ values) rest all e = cc
 
 -- one decoder and its writer, and then others
 pub one_in_turn :
-    {A : Type 0} (first : Decoder A) (write : Writer A) (more : List (Decoder A)) (writers : List (Writer A))
-    → IsInverse first write → IsInverse (outcomes.in_turn more) (in_turn writers)
-    → IsInverse (outcomes.in_turn (first ∷ more)) (in_turn (write ∷ writers))
-one_in_turn {A} first write more writers one others = record { back = back; forth = forth }
+    {A : Type 0} (place : ℕ) (first : Decoder A) (write : ℕ → Writer A) (more : List (Decoder A))
+    (writers : List (ℕ → Writer A)) → IsInverse first (write place)
+    → IsInverse (outcomes.in_turn more) (in_turn (place + 1) writers)
+    → IsInverse (outcomes.in_turn (first ∷ more)) (in_turn place (write ∷ writers))
+one_in_turn {A} place first write more writers one others = record { back = back; forth = forth }
   where
     back :
-        (values : List A) (bytes rest : List ℕ) → in_turn (write ∷ writers) values ≡ written bytes
+        (values : List A) (bytes rest : List ℕ) → in_turn place (write ∷ writers) values ≡ written bytes
         → outcomes.in_turn (first ∷ more) (bytes ++ rest) ≡ decoded values rest
     back [] bytes rest e = cc
     back (value ∷ values) bytes rest e =
-        let p = parted (write value) (in_turn writers values) bytes e in
+        let p = parted (write place value) (in_turn (place + 1) writers values) bytes e in
         let whole : bytes ++ rest ≡ p.0 ++ (p.1 ++ rest) = ap (λ b. b ++ rest) p.4 ∙ append_assoc p.0 p.1 rest in
         ap (outcomes.in_turn (first ∷ more)) whole
         ∙ ap (λ o. and_then o (λ v r. outcome_map (λ vs. v ∷ vs) (outcomes.in_turn more r)))
@@ -196,31 +220,33 @@ one_in_turn {A} first write more writers one others = record { back = back; fort
     forth :
         (input : List ℕ) (values : List A) (rest : List ℕ) → AllByRecursion IsByte input
         → outcomes.in_turn (first ∷ more) input ≡ decoded values rest
-        → HasPrefix (λ bytes. in_turn (write ∷ writers) values ≡ written bytes) input rest
+        → HasPrefix (λ bytes. in_turn place (write ∷ writers) values ≡ written bytes) input rest
     forth input values rest all e =
         let p = sequenced (first input) (λ v r. outcome_map (λ vs. v ∷ vs) (outcomes.in_turn more r)) values rest e in
         let u = unmapped (λ vs. p.0 ∷ vs) (outcomes.in_turn more p.1) values rest p.3 in
         let q = one.forth input p.0 p.1 all p.2 in
         let left = rest_bytes q.encoding p.1 (subst (AllByRecursion IsByte) q.parts all) in
         let r = others.forth p.1 u.0 rest left u.1 in
-        let whole = ap (in_turn (write ∷ writers)) (sym u.2) in
-        prefix_map (λ bytes both. whole ∙ joined (write p.0) (in_turn writers u.0) bytes both) (prefix_both q r)
+        let whole = ap (in_turn place (write ∷ writers)) (sym u.2) in
+        prefix_map (λ bytes both. whole ∙ joined (write place p.0) (in_turn (place + 1) writers u.0) bytes both)
+        (prefix_both q r)
 
 -- so many decoders and writers of one kind
 pub repeated :
-    {A : Type 0} (n : ℕ) (read : Decoder A) (write : Writer A) → IsInverse read write
-    → IsInverse (outcomes.in_turn (replicate n read)) (in_turn (replicate n write))
-repeated zero read write one = none_in_turn
-repeated (suc n) read write one =
-    one_in_turn read write (replicate n read) (replicate n write) one (repeated n read write one)
+    {A : Type 0} (n place : ℕ) (read : Decoder A) (write : ℕ → Writer A) → ((k : ℕ) → IsInverse read (write k))
+    → IsInverse (outcomes.in_turn (replicate n read)) (in_turn place (replicate n write))
+repeated zero place read write one = none_in_turn place
+repeated (suc n) place read write one =
+    one_in_turn place read write (replicate n read) (replicate n write) (one place)
+    (repeated n (place + 1) read write one)
 
 -- as many values are written as there are writers
 pub as_many :
-    {A : Type 0} (n : ℕ) (write : Writer A) (values : List A) (bytes : List ℕ)
-    → in_turn (replicate n write) values ≡ written bytes → length values ≡ n
-as_many zero write [] bytes e = refl
-as_many zero write (value ∷ values) bytes e = cc
-as_many (suc n) write [] bytes e = cc
-as_many (suc n) write (value ∷ values) bytes e =
-    let p = parted (write value) (in_turn (replicate n write) values) bytes e in
-    ap suc (as_many n write values p.1 p.3)
+    {A : Type 0} (n place : ℕ) (write : ℕ → Writer A) (values : List A) (bytes : List ℕ)
+    → in_turn place (replicate n write) values ≡ written bytes → length values ≡ n
+as_many zero place write [] bytes e = refl
+as_many zero place write (value ∷ values) bytes e = cc
+as_many (suc n) place write [] bytes e = cc
+as_many (suc n) place write (value ∷ values) bytes e =
+    let p = parted (write place value) (in_turn (place + 1) (replicate n write) values) bytes e in
+    ap suc (as_many n (place + 1) write values p.1 p.3)

@@ -11,8 +11,7 @@ use Rattle.scale_info_value.specs.Outcomes as outcomes
 use Rattle.scale_info_value.specs.ValueDefinitions.{Part}
 use Rattle.scale_info_value.specs.Readings as readings
 use Rattle.scale_info_value.specs.Readings.{type_at, reading}
-use Rattle.scale_info_encode.specs.declared.error.Refusal.{Refusal}
-use Rattle.scale_info_encode.specs.Writers.{Writer, written, refused, no_such_type, too_deep}
+use Rattle.scale_info_encode.specs.Writers.{Refusal, Writer, written, refused, no_such_type, too_deep}
 use Rattle.scale_info_encode.specs.DefinitionWriters.{Writers}
 use Rattle.scale_info_encode.specs.Writings.{compact_by_type, compact_within, value_by_type, value_within, writing}
 use Rattle.scale_info_encode.proofs.Definitions.{values_read_back, compacts_read_back}

@@ -14,3 +14,4 @@ pub mod Texts
 pub mod ValueKinds
 pub mod Widths
 pub mod Pruned
+mod EqualErrors

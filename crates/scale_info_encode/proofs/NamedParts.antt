@@ -1,5 +1,5 @@
 -- Fields and variants.
-use Rattle.std.proofs.Common.{◌≡◌, ℕ, ◌==◌, Bool, true, false, List, [], ◌∷◌, ◌++◌, map, find, cond}
+use Rattle.std.proofs.Common.{◌≡◌, ℕ, ◌+◌, ◌==◌, Bool, true, false, List, [], ◌∷◌, ◌++◌, map, find, cond}
 use Rattle.std.proofs.Common.{Option, Some, None, option_map, refl, ap, sym, ◌∙◌}
 use Rattle.std.proofs.lemmas.Slice.Eq.{bytes_eq-Decides}
 use Rattle.std.specs.Prelude.{if◌then◌else◌}
@@ -16,9 +16,9 @@ use Rattle.scale_info_value.specs.declared.value.Dyn.TheVariants as dyn
 use Rattle.scale_info_value.specs.Outcomes.{Decoder, decoded, outcome_map}
 use Rattle.scale_info_value.specs.ValueDefinitions as values
 use Rattle.scale_info_value.specs.ValueDefinitions.{Part}
-use Rattle.scale_info_encode.specs.Writers.{Writer, written, refused, mismatch, followed_by}
+use Rattle.scale_info_encode.specs.Writers.{Writer, written, refused, mismatch, followed_by, step_to, in_turn}
 use Rattle.scale_info_encode.specs.DefinitionWriters.{Writers, held, field, fields, fields_of, chosen_variant, variant_in}
-use Rattle.scale_info_encode.proofs.Inverse.{IsInverse, by_kind, unmapped, parted, none_in_turn, one_in_turn}
+use Rattle.scale_info_encode.proofs.Inverse.{IsInverse, by_kind, unmapped, parted, parts_read_back, none_in_turn, one_in_turn}
 use Rattle.scale_info_encode.proofs.ValueKinds.{Chosen, chosen, variants}
 
 -- The decoders and the writers that a reference stands for are inverse to one another. Those of
@@ -86,15 +86,25 @@ module _ (part : Id → Part) (writers : Id → Writers) (inverse : (r : Id) →
   abbrev written_variant : Variant → AnyVariant (Unit {0}) Writers Text
   written_variant v = map_variant writers (λ t. t) v
 
+  -- the fields from a place on, in order, are read and written
+  fields_from :
+      (place : ℕ) (all : List Field)
+      → IsInverse (values.fields (map read_field all)) (in_turn place (map field (map written_field all)))
+  fields_from place [] = none_in_turn place
+  fields_from place (f ∷ all) =
+      let name = option_map (λ t. t) f.name in
+      one_in_turn place (values.field (read_field f)) (field (written_field f)) (map values.field (map read_field all))
+      (map field (map written_field all))
+      (parts_read_back (λ (named : Option Text × Dyn). step_to place named.0)
+      (λ input. outcome_map (λ value. (name, value)) ((part f.ty).value input))
+      (λ (named : Option Text × Dyn). if option_eq bytes_eq name named.0 then (writers f.ty).value named.1 else refused mismatch)
+      (under_name name (part f.ty).value (writers f.ty).value (inverse f.ty).value))
+      (fields_from (place + 1) all)
+
   -- the fields in order are read and written
   pub fields_read_back :
       (all : List Field) → IsInverse (values.fields (map read_field all)) (fields (map written_field all))
-  fields_read_back [] = none_in_turn
-  fields_read_back (f ∷ all) =
-      one_in_turn (values.field (read_field f)) (field (written_field f)) (map values.field (map read_field all))
-      (map field (map written_field all))
-      (under_name (option_map (λ t. t) f.name) (part f.ty).value (writers f.ty).value (inverse f.ty).value)
-      (fields_read_back all)
+  fields_read_back all = fields_from 0 all
 
   -- the first variant with an index, by its decoders and by its writers
   Alike : Option (AnyVariant (Unit {0}) Part Text) → Option (AnyVariant (Unit {0}) Writers Text) → Type 0

@@ -5,11 +5,10 @@ use Rattle.std.specs.Prelude.{IfErr, OnOk, OnErr}
 use Rattle.std.specs.Result.{IsErrAnd}
 use Rattle.std.proofs.lemmas.List.{append-nil}
 use Rattle.scale_info_bytes.specs.Encodings.{IsPrefix}
-use Rattle.scale_info_encode.specs.declared.error.Refusal.{Refusal}
-use Rattle.scale_info_encode.specs.declared.error.Refusal.TheVariants as refusal
 use Rattle.scale_info_encode.specs.declared.error.EncodeValueError.{EncodeValueError}
 use Rattle.scale_info_encode.specs.declared.error.EncodeValueError.TheVariants as error
-use Rattle.scale_info_encode.specs.Writers.{Written, written, refused, followed_by, Appends, IsErrorOf, error_of}
+use Rattle.scale_info_encode.specs.declared.path.Step.{Step}
+use Rattle.scale_info_encode.specs.Writers.{Written, written, refused, followed_by, of_part, Appends, IsErrorOf}
 
 -- of a whole some bytes were appended, and this is left to be written
 pub record SoFar (whole left : Written) (old new : List ℕ) : Type 0 where
@@ -63,7 +62,7 @@ pub fails :
 fails whole left old new error.NoSuchType s h = s.is ∙ ap (followed_by (written s.done)) h
 fails whole left old new error.Unsupported s h = s.is ∙ ap (followed_by (written s.done)) h
 fails whole left old new error.TooDeep s h = s.is ∙ ap (followed_by (written s.done)) h
-fails whole left old new error.Mismatch s h = s.is ∙ ap (followed_by (written s.done)) h
+fails whole left old new (error.Mismatch path) s h = s.is ∙ ap (followed_by (written s.done)) h
 fails whole left old new error.Memory s h = tt
 
 -- an error of the first is one of both
@@ -72,8 +71,20 @@ pub first_fails :
 first_fails first more error.NoSuchType h = ap (λ w. followed_by w more) h
 first_fails first more error.Unsupported h = ap (λ w. followed_by w more) h
 first_fails first more error.TooDeep h = ap (λ w. followed_by w more) h
-first_fails first more error.Mismatch h = ap (λ w. followed_by w more) h
+first_fails first more (error.Mismatch path) h = ap (λ w. followed_by w more) h
 first_fails first more error.Memory h = tt
+
+-- an error of the next is one of the whole
+pub next_fails :
+    (whole left first more : Written) (old new : List ℕ) (e : EncodeValueError) → SoFar whole left old new
+    → left ≡ followed_by first more → IsErrorOf first e → IsErrorOf whole e
+next_fails whole left first more old new e s next h =
+    fails whole left old new e s (subst (λ w. IsErrorOf w e) (sym next) (first_fails first more e h))
+
+-- what was appended of a part by itself was appended of it as a part
+pub part_appended : (s : Step) (w : Written) (old new : List ℕ) → Appends w old new → Appends (of_part s w) old new
+part_appended s w old new a =
+    record { encoding = a.encoding; encodes = ap (of_part s) a.encodes; parts = a.parts }
 
 -- what was there is kept
 pub keeps : (whole left : Written) (old mid new : List ℕ) → SoFar whole left old mid → IsPrefix mid new → IsPrefix old new
@@ -99,19 +110,6 @@ pub passed :
     → IsErrorOf whole e → IfErr r (IsErrorOf whole)
 passed (Ok x) e whole h p = tt
 passed (Err d) e whole h p = subst (IsErrorOf whole) (sym h) p
-
--- a refusal is the error that it becomes
-refused_as : (whole : Written) (why : Refusal) → whole ≡ refused why → IsErrorOf whole (error_of why)
-refused_as whole refusal.NoSuchType e = e
-refused_as whole refusal.Unsupported e = e
-refused_as whole refusal.TooDeep e = e
-refused_as whole refusal.Mismatch e = e
-
--- a refusal that is passed on as an error
-pub passed_as :
-    {X : Type 0} (r : Result X EncodeValueError) (why : Refusal) (whole : Written)
-    → IsErrAnd r (λ d. d ≡ error_of why) → whole ≡ refused why → IfErr r (IsErrorOf whole)
-passed_as r why whole h e = passed r (error_of why) whole h (refused_as whole why e)
 
 module _ {X : Type 0} (r : Result X EncodeValueError) (whole first second : Written) (old mid new : List ℕ)
     (e : whole ≡ followed_by first second) (a : Appends first old mid) where

@@ -1,7 +1,8 @@
 -- One level of a writing.
 use Rattle.std.proofs.Common.{◌≡◌, ℕ, zero, suc, ◌-◌, ◌≤◌, ◌==◌, Bool, true, false, List, [], ◌∷◌, map, find, cond}
-use Rattle.std.proofs.Common.{length, Option, Some, None, option_map, refl, ap, sym, ◌∙◌, arith}
+use Rattle.std.proofs.Common.{length, drop, get_or, ◌+◌, Option, Some, None, option_map, refl, ap, sym, ◌∙◌, arith}
 use Rattle.std.specs.Prelude.{if◌then◌else◌}
+use Rattle.std.specs.Option.{option_eq}
 use Rattle.std.specs.Str.{bytes_eq}
 use Rattle.scale_info_types.specs.Portable.{Id, Text, Field, Variant, Description, TypeDefComposite}
 use Rattle.scale_info_types.specs.Portable.{TypeDefTuple, TypeDefSequence, TypeDefMap, TypeDefVariant}
@@ -13,13 +14,15 @@ use Rattle.scale_info_value.specs.declared.value.Dyn.{Dyn}
 use Rattle.scale_info_value.specs.declared.value.Dyn.TheVariants as dyn
 use Rattle.scale_info_value.specs.Readings.{type_at}
 use Rattle.scale_info_encode.specs.Writers.{written, refused, too_deep, no_such_type, mismatch, followed_by}
+use Rattle.scale_info_encode.specs.Writers.{of_part, step_to, item, in_turn}
 use Rattle.scale_info_encode.specs.IntegerWriters.{count}
 use Rattle.scale_info_encode.specs.DefinitionWriters.{Writers, record_in, list_in, variant_in}
-use Rattle.scale_info_encode.specs.DefinitionWriters.{counted, fields, fields_of, chosen_variant}
+use Rattle.scale_info_encode.specs.DefinitionWriters.{counted, field, fields, fields_of, chosen_variant}
 use Rattle.scale_info_encode.specs.Writings.{compact_by_type, value_by_type, compact_within, value_within}
 use Rattle.scale_info_encode.specs.Writings.{definition_within, compact_definition_within, fields_within, items_within}
-use Rattle.scale_info_encode.specs.Writings.{members_within, pairs_within, part_within}
+use Rattle.scale_info_encode.specs.Writings.{members_within, pairs_within, pair_within, part_within}
 use Rattle.scale_info_encode.proofs.Appending.{is_held}
+use Rattle.scale_info_encode.proofs.InTurn.{first_in_turn}
 use Rattle.scale_info_encode.proofs.ValueKinds.{records, lists, variants, chosen}
 
 -- where no level is left, a value is too deep, and so is a compact integer
@@ -121,6 +124,52 @@ module _ (left : ℕ) (table : PortableRegistry) where
   map_is map value values found is e =
       is_held dyn.List list_in (counted (pairs_within left table map.key map.value)) lists value values is
       ∙ ap (counted (pairs_within left table map.key map.value)) (sym e)
+
+  -- the first of a key and a value, and the other
+  pub pair_is :
+      (key value : Id) (entry : Dyn) (inner : ℕ) (values found : List Dyn) (first : Dyn) → entry ≡ dyn.List values
+      → found ≡ values → inner ≡ left - 2 → 1 ≤ length found → first ≡ get_or found 0 first
+      → pair_within left table key value entry
+      ≡ followed_by (item (value_within inner table key.id) 0 first)
+      (in_turn 1 (item (value_within inner table value.id) ∷ []) (drop 1 found))
+  pair_is key value entry inner values found first is e levels long at =
+      is_held dyn.List list_in
+      (in_turn 0 (item (value_within (left - 2) table key.id) ∷ item (value_within (left - 2) table value.id) ∷ []))
+      lists entry values is
+      ∙ (λ i. in_turn 0 (item (value_within (sym levels i) table key.id) ∷ item (value_within (sym levels i) table value.id) ∷ [])
+      (sym e i))
+      ∙ first_in_turn 0 (item (value_within inner table key.id)) (item (value_within inner table value.id) ∷ []) found first
+      long at
+
+  -- a name is itself
+  own_name : (name : Option Text) → option_map (λ t. t) name ≡ name
+  own_name None = refl
+  own_name (Some t) = refl
+
+  -- a field by the test of its name
+  field_is :
+      (f : Field) (place : ℕ) (named : Option Text × Dyn) (test : Bool) → option_eq bytes_eq f.name named.0 ≡ test
+      → field (map_field {G = Unit {0}} (part_within left table) (λ t. t) f) place named
+      ≡ of_part (step_to place named.0) (if test then value_within (left - 1) table f.ty.id named.1 else refused mismatch)
+  field_is f place named test e =
+      ap (λ o. of_part (step_to place named.0)
+      (if option_eq bytes_eq o named.0 then value_within (left - 1) table f.ty.id named.1 else refused mismatch)) (own_name f.name)
+      ∙ ap (λ t. of_part (step_to place named.0)
+      (if t then value_within (left - 1) table f.ty.id named.1 else refused mismatch)) e
+
+  -- a field under its name
+  pub field_named :
+      (f : Field) (place : ℕ) (named : Option Text × Dyn) → option_eq bytes_eq f.name named.0 ≡ true
+      → field (map_field {G = Unit {0}} (part_within left table) (λ t. t) f) place named
+      ≡ of_part (step_to place named.0) (value_within (left - 1) table f.ty.id named.1)
+  field_named f place named e = field_is f place named true e
+
+  -- a field under another name
+  pub field_misnamed :
+      (f : Field) (place : ℕ) (named : Option Text × Dyn) → option_eq bytes_eq f.name named.0 ≡ false
+      → field (map_field {G = Unit {0}} (part_within left table) (λ t. t) f) place named
+      ≡ of_part (step_to place named.0) (refused mismatch)
+  field_misnamed f place named e = field_is f place named false e
 
   -- a variant whose types stand for their writers
   abbrev written_variant : Variant → AnyVariant (Unit {0}) Writers Text

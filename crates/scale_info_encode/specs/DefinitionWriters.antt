@@ -15,7 +15,7 @@ use Rattle.scale_info_value.specs.declared.value.Dyn.{Dyn, out-Dyn}
 use Rattle.scale_info_value.specs.declared.value.Dyn.TheOpen.{Dyn-F}
 use Rattle.scale_info_value.specs.declared.value.Dyn.TheOpen as layer
 use Rattle.scale_info_encode.specs.Writers.{Writer, written, refused, mismatch, unsupported}
-use Rattle.scale_info_encode.specs.Writers.{if_fits, followed_by, in_turn}
+use Rattle.scale_info_encode.specs.Writers.{if_fits, followed_by, of_part, step_to, item, in_turn}
 use Rattle.scale_info_encode.specs.IntegerWriters.{compact_below, count, is_signed_of}
 
 -- In a definition each reference stands for its writers: of a value one deeper than the value that
@@ -106,21 +106,22 @@ primitive kind.I256 value = refused unsupported
 
 -- so many values of one type
 abbrev pub items : ℕ → Writers → Writer (List Dyn)
-items n part values = in_turn (replicate n part.value) values
+items n part values = in_turn 0 (replicate n (item part.value)) values
 
 -- a value of each type in order
 abbrev pub members : List Writers → Writer (List Dyn)
-members parts values = in_turn (map (λ part. part.value) parts) values
+members parts values = in_turn 0 (map (λ part. item part.value) parts) values
 
--- a field's value, under the field's name
-abbrev pub field : {F : Type 0} → Field F Writers Text → Writer (Option Text × Dyn)
-field f named =
-    if option_eq bytes_eq f.name named.0 then f.ty.value named.1 else refused mismatch
+-- the value of a field at its place, under the field's name; the value's own name leads to it
+abbrev pub field : {F : Type 0} → Field F Writers Text → ℕ → Writer (Option Text × Dyn)
+field f place named =
+    of_part (step_to place named.0)
+    (if option_eq bytes_eq f.name named.0 then f.ty.value named.1 else refused mismatch)
 
 -- the fields in order
 abbrev pub fields :
     {F : Type 0} → List (Field F Writers Text) → Writer (List (Option Text × Dyn))
-fields all values = in_turn (map field all) values
+fields all values = in_turn 0 (map field all) values
 
 -- the fields of the variant, which is to have this name
 abbrev pub fields_of :
@@ -138,11 +139,11 @@ chosen_variant all chosen =
 
 -- a key and a value, two deeper than the map
 abbrev pub pair : Writers → Writers → Writer Dyn
-pair key value entry = held list_in (in_turn (key.inner ∷ value.inner ∷ [])) entry
+pair key value entry = held list_in (in_turn 0 (item key.inner ∷ item value.inner ∷ [])) entry
 
 -- so many pairs
 abbrev pub pairs : ℕ → Writers → Writers → Writer (List Dyn)
-pairs n key value entries = in_turn (replicate n (pair key value)) entries
+pairs n key value entries = in_turn 0 (replicate n (item (pair key value))) entries
 
 -- how many they are, and then they
 abbrev pub counted : (ℕ → Writer (List Dyn)) → Writer (List Dyn)

@@ -8,6 +8,7 @@ ghost use Rattle.scale_info_encode.specs.Writings.{compact_within, compact_defin
 use crate::definition::definition_of;
 use crate::error::EncodeValueError;
 use crate::integer::compact;
+use crate::path::here;
 use scale_info_tables::portable::PortableRegistry;
 use scale_info_types::form::PortableForm;
 use scale_info_types::ty::{TypeDef, TypeDefPrimitive};
@@ -23,7 +24,7 @@ fn compact_up_to(most: u128, value: &Dyn, out: &mut Vec<u8>) -> Result<(), Encod
 {
     match value {
         Dyn::Unsigned(n) if *n <= most => compact(*n, out),
-        _ => Err(EncodeValueError::Mismatch),
+        _ => Err(EncodeValueError::Mismatch(here(out))),
     }
 }
 

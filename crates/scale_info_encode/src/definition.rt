@@ -1,11 +1,11 @@
 //! The definitions that ids stand for.
 ghost use Rattle.std.specs.Prelude.{◌≡◌, ◌≤◌, IfOk, IfErr};
 ghost use Rattle.scale_info_value.specs.declared.value.Dyn.{Dyn};
-ghost use Rattle.scale_info_encode.specs.Writers.{refused};
+ghost use Rattle.scale_info_encode.specs.Writers.{IsErrorOf};
 ghost use Rattle.scale_info_encode.specs.Writings.{value_within, compact_within};
 ghost use Rattle.scale_info_encode.specs.Writings.{definition_within, compact_definition_within};
 
-use crate::error::Refusal;
+use crate::error::EncodeValueError;
 use scale_info_tables::portable::PortableRegistry;
 use scale_info_types::form::PortableForm;
 use scale_info_types::ty::TypeDef;
@@ -18,22 +18,22 @@ pub fn definition_of(
     table: &PortableRegistry,
     id: u32,
     left: u8,
-) -> Result<&TypeDef<PortableForm>, Refusal>
+) -> Result<&TypeDef<PortableForm>, EncodeValueError>
     ensures level { IfOk result (λ _. 1 ≤ left) }
     ensures known { IfOk result (λ found. (value : Dyn)
         → (value_within left table.now id value
         ≡ definition_within left table.now found.now value)
         × (compact_within left table.now id value
         ≡ compact_definition_within left table.now found.now value)) }
-    ensures unknown { IfErr result (λ why. (value : Dyn)
-        → (value_within left table.now id value ≡ refused why)
-        × (compact_within left table.now id value ≡ refused why)) }
+    ensures unknown { IfErr result (λ e. (value : Dyn)
+        → IsErrorOf (value_within left table.now id value) e
+        × IsErrorOf (compact_within left table.now id value) e) }
 {
     if left == 0 {
-        return Err(Refusal::TooDeep);
+        return Err(EncodeValueError::TooDeep);
     }
     match table.resolve(id) {
-        None => Err(Refusal::NoSuchType),
+        None => Err(EncodeValueError::NoSuchType),
         Some(ty) => Ok(&ty.type_def),
     }
 }

@@ -2,7 +2,7 @@
 ghost use Rattle.std.specs.Prelude.{◌≡◌, ◌≤◌, IfErr, OnOk, OnErr, length, replicate};
 ghost use Rattle.scale_info_bytes.specs.Encodings.{IsPrefix};
 ghost use Rattle.scale_info_types.specs.declared.ty.TypeDef.TheVariants as def;
-ghost use Rattle.scale_info_encode.specs.Writers.{Appends, IsErrorOf, in_turn};
+ghost use Rattle.scale_info_encode.specs.Writers.{Appends, IsErrorOf, item, in_turn};
 ghost use Rattle.scale_info_encode.specs.Writings.{value_within, definition_within, fields_within};
 ghost use Rattle.scale_info_encode.specs.Writings.{items_within, members_within, pair_within};
 ghost use Rattle.scale_info_encode.specs.Writings.{pairs_within, writing};
@@ -11,6 +11,7 @@ use crate::compact::compact_within;
 use crate::definition::definition_of;
 use crate::error::EncodeValueError;
 use crate::integer::count;
+use crate::path::here;
 use crate::primitive::primitive;
 use scale_info_collections::text::Text;
 use scale_info_identities::symbol::UntrackedSymbol;
@@ -26,23 +27,26 @@ use scale_info_value::variants::variant_with_index;
 
 /// Appends the encoding of a value of the type with this id.
 ///
-/// An id is an index of the table, as for [`PortableRegistry::resolve`]. What is appended is decoded
-/// by `decode_value` as this value, whatever follows it, and a value that `decode_value` gave is
-/// encoded to the bytes that it was decoded from. The parts of a value are encoded in order, and
-/// the first error is returned; where there is one, the output is as it was before the call.
-/// Allocates for the output alone.
+/// An id is an index of the table, as for [`PortableRegistry::resolve`]. What is appended is
+/// decoded by `decode_value` as this value, whatever follows it, and a value that `decode_value`
+/// gave is encoded to the bytes that it was decoded from. The parts of a value are encoded in
+/// order, and the first error is returned; where there is one, the output is as it was before the
+/// call.
+/// Allocates for the output, and for the path of a mismatch.
 ///
 /// A value has depth 1, and each part of a value is one deeper than the value; at most 128 is
 /// encoded. The work is bounded by the value and the bytes.
 ///
 /// Errors: `TooDeep`, where a value is more than 128 deep; `NoSuchType`, where an id is no index of
 /// the table; `Unsupported`, where values of a type are not encoded; `Mismatch`, where the value is
-/// none of the type; `Memory`, where an allocation failed.
+/// none of the type, with the [path](crate::path::ValuePath) to the first part that is none of its
+/// own; `Memory`, where an allocation failed.
 ///
 /// With a table that has `Vec<u32>` at index 0, and the list of 1 and 2 as `value`:
 ///
 /// ```text
 /// encode_value(&table, 0, &value, &mut out)?;   // appends [8, 1, 0, 0, 0, 2, 0, 0, 0]
+/// // with `true` in the place of 2 the error is printed as `Mismatch at 1`
 /// ```
 pub fn encode_value(
     table: &PortableRegistry,
@@ -147,7 +151,7 @@ fn composite_value(
                 out,
             )
         }
-        _ => Err(EncodeValueError::Mismatch),
+        _ => Err(EncodeValueError::Mismatch(here(out))),
     }
 }
 
@@ -175,21 +179,22 @@ fn variant_value(
         fields: values,
     } = value
     else {
-        return Err(EncodeValueError::Mismatch);
+        return Err(EncodeValueError::Mismatch(here(out)));
     };
-    match variant_with_index(choice.variants.as_slice(), *index) {
-        Some(variant) if variant.name == *name => {
-            out.push(*index)?;
-            fields(
-                table,
-                variant.fields.as_slice(),
-                left,
-                values.as_slice(),
-                out,
-            )
-        }
-        _ => Err(EncodeValueError::Mismatch),
+    let Some(variant) = variant_with_index(choice.variants.as_slice(), *index) else {
+        return Err(EncodeValueError::Mismatch(here(out)));
+    };
+    if variant.name != *name {
+        return Err(EncodeValueError::Mismatch(here(out)));
     }
+    out.push(*index)?;
+    fields(
+        table,
+        variant.fields.as_slice(),
+        left,
+        values.as_slice(),
+        out,
+    )
 }
 
 /// Appends a value of a sequence.
@@ -216,7 +221,7 @@ fn sequence_value(
             count(values.len(), out)?;
             items(table, &sequence.type_param, values.len(), left, values, out)
         }
-        _ => Err(EncodeValueError::Mismatch),
+        _ => Err(EncodeValueError::Mismatch(here(out))),
     }
 }
 
@@ -250,7 +255,7 @@ fn array_value(
                 out,
             )
         }
-        _ => Err(EncodeValueError::Mismatch),
+        _ => Err(EncodeValueError::Mismatch(here(out))),
     }
 }
 
@@ -276,9 +281,12 @@ fn items(
         return Ok(());
     }
     if count == 0 || values.is_empty() {
-        return Err(EncodeValueError::Mismatch);
+        return Err(EncodeValueError::Mismatch(here(out)));
     }
-    let definition = definition_of(table, ty.id, left - 1)?;
+    let definition = match definition_of(table, ty.id, left - 1) {
+        Ok(definition) => definition,
+        Err(error) => return Err(error.of_whole(&None, 0)),
+    };
     items_by(table, definition, count, left - 1, values, out)
 }
 
@@ -295,22 +303,26 @@ fn items_by(
 ) -> Result<(), EncodeValueError>
     requires { 1 ≤ left }
     ensures ok { OnOk result (Appends
-        (in_turn (replicate count (definition_within left table.now definition.now)) values.now)
+        (in_turn 0 (replicate count (item (definition_within left table.now definition.now)))
+        values.now)
         out.old.items out.new.items) }
     ensures err { IfErr result (IsErrorOf
-        (in_turn (replicate count (definition_within left table.now definition.now)) values.now)) }
+        (in_turn 0 (replicate count (item (definition_within left table.now definition.now)))
+        values.now)) }
     ensures kept { OnErr result (IsPrefix out.old.items out.new.items) }
 {
     let mut rest = values;
-    for _ in 0..count {
+    for place in 0..count {
         let [value, more @ ..] = rest else {
-            return Err(EncodeValueError::Mismatch);
+            return Err(EncodeValueError::Mismatch(here(out)));
         };
-        value_by(table, definition, left, value, out)?;
+        if let Err(error) = value_by(table, definition, left, value, out) {
+            return Err(error.of_whole(&None, place));
+        }
         rest = more;
     }
     if !rest.is_empty() {
-        return Err(EncodeValueError::Mismatch);
+        return Err(EncodeValueError::Mismatch(here(out)));
     }
     Ok(())
 }
@@ -337,7 +349,7 @@ fn tuple_value(
         Dyn::List(values) => {
             members(table, tuple.fields.as_slice(), left, values.as_slice(), out)
         }
-        _ => Err(EncodeValueError::Mismatch),
+        _ => Err(EncodeValueError::Mismatch(here(out))),
     }
 }
 
@@ -359,15 +371,17 @@ fn members(
     ensures kept { OnErr result (IsPrefix out.old.items out.new.items) }
 {
     let mut rest = values;
-    for ty in types {
+    for (place, ty) in types.iter().enumerate() {
         let [value, more @ ..] = rest else {
-            return Err(EncodeValueError::Mismatch);
+            return Err(EncodeValueError::Mismatch(here(out)));
         };
-        value_within(table, ty.id, left - 1, value, out)?;
+        if let Err(error) = value_within(table, ty.id, left - 1, value, out) {
+            return Err(error.of_whole(&None, place));
+        }
         rest = more;
     }
     if !rest.is_empty() {
-        return Err(EncodeValueError::Mismatch);
+        return Err(EncodeValueError::Mismatch(here(out)));
     }
     Ok(())
 }
@@ -389,18 +403,21 @@ fn fields(
     ensures kept { OnErr result (IsPrefix out.old.items out.new.items) }
 {
     let mut rest = values;
-    for field in all {
+    for (place, field) in all.iter().enumerate() {
         let [named, more @ ..] = rest else {
-            return Err(EncodeValueError::Mismatch);
+            return Err(EncodeValueError::Mismatch(here(out)));
         };
         if field.name != named.0 {
-            return Err(EncodeValueError::Mismatch);
+            let error = EncodeValueError::Mismatch(here(out));
+            return Err(error.of_whole(&named.0, place));
         }
-        value_within(table, field.ty.id, left - 1, &named.1, out)?;
+        if let Err(error) = value_within(table, field.ty.id, left - 1, &named.1, out) {
+            return Err(error.of_whole(&named.0, place));
+        }
         rest = more;
     }
     if !rest.is_empty() {
-        return Err(EncodeValueError::Mismatch);
+        return Err(EncodeValueError::Mismatch(here(out)));
     }
     Ok(())
 }
@@ -429,7 +446,7 @@ fn map_value(
             count(entries.len(), out)?;
             pairs(table, &map.key, &map.value, left, entries, out)
         }
-        _ => Err(EncodeValueError::Mismatch),
+        _ => Err(EncodeValueError::Mismatch(here(out))),
     }
 }
 
@@ -452,8 +469,10 @@ fn pairs(
         (pairs_within left table.now key.now value.now (length entries.now) entries.now)) }
     ensures kept { OnErr result (IsPrefix out.old.items out.new.items) }
 {
-    for entry in entries {
-        pair(table, key, value, left, entry, out)?;
+    for (place, entry) in entries.iter().enumerate() {
+        if let Err(error) = pair(table, key, value, left, entry, out) {
+            return Err(error.of_whole(&None, place));
+        }
     }
     Ok(())
 }
@@ -477,19 +496,23 @@ fn pair(
     ensures kept { OnErr result (IsPrefix out.old.items out.new.items) }
 {
     let Dyn::List(both) = entry else {
-        return Err(EncodeValueError::Mismatch);
+        return Err(EncodeValueError::Mismatch(here(out)));
     };
     let inner = left.saturating_sub(2);
     let [first, more @ ..] = both.as_slice() else {
-        return Err(EncodeValueError::Mismatch);
+        return Err(EncodeValueError::Mismatch(here(out)));
     };
-    value_within(table, key.id, inner, first, out)?;
+    if let Err(error) = value_within(table, key.id, inner, first, out) {
+        return Err(error.of_whole(&None, 0));
+    }
     let [second, more @ ..] = more else {
-        return Err(EncodeValueError::Mismatch);
+        return Err(EncodeValueError::Mismatch(here(out)));
     };
-    value_within(table, value.id, inner, second, out)?;
+    if let Err(error) = value_within(table, value.id, inner, second, out) {
+        return Err(error.of_whole(&None, 1));
+    }
     if !more.is_empty() {
-        return Err(EncodeValueError::Mismatch);
+        return Err(EncodeValueError::Mismatch(here(out)));
     }
     Ok(())
 }

@@ -1,28 +1,12 @@
 //! Why a value could not be encoded.
 ghost use Rattle.std.specs.Prelude.{◌≡◌};
 ghost use Rattle.scale_info_encode.specs.declared.error.EncodeValueError.TheVariants as error;
-ghost use Rattle.scale_info_encode.specs.Writers.{error_of};
+ghost use Rattle.scale_info_encode.specs.Writers.{Written, IsErrorOf, of_part, step_to};
 
+use crate::path::ValuePath;
+use scale_info_collections::text::Text;
 use std::alloc::{AllocError, AllocFailed};
 use thiserror::Error;
-
-/// Why a value has no encoding by a type.
-#[derive(Clone, Copy, Debug, PartialEq, Eq, Error)]
-pub enum Refusal {
-    /// An id is no index of the table.
-    #[error("NoSuchType")]
-    NoSuchType,
-    /// A type whose values are not encoded: `char`, `u256`, `i256`, bit sequences, and compact
-    /// types that are no unsigned integer of up to 128 bits.
-    #[error("Unsupported")]
-    Unsupported,
-    /// A value more than 128 deep.
-    #[error("TooDeep")]
-    TooDeep,
-    /// The value is none of the type.
-    #[error("Mismatch")]
-    Mismatch,
-}
 
 /// Why a value could not be encoded.
 #[derive(Debug, Drop, PartialEq, Eq, Error)]
@@ -37,23 +21,32 @@ pub enum EncodeValueError {
     /// A value more than 128 deep.
     #[error("TooDeep")]
     TooDeep,
-    /// The value is none of the type.
-    #[error("Mismatch")]
-    Mismatch,
+    /// The value is none of the type, and this is the path to the first part that is none of its
+    /// own: to the list or the record, where it has too many parts, or too few; to the field, where
+    /// it has another name than the type says; to the variant, where its name and index are those
+    /// of none.
+    #[error("Mismatch at {0}")]
+    Mismatch(ValuePath),
     /// An allocation failed.
     #[error("Memory")]
     Memory,
 }
 
-impl From<Refusal> for EncodeValueError {
-    ghost from_gives = { λ why e. e ≡ error_of why };
-
-    fn from(why: Refusal) -> EncodeValueError {
-        match why {
-            Refusal::NoSuchType => EncodeValueError::NoSuchType,
-            Refusal::Unsupported => EncodeValueError::Unsupported,
-            Refusal::TooDeep => EncodeValueError::TooDeep,
-            Refusal::Mismatch => EncodeValueError::Mismatch,
+impl EncodeValueError {
+    /// The error of a part as one of the whole, where this is the part's index, and its name, if it
+    /// has one.
+    #[cold]
+    #[inline(never)]
+    pub(crate) fn of_whole(self, name: &Option<Text>, index: usize) -> EncodeValueError
+        ensures { (outcome : Written) → IsErrorOf outcome self
+            → IsErrorOf (of_part (step_to index name.now) outcome) result }
+    {
+        match self {
+            EncodeValueError::Mismatch(path) => match path.from_whole(name, index) {
+                Ok(path) => EncodeValueError::Mismatch(path),
+                Err(_) => EncodeValueError::Memory,
+            },
+            other => other,
         }
     }
 }

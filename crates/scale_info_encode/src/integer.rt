@@ -7,6 +7,7 @@ ghost use Rattle.scale_info_encode.specs.IntegerWriters.{count};
 ghost use Rattle.scale_info_encode.specs.DefinitionWriters.{unsigned, signed};
 
 use crate::error::EncodeValueError;
+use crate::path::here;
 use scale_info_bytes::integer::encode_compact;
 use scale_info_value::integer::{IntegerWidth, little_endian, with_sign};
 use std::alloc::AllocError;
@@ -22,7 +23,7 @@ pub fn unsigned(width: IntegerWidth, n: u128, out: &mut Vec<u8>) -> Result<(), E
     let all = n.to_le_bytes();
     let (low, _) = all.split_at(width.bytes());
     if little_endian(low) != n {
-        return Err(EncodeValueError::Mismatch);
+        return Err(EncodeValueError::Mismatch(here(out)));
     }
     Ok(out.extend_from_slice(low)?)
 }
@@ -37,7 +38,7 @@ pub fn signed(width: IntegerWidth, n: i128, out: &mut Vec<u8>) -> Result<(), Enc
     let all = n.to_le_bytes();
     let (low, _) = all.split_at(width.bytes());
     if with_sign(width, little_endian(low)) != n {
-        return Err(EncodeValueError::Mismatch);
+        return Err(EncodeValueError::Mismatch(here(out)));
     }
     Ok(out.extend_from_slice(low)?)
 }
@@ -94,7 +95,7 @@ pub fn count(items: usize, out: &mut Vec<u8>) -> Result<(), EncodeValueError>
     ensures same { OnErr result (out.new.items ≡ out.old.items) }
 {
     if items > 4294967295 {
-        return Err(EncodeValueError::Mismatch);
+        return Err(EncodeValueError::Mismatch(here(out)));
     }
     Ok(encode_compact(out, items as u32)?)
 }

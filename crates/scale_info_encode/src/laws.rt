@@ -11,11 +11,10 @@ ghost use Rattle.scale_info_value.specs.declared.value.Dyn.{Dyn};
 ghost use Rattle.scale_info_value.specs.Outcomes.{decoded};
 ghost use Rattle.scale_info_value.specs.Readings.{reading};
 ghost use Rattle.scale_info_encode.specs.declared.error.EncodeValueError as errors;
-ghost use Rattle.scale_info_encode.specs.declared.error.Refusal as refusals;
-ghost use Rattle.scale_info_encode.specs.Writers.{written, refused};
+ghost use Rattle.scale_info_encode.specs.Writers.{Refusal, written, refused};
 ghost use Rattle.scale_info_encode.specs.Writings.{writing};
 
-use crate::error::{EncodeValueError, Refusal};
+use crate::error::EncodeValueError;
 
 pub mod examples;
 
@@ -44,7 +43,7 @@ pub fn one_reading()
 
 /// A value that has no encoding, whatever the reason, is decoded from no input.
 pub fn never_read()
-    ensures { (table : PortableRegistry) (id depth : ℕ) (value : Dyn) (why : refusals.Refusal)
+    ensures { (table : PortableRegistry) (id depth : ℕ) (value : Dyn) (why : Refusal)
         (input rest : List ℕ) → writing table id depth value ≡ refused why
         → AllByRecursion IsByte input → reading table id depth input ≡ decoded value rest → ⊥ }
 {}
@@ -68,10 +67,4 @@ pub fn writes_alike()
 pub fn equal_encode_errors()
     ensures { (a b : errors.EncodeValueError)
         → IsTrue (⟦<EncodeValueError as PartialEq>⟧.eq a b) ↔ (a ≡ b) }
-{}
-
-/// Refusals of values are equal exactly where they are one value.
-pub fn equal_refusals()
-    ensures { (a b : refusals.Refusal)
-        → IsTrue (⟦<Refusal as PartialEq>⟧.eq a b) ↔ (a ≡ b) }
 {}

@@ -10,4 +10,5 @@ pub mod encode;
 pub mod error;
 mod integer;
 pub mod laws;
+pub mod path;
 mod primitive;

@@ -8,6 +8,7 @@ ghost use Rattle.scale_info_encode.specs.DefinitionWriters.{text, primitive};
 
 use crate::error::EncodeValueError;
 use crate::integer::{signed, unsigned};
+use crate::path::here;
 use scale_info_bytes::error::EncodeError;
 use scale_info_bytes::text::encode_text;
 use scale_info_types::ty::TypeDefPrimitive;
@@ -23,7 +24,7 @@ fn truth(value: &Dyn, out: &mut Vec<u8>) -> Result<(), EncodeValueError>
 {
     match value {
         Dyn::Bool(truth) => Ok(out.push(*truth as u8)?),
-        _ => Err(EncodeValueError::Mismatch),
+        _ => Err(EncodeValueError::Mismatch(here(out))),
     }
 }
 
@@ -42,7 +43,7 @@ fn unsigned_value(
 {
     match value {
         Dyn::Unsigned(n) => unsigned(width, *n, out),
-        _ => Err(EncodeValueError::Mismatch),
+        _ => Err(EncodeValueError::Mismatch(here(out))),
     }
 }
 
@@ -56,7 +57,7 @@ fn signed_value(width: IntegerWidth, value: &Dyn, out: &mut Vec<u8>) -> Result<(
 {
     match value {
         Dyn::Signed(n) => signed(width, *n, out),
-        _ => Err(EncodeValueError::Mismatch),
+        _ => Err(EncodeValueError::Mismatch(here(out))),
     }
 }
 
@@ -69,10 +70,10 @@ fn text(value: &Dyn, out: &mut Vec<u8>) -> Result<(), EncodeValueError>
     match value {
         Dyn::Text(chars) => match encode_text(out, chars.as_str()) {
             Ok(()) => Ok(()),
-            Err(EncodeError::TooLong) => Err(EncodeValueError::Mismatch),
+            Err(EncodeError::TooLong) => Err(EncodeValueError::Mismatch(here(out))),
             Err(EncodeError::Memory) => Err(EncodeValueError::Memory),
         },
-        _ => Err(EncodeValueError::Mismatch),
+        _ => Err(EncodeValueError::Mismatch(here(out))),
     }
 }
 

@@ -5,3 +5,4 @@ pub mod IntegerWidths
 pub mod Outcomes
 pub mod PrimitiveValues
 pub mod Readings
+pub mod BuiltValues

@@ -3,7 +3,7 @@ ghost use Rattle.std.specs.Prelude.{◌≡◌};
 ghost use Rattle.scale_info_value.specs.declared.value.ValueError.TheVariants as error;
 ghost use Rattle.scale_info_value.specs.Outcomes.{error_of};
 
-pub use crate::decode::decode_value;
+pub use crate::decode::{decode_value, decode_value_by};
 use scale_info_collections::items::Items;
 use scale_info_collections::text::Text;
 use std::alloc::{AllocError, AllocFailed};

@@ -1,5 +1,5 @@
 -- What is taken from trees has an encoding.
-use Rattle.std.proofs.Common.{◌≡◌, ℕ, zero, suc, ◌*◌, ◌-◌, ◌<◌, ◌≤◌, ◌^◌, ◌==◌, ◌&&◌, Bool, true, false, List, [], ◌∷◌, ◌++◌, map, length, replicate, find}
+use Rattle.std.proofs.Common.{◌≡◌, ℕ, zero, suc, ◌+◌, ◌*◌, ◌-◌, ◌<◌, ◌≤◌, ◌^◌, ◌==◌, ◌&&◌, Bool, true, false, List, [], ◌∷◌, ◌++◌, map, length, replicate, find}
 use Rattle.std.proofs.Common.{Option, Some, None, option_map, refl, ap, sym, ◌∙◌, subst, arith}
 use Rattle.std.proofs.lemmas.Bool.{and_parts, lt-ltb, ltb-true, eqb-true}
 use Rattle.std.proofs.lemmas.Slice.Eq.{bytes_eq-Decides}
@@ -22,7 +22,9 @@ use Rattle.scale_info_value.specs.declared.value.Dyn.TheVariants as dyn
 use Rattle.scale_info_value.specs.Outcomes.{decoded}
 use Rattle.scale_info_value.specs.Readings.{type_at, reading}
 use Rattle.scale_info_encode.specs.Writers as writing
-use Rattle.scale_info_encode.specs.Writers.{Written, Writer, written, refused, if_fits, followed_by}
+use Rattle.scale_info_encode.specs.declared.path.Step.{Step}
+use Rattle.scale_info_encode.specs.declared.path.Step.TheVariants as step
+use Rattle.scale_info_encode.specs.Writers.{Written, Writer, written, refused, if_fits, followed_by, of_part, step_to, item}
 use Rattle.scale_info_encode.specs.IntegerWriters.{count, compact_bytes, is_signed_of}
 use Rattle.scale_info_encode.specs.DefinitionWriters as writers
 use Rattle.scale_info_encode.specs.DefinitionWriters.{Writers, held, if_found as if_held, list_in as list_held, record_in, unsigned_in, signed_in, truth_in, text_in, variant_in as variant_held}
@@ -94,6 +96,14 @@ follow first second a b =
       bytes = a.bytes ++ b.bytes;
       is = (λ i. followed_by (a.is i) (b.is i));
     }
+
+-- a part is written as it is by itself
+part_has : (s : Step) (w : Written) → HasBytes w → HasBytes (of_part s w)
+part_has s w h = record { bytes = h.bytes; is = ap (of_part s) h.is }
+
+-- items are written at each place
+items_written : {A : Type 0} (take : Taker A) (write : Writer A) → AreWritten take write → (place : ℕ) → AreWritten take (item write place)
+items_written take write one place tree value e = part_has (step.Index place) (write value) (one tree value e)
 
 -- a value of a kind is written by what it holds
 hold :
@@ -211,47 +221,53 @@ compact_primitives_written _ = λ tree value e. cc
 
 -- what is taken in turn is written in turn
 one_written :
-    {A : Type 0} (first : Taker A) (write : Writer A) (more : List (Taker A)) (writes : List (Writer A))
-    → AreWritten first write → ((trees : List Data) → IsWrittenAs (writing.in_turn writes) (in_turn more trees))
-    → (trees : List Data) → IsWrittenAs (writing.in_turn (write ∷ writes)) (in_turn (first ∷ more) trees)
-one_written first write more writes one others [] values e = cc
-one_written first write more writes one others (tree ∷ trees) values e =
+    {A : Type 0} (place : ℕ) (first : Taker A) (write : ℕ → Writer A) (more : List (Taker A)) (writes : List (ℕ → Writer A))
+    → AreWritten first (write place)
+    → ((trees : List Data) → IsWrittenAs (writing.in_turn (place + 1) writes) (in_turn more trees))
+    → (trees : List Data) → IsWrittenAs (writing.in_turn place (write ∷ writes)) (in_turn (first ∷ more) trees)
+one_written place first write more writes one others [] values e = cc
+one_written place first write more writes one others (tree ∷ trees) values e =
     let p = both_parts (first tree) (in_turn more trees) values e in
-    subst (λ vs. HasBytes (writing.in_turn (write ∷ writes) vs)) p.4
-    (follow (write p.0) (writing.in_turn writes p.1) (one tree p.0 p.2) (others trees p.1 p.3))
+    subst (λ vs. HasBytes (writing.in_turn place (write ∷ writes) vs)) p.4
+    (follow (write place p.0) (writing.in_turn (place + 1) writes p.1) (one tree p.0 p.2) (others trees p.1 p.3))
 
 -- nothing in turn
-no_more_written : {A : Type 0} (trees : List Data) → IsWrittenAs {A = List A} (writing.in_turn []) (in_turn [] trees)
-no_more_written [] values e = let none : [] ≡ values = cc in record { bytes = []; is = ap (writing.in_turn []) (sym none) }
-no_more_written (tree ∷ trees) values e = cc
+no_more_written :
+    {A : Type 0} (place : ℕ) (trees : List Data) → IsWrittenAs {A = List A} (writing.in_turn place []) (in_turn [] trees)
+no_more_written place [] values e =
+    let none : [] ≡ values = cc in record { bytes = []; is = ap (writing.in_turn place []) (sym none) }
+no_more_written place (tree ∷ trees) values e = cc
 
 -- what is taken of each tree is written, and there are as many
 each_written :
-    (take : Taker Dyn) (write : Writer Dyn) → AreWritten take write → (trees : List Data) (values : List Dyn)
-    → each take trees ≡ taken values
-    → HasBytes (writing.in_turn (replicate (length values) write) values) × (length trees ≡ length values)
-each_written take write one [] values e =
+    (place : ℕ) (take : Taker Dyn) (write : ℕ → Writer Dyn) → ((k : ℕ) → AreWritten take (write k))
+    → (trees : List Data) (values : List Dyn) → each take trees ≡ taken values
+    → HasBytes (writing.in_turn place (replicate (length values) write) values) × (length trees ≡ length values)
+each_written place take write one [] values e =
     let none : [] ≡ values = cc in
-    subst (λ vs. HasBytes (writing.in_turn (replicate (length vs) write) vs) × (0 ≡ length vs)) none
+    subst (λ vs. HasBytes (writing.in_turn place (replicate (length vs) write) vs) × (0 ≡ length vs)) none
     (record { bytes = []; is = refl }, refl)
-each_written take write one (tree ∷ trees) values e =
+each_written place take write one (tree ∷ trees) values e =
     let p = both_parts (take tree) (each take trees) values e in
-    let rest = each_written take write one trees p.1 p.3 in
-    subst (λ vs. HasBytes (writing.in_turn (replicate (length vs) write) vs) × (suc (length trees) ≡ length vs)) p.4
-    (follow (write p.0) (writing.in_turn (replicate (length p.1) write) p.1) (one tree p.0 p.2) rest.0, ap suc rest.1)
+    let rest = each_written (place + 1) take write one trees p.1 p.3 in
+    subst (λ vs. HasBytes (writing.in_turn place (replicate (length vs) write) vs) × (suc (length trees) ≡ length vs)) p.4 (
+      follow (write place p.0) (writing.in_turn (place + 1) (replicate (length p.1) write) p.1) (one place tree p.0 p.2) rest.0,
+      ap suc rest.1,
+    )
 
 -- a counted list is written
 counted_written :
     (take : Taker Dyn) (write : Writer Dyn) → AreWritten take write → (o : Option (List Data)) (value : Dyn)
     → taken_map dyn.List (if_found o (counted has_count take)) ≡ taken value
-    → HasBytes (held list_held (writers.counted (λ n values. writing.in_turn (replicate n write) values)) value)
+    → HasBytes (held list_held (writers.counted (λ n values. writing.in_turn 0 (replicate n (item write)) values)) value)
 counted_written take write one o value e =
     let p = mapped_parts dyn.List (if_found o (counted has_count take)) value e in
     let q = found_parts o (counted has_count take) p.0 p.1 in
     let r = tested (has_count (length q.0)) (each take q.0) p.0 q.2 in
-    let s = each_written take write one q.0 p.0 r.1 in
-    hold dyn.List list_held (writers.counted (λ n values. writing.in_turn (replicate n write) values)) lists value p.0 p.2
-    (follow (count (length p.0)) (writing.in_turn (replicate (length p.0) write) p.0)
+    let s = each_written 0 take (item write) (items_written take write one) q.0 p.0 r.1 in
+    hold dyn.List list_held (writers.counted (λ n values. writing.in_turn 0 (replicate n (item write)) values)) lists value
+    p.0 p.2
+    (follow (count (length p.0)) (writing.in_turn 0 (replicate (length p.0) (item write)) p.0)
     (fits (nat_lt (length p.0) (2 ^ 32)) (compact_bytes (length p.0)) (ap has_count (sym s.1) ∙ r.0)) s.0)
 
 -- ---- parts
@@ -276,41 +292,48 @@ module _ (takers_of : Id → Takers) (writers_of : Id → Writers) (part : (r : 
   abbrev written_field : Field → AnyField (Unit {0}) Writers Text
   written_field f = map_field writers_of (λ t. t) f
 
-  -- a field is written under its name
-  field_written : (f : Field) → AreWritten (takers.field (taken_field f)) (writers.field (written_field f))
-  field_written f tree named e =
+  -- a field is written under its name, at each place
+  field_written :
+      (f : Field) (place : ℕ) → AreWritten (takers.field (taken_field f)) (writers.field (written_field f) place)
+  field_written f place tree named e =
       let name = option_map (λ (t : Text). t) f.name in
       let p = mapped_parts (λ (v : Dyn). (name, v)) ((takers_of f.ty).value tree) named e in
-      let h = (part f.ty).value tree p.0 p.1 in
+      let h = part_has (step_to place name) ((writers_of f.ty).value p.0) ((part f.ty).value tree p.0 p.1) in
       record {
         bytes = h.bytes;
         is =
-            ap (writers.field (written_field f)) (sym p.2)
-            ∙ ap (λ (t : Bool). if t then (writers_of f.ty).value p.0 else refused writing.mismatch) (same_name name)
+            ap (writers.field (written_field f) place) (sym p.2)
+            ∙ ap (λ (t : Bool). of_part (step_to place name) (if t then (writers_of f.ty).value p.0 else refused writing.mismatch))
+            (same_name name)
             ∙ h.is;
       }
 
+  -- the fields from this place on
+  abbrev written_from : ℕ → List Field → Writer (List (Option Text × Dyn))
+  written_from place all values = writing.in_turn place (map writers.field (map written_field all)) values
+
   -- fields from an array are written
   array_written :
-      (all : List Field) (trees : List Data)
-      → IsWrittenAs (writers.fields (map written_field all)) (in_turn (map takers.field (map taken_field all)) trees)
-  array_written [] = no_more_written
-  array_written (f ∷ all) =
-      one_written (takers.field (taken_field f)) (writers.field (written_field f)) (map takers.field (map taken_field all))
-      (map writers.field (map written_field all)) (field_written f) (array_written all)
+      (place : ℕ) (all : List Field) (trees : List Data)
+      → IsWrittenAs (written_from place all) (in_turn (map takers.field (map taken_field all)) trees)
+  array_written place [] = no_more_written place
+  array_written place (f ∷ all) =
+      one_written place (takers.field (taken_field f)) (writers.field (written_field f))
+      (map takers.field (map taken_field all)) (map writers.field (map written_field all)) (field_written f place)
+      (array_written (place + 1) all)
 
   -- fields from an object are written
   members_written :
-      (all : List Field) (tree : Data)
-      → IsWrittenAs (writers.fields (map written_field all)) (all_taken (map (named_field tree) (map taken_field all)))
-  members_written [] tree values e =
-      let none : [] ≡ values = cc in record { bytes = []; is = ap (writing.in_turn []) (sym none) }
-  members_written (f ∷ all) tree values e =
+      (place : ℕ) (all : List Field) (tree : Data)
+      → IsWrittenAs (written_from place all) (all_taken (map (named_field tree) (map taken_field all)))
+  members_written place [] tree values e =
+      let none : [] ≡ values = cc in record { bytes = []; is = ap (writing.in_turn place []) (sym none) }
+  members_written place (f ∷ all) tree values e =
       let p = both_parts (named_field tree (taken_field f)) (all_taken (map (named_field tree) (map taken_field all))) values e in
       let q = found_parts (member_in (option_map (λ t. t) f.name) tree) (takers.field (taken_field f)) p.0 p.2 in
-      subst (λ vs. HasBytes (writers.fields (map written_field (f ∷ all)) vs)) p.4
-      (follow (writers.field (written_field f) p.0) (writers.fields (map written_field all) p.1) (field_written f q.0 p.0 q.2)
-      (members_written all tree p.1 p.3))
+      subst (λ vs. HasBytes (written_from place (f ∷ all) vs)) p.4
+      (follow (writers.field (written_field f) place p.0) (written_from (place + 1) all p.1)
+      (field_written f place q.0 p.0 q.2) (members_written (place + 1) all tree p.1 p.3))
 
   -- fields are written
   fields_written :
@@ -323,21 +346,22 @@ module _ (takers_of : Id → Takers) (writers_of : Id → Writers) (part : (r : 
           else if_found (items_in tree) (in_turn (map takers.field (map taken_field all)))) ≡ taken values
           → HasBytes (writers.fields (map written_field all) values)
       by_names true h =
-          members_written all tree values
+          members_written 0 all tree values
           (tested (has_members (length (map taken_field all)) tree) (all_taken (map (named_field tree) (map taken_field all))) values h).1
       by_names false h =
           let p = found_parts (items_in tree) (in_turn (map takers.field (map taken_field all))) values h in
-          array_written all p.0 values p.2
+          array_written 0 all p.0 values p.2
 
   -- items of each type in order are written
   members_in_turn :
-      (types : List Id) (trees : List Data)
-      → IsWrittenAs (writing.in_turn (map (λ p. p.value) (map writers_of types)))
+      (place : ℕ) (types : List Id) (trees : List Data)
+      → IsWrittenAs (writing.in_turn place (map (λ p. item p.value) (map writers_of types)))
       (in_turn (map (λ p. p.value) (map takers_of types)) trees)
-  members_in_turn [] = no_more_written
-  members_in_turn (r ∷ types) =
-      one_written (takers_of r).value (writers_of r).value (map (λ p. p.value) (map takers_of types))
-      (map (λ p. p.value) (map writers_of types)) (part r).value (members_in_turn types)
+  members_in_turn place [] = no_more_written place
+  members_in_turn place (r ∷ types) =
+      one_written place (takers_of r).value (item (writers_of r).value) (map (λ p. p.value) (map takers_of types))
+      (map (λ p. item p.value) (map writers_of types))
+      (items_written (takers_of r).value (writers_of r).value (part r).value place) (members_in_turn (place + 1) types)
 
   -- a list of items in an array is written
   listed_written :
@@ -352,10 +376,11 @@ module _ (takers_of : Id → Takers) (writers_of : Id → Writers) (part : (r : 
   pair_written : (key value : Id) → AreWritten (takers.pair (takers_of key) (takers_of value)) (writers.pair (writers_of key) (writers_of value))
   pair_written key value =
       listed_written (in_turn ((takers_of key).inner ∷ (takers_of value).inner ∷ []))
-      (writing.in_turn ((writers_of key).inner ∷ (writers_of value).inner ∷ []))
-      (one_written (takers_of key).inner (writers_of key).inner ((takers_of value).inner ∷ []) ((writers_of value).inner ∷ [])
-      (part key).inner
-      (one_written (takers_of value).inner (writers_of value).inner [] [] (part value).inner no_more_written))
+      (writing.in_turn 0 (item (writers_of key).inner ∷ item (writers_of value).inner ∷ []))
+      (one_written 0 (takers_of key).inner (item (writers_of key).inner) ((takers_of value).inner ∷ [])
+      (item (writers_of value).inner ∷ []) (items_written (takers_of key).inner (writers_of key).inner (part key).inner 0)
+      (one_written 1 (takers_of value).inner (item (writers_of value).inner) [] []
+      (items_written (takers_of value).inner (writers_of value).inner (part value).inner 1) (no_more_written 2)))
 
   -- an array is written
   array_of_written :
@@ -366,10 +391,11 @@ module _ (takers_of : Id → Takers) (writers_of : Id → Writers) (part : (r : 
       let p = mapped_parts dyn.List (if_found o (counted (λ n. n == len) take)) value e in
       let q = found_parts o (counted (λ n. n == len) take) p.0 p.1 in
       let t = tested (length q.0 == len) (each take q.0) p.0 q.2 in
-      let s = each_written take (writers_of r).value (part r).value q.0 p.0 t.1 in
+      let write = (writers_of r).value in
+      let s = each_written 0 take (item write) (items_written take write (part r).value) q.0 p.0 t.1 in
       let long : length p.0 ≡ len = sym s.1 ∙ eqb-true (length q.0) len t.0 in
       hold dyn.List list_held (writers.items len (writers_of r)) lists value p.0 p.2
-      (subst (λ n. HasBytes (writing.in_turn (replicate n (writers_of r).value) p.0)) long s.0)
+      (subst (λ n. HasBytes (writing.in_turn 0 (replicate n (item write)) p.0)) long s.0)
 
   -- fields of a variant are written
   variant_fields_written :
@@ -378,7 +404,7 @@ module _ (takers_of : Id → Takers) (writers_of : Id → Writers) (part : (r : 
   variant_fields_written [] content values e =
       let p = tested (is_nothing content) (taken []) values e in
       let none : [] ≡ values = let h = p.1 in cc in
-      record { bytes = []; is = ap (writing.in_turn []) (sym none) }
+      record { bytes = []; is = ap (writing.in_turn 0 []) (sym none) }
   variant_fields_written (f ∷ all) content values e =
       let p = found_parts content (takers.fields (map taken_field (f ∷ all))) values e in
       fields_written (f ∷ all) p.0 values p.2
@@ -438,7 +464,7 @@ module _ (takers_of : Id → Takers) (writers_of : Id → Writers) (part : (r : 
   values_written (def.Array d) tree value e = array_of_written d.type_param d.len tree value e
   values_written (def.Tuple d) tree value e =
       listed_written (in_turn (map (λ p. p.value) (map takers_of d.fields))) (writers.members (map writers_of d.fields))
-      (members_in_turn d.fields) tree value e
+      (members_in_turn 0 d.fields) tree value e
   values_written (def.Primitive p) tree value e = primitives_written p tree value e
   values_written (def.Compact d) tree value e = (part d.type_param).compact tree value e
   values_written (def.BitSequence d) tree value e = cc

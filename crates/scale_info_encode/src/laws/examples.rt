@@ -8,8 +8,9 @@ ghost use Rattle.scale_info_value.specs.ValueExamples.{table_of, list_of_u32, ow
 ghost use Rattle.scale_info_value.specs.ValueExamples.{compact_of, compact_of_wrapped};
 ghost use Rattle.scale_info_value.specs.ValueExamples.{array_of_missing, map_of_u32_to_bool};
 ghost use Rattle.scale_info_value.specs.ValueExamples.{named_fields, equal_indices, map_of_maps};
-ghost use Rattle.scale_info_encode.specs.Writers.{written, refused, mismatch, too_deep};
-ghost use Rattle.scale_info_encode.specs.Writers.{no_such_type, unsupported};
+ghost use Rattle.scale_info_encode.specs.declared.path.Step.TheVariants as step;
+ghost use Rattle.scale_info_encode.specs.Writers.{written, refused, mismatch, mismatch_at};
+ghost use Rattle.scale_info_encode.specs.Writers.{no_such_type, unsupported, too_deep};
 ghost use Rattle.scale_info_encode.specs.Writings.{writing};
 
 /// A list of `u32` of two items; of one item that is no `u32`; a value that is no list; and an id
@@ -19,7 +20,7 @@ pub fn lists()
     ensures two { writing list_of_u32 0 1 (dyn.List (dyn.Unsigned 1 ∷ dyn.Unsigned 2 ∷ []))
         ≡ written (8 ∷ 1 ∷ 0 ∷ 0 ∷ 0 ∷ 2 ∷ 0 ∷ 0 ∷ 0 ∷ []) }
     ensures wide { writing list_of_u32 0 1 (dyn.List (dyn.Unsigned 4294967296 ∷ []))
-        ≡ refused mismatch }
+        ≡ refused (mismatch_at (step.Index 0 ∷ [])) }
     ensures other_kind { writing list_of_u32 0 1 (dyn.Unsigned 1) ≡ refused mismatch }
     ensures outside { writing list_of_u32 2 1 (dyn.List []) ≡ refused no_such_type }
     ensures missing { writing (array_of_missing 0) 0 1 (dyn.List []) ≡ written [] }
@@ -68,15 +69,18 @@ pub fn integers()
         ≡ refused mismatch }
 {}
 
-/// Fields stand under the names of their types, and of two variants with one index the first is
-/// taken.
+/// Fields stand under the names of their types, the first that does not is refused by its name, and
+/// of two variants with one index the first is taken.
 pub fn fields()
     ensures named { writing named_fields 0 1 (dyn.Record
         ((Some (codes "a"), dyn.Unsigned 7) ∷ (Some (codes "b"), dyn.Bool true) ∷ []))
         ≡ written (7 ∷ 1 ∷ []) }
     ensures other_name { writing named_fields 0 1 (dyn.Record
         ((Some (codes "a"), dyn.Unsigned 7) ∷ (Some (codes "c"), dyn.Bool true) ∷ []))
-        ≡ refused mismatch }
+        ≡ refused (mismatch_at (step.Field (codes "c") ∷ [])) }
+    ensures first_mismatch { writing named_fields 0 1 (dyn.Record
+        ((Some (codes "a"), dyn.Bool true) ∷ (Some (codes "b"), dyn.Unsigned 7) ∷ []))
+        ≡ refused (mismatch_at (step.Field (codes "a") ∷ [])) }
     ensures too_few { writing named_fields 0 1 (dyn.Record
         ((Some (codes "a"), dyn.Unsigned 7) ∷ [])) ≡ refused mismatch }
     ensures first { writing equal_indices 0 1 (dyn.Variant (codes "A") 3 []) ≡ written (3 ∷ []) }
@@ -105,9 +109,14 @@ pub fn maps()
     ensures deeper { writing map_of_u32_to_bool 0 127
         (dyn.List (dyn.List (dyn.Unsigned 7 ∷ dyn.Bool true ∷ []) ∷ [])) ≡ refused too_deep }
     ensures no_pair { writing map_of_u32_to_bool 0 1
-        (dyn.List (dyn.List (dyn.Unsigned 7 ∷ []) ∷ [])) ≡ refused mismatch }
+        (dyn.List (dyn.List (dyn.Unsigned 7 ∷ []) ∷ []))
+        ≡ refused (mismatch_at (step.Index 0 ∷ [])) }
     ensures empty { writing map_of_u32_to_bool 0 128 (dyn.List []) ≡ written (0 ∷ []) }
     ensures nested { writing map_of_maps 0 1 (dyn.List (dyn.List (dyn.Unsigned 5
         ∷ dyn.List (dyn.List (dyn.Unsigned 6 ∷ dyn.Bool true ∷ []) ∷ []) ∷ []) ∷ []))
         ≡ written (4 ∷ 5 ∷ 4 ∷ 6 ∷ 1 ∷ []) }
+    ensures nested_mismatch { writing map_of_maps 0 1 (dyn.List (dyn.List (dyn.Unsigned 5
+        ∷ dyn.List (dyn.List (dyn.Bool true ∷ dyn.Bool true ∷ []) ∷ []) ∷ []) ∷ []))
+        ≡ refused (mismatch_at
+        (step.Index 0 ∷ step.Index 1 ∷ step.Index 0 ∷ step.Index 0 ∷ [])) }
 {}

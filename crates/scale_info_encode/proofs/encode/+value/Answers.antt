@@ -1,13 +1,19 @@
-use Rattle.std.proofs.Common.{◌≡◌, ◌-◌, ◌+◌, ◌<◌, ◌==◌, true, false, Some, None, find, length, replicate, arith, sym, ◌∙◌, subst}
+use Rattle.std.proofs.Common.{◌≡◌, ◌-◌, ◌+◌, ◌<◌, ◌==◌, true, false, Some, None, [], find, length, take, drop, replicate, arith, refl, sym, ◌∙◌, subst}
 use Rattle.std.proofs.lemmas.Grind.{common_steps}
+use Rattle.std.proofs.lemmas.List.{append-nil}
 use Rattle.std.specs.Str.{bytes_eq}
 use Rattle.std.specs.Prelude.{IfErr, OnOk}
+use Rattle.std.specs.Option.{option_eq}
+use Rattle.scale_info_types.specs.Shapes.{map_field}
 use Rattle.scale_info_encode.specs.declared.error.EncodeValueError.TheVariants as error
-use Rattle.scale_info_encode.specs.Writers.{in_turn, Appends, IsErrorOf}
-use Rattle.scale_info_encode.specs.Writings.{value_within, definition_within}
-use Rattle.scale_info_encode.proofs.InTurn.{next_value, no_next_value, all_refused, alike, tail_whole}
-use Rattle.scale_info_encode.proofs.SoFar.{SoFar, appended, on_err, passed, passed_as, both_ok, both_err, both_kept, keeps, fails, goes_on, first_fails}
-use Rattle.scale_info_encode.proofs.Steps.{composite_is, tuple_is, sequence_is, map_is, variant_missing, variant_misnamed, variant_named}
+use Rattle.scale_info_encode.specs.declared.path.Step.TheVariants as step
+use Rattle.scale_info_encode.specs.Writers.{item, in_turn, of_part, step_to, refused, mismatch, Appends, IsErrorOf}
+use Rattle.scale_info_encode.specs.DefinitionWriters.{field}
+use Rattle.scale_info_encode.specs.Writings.{value_within, definition_within, part_within, pair_within, pairs_within}
+use Rattle.scale_info_encode.proofs.Appending.{mismatch_here}
+use Rattle.scale_info_encode.proofs.InTurn.{next_value, next_part, next_entry, no_next_value, first_of_all, alike, tail_whole, last_in_turn, none_left}
+use Rattle.scale_info_encode.proofs.SoFar.{SoFar, appended, on_err, passed, both_ok, both_err, both_kept, keeps, fails, starts, ends, goes_on, first_fails, next_fails, part_appended}
+use Rattle.scale_info_encode.proofs.Steps.{composite_is, tuple_is, sequence_is, map_is, variant_missing, variant_misnamed, variant_named, pair_is, field_named, field_misnamed}
 use Rattle.scale_info_encode.proofs.encode.+value.Goals as goal
 
 pub composite_value-returns-in-Record-clause-ok : goal.composite_value-returns-in-Record-clause-ok
@@ -31,65 +37,20 @@ tuple_value-returns-in-List-clause-err t c =
     c.as_slice-in-List.result.now c.as_slice.result.now c.in-List.is c.as_slice-in-List.ensures c.as_slice.ensures))
     c.members.ensures.err
 
-pub fields-returns-in_err-value_within-clause-kept : goal.fields-returns-in_err-value_within-clause-kept
-fields-returns-in_err-value_within-clause-kept t c =
-    on_err c.from_residual.result (keeps _ _ _ _ _ c.loop-field.invariant c.in_err-value_within.ensures.kept)
-
-pub members-returns-in_err-value_within-clause-kept : goal.members-returns-in_err-value_within-clause-kept
-members-returns-in_err-value_within-clause-kept t c =
-    on_err c.from_residual.result (keeps _ _ _ _ _ c.loop-ty.invariant c.in_err-value_within.ensures.kept)
-
-pub pairs-returns-in_err-pair-clause-kept : goal.pairs-returns-in_err-pair-clause-kept
-pairs-returns-in_err-pair-clause-kept t c =
-    on_err c.from_residual.result (keeps _ _ _ _ _ c.loop-entry.invariant c.in_err-pair.ensures.kept)
-
-pub items-returns-in_err-definition-clause-err : goal.items-returns-in_err-definition-clause-err
-items-returns-in_err-definition-clause-err t c =
-    let some : 0 < length c.args.values.now = grind (arith, common_steps) in
-    passed_as c.from_residual.result c.in_err-definition.field-0.0 _ c.from_residual.ensures.1
-    (all_refused c.args.count (value_within (c.args.left - 1) c.args.table.now c.args.ty.now.id) c.args.values.now
-    c.in_err-definition.field-0.0 (omega arith) some (λ value. (c.in_err-definition.ensures.unknown value).0))
-
 pub items-returns-clause-err : goal.items-returns-clause-err
 items-returns-clause-err t c =
     subst (λ w. IfErr c.items_by.result (IsErrorOf w))
     (sym (alike c.args.count (value_within (c.args.left - 1) c.args.table.now c.args.ty.now.id)
-    (definition_within (c.args.left - 1) c.args.table.now c.in_ok-definition.definition.now) c.args.values.now
-    (λ value. (c.in_ok-definition.ensures.known value).0)))
+    (definition_within (c.args.left - 1) c.args.table.now c.in-Ok.definition.now) c.args.values.now
+    (λ value. (c.in-Ok.ensures.known value).0)))
     c.items_by.ensures.err
 
 pub items_by-returns-in_default-clause-err : goal.items_by-returns-in_default-clause-err
 items_by-returns-in_default-clause-err t c =
-    fails _ _ _ _ error.Mismatch c.loop.invariant
-    (no_next_value c.args.count c.loop.counter (definition_within c.args.left c.args.table.now c.args.definition.now)
-    c.loop.rest.now (omega arith) c.in_default.len_below)
-
-pub items_by-returns-in_err-value_by-clause-err : goal.items_by-returns-in_err-value_by-clause-err
-items_by-returns-in_err-value_by-clause-err t c =
-    let write = definition_within c.args.left c.args.table.now c.args.definition.now in
-    let next =
-    next_value c.args.count c.loop.counter write c.loop.rest.now c.value-item.result (omega arith)
-    c.in-len1-up.len_at_least c.value-item.is in
-    let e = c.in_err-value_by.field-0.0 in
-    passed c.from_residual.result e (in_turn (replicate c.args.count write) c.args.values.now) c.from_residual.ensures.1
-    (fails _ _ _ _ e c.loop.invariant
-    (subst (λ w. IsErrorOf w e) (sym next) (first_fails _ _ e c.in_err-value_by.ensures.err)))
-
-pub items_by-returns-in_err-value_by-clause-kept : goal.items_by-returns-in_err-value_by-clause-kept
-items_by-returns-in_err-value_by-clause-kept t c =
-    on_err c.from_residual.result (keeps _ _ _ _ _ c.loop.invariant c.in_err-value_by.ensures.kept)
-
-pub items_by-loop-preserved : goal.items_by-loop-preserved
-items_by-loop-preserved t c =
-    let write = definition_within c.args.left c.args.table.now c.args.definition.now in
-    let next =
-    next_value c.args.count c.loop.counter write c.loop.rest.now c.value-item.result (omega arith)
-    c.in-len1-up.len_at_least c.value-item.is in
-    let s = goes_on _ _ _ _ _ _ _ c.loop.invariant next c.in_ok-value_by.ensures.ok in
-    subst (λ rest.
-    SoFar (in_turn (replicate c.args.count write) c.args.values.now)
-    (in_turn (replicate (c.args.count - (c.loop.counter + 1)) write) rest) c.args.out.now.items c.value_by.new.out.items)
-    (sym (tail_whole c.loop.rest.now)) s
+    let write = item (definition_within c.args.left c.args.table.now c.args.definition.now) in
+    fails _ _ _ _ (error.Mismatch c.here.result) c.loop-place.invariant
+    (no_next_value c.args.count c.loop-place.place write c.loop-place.rest.now (omega arith) c.in_default.len_below
+    ∙ mismatch_here c.here.result.steps c.here.ensures)
 
 pub sequence_value-returns-in_ok-count-in-List-clause-ok : goal.sequence_value-returns-in_ok-count-in-List-clause-ok
 sequence_value-returns-in_ok-count-in-List-clause-ok t c =
@@ -126,38 +87,172 @@ map_value-returns-in_ok-count-in-List-clause-kept t c =
     c.as_slice-entries.result.now c.in-List.is c.as_slice-entries.ensures)
     c.in_ok-count-in-List.ensures.ok c.pairs.ensures.kept
 
-pub variant_value-returns-in_ok-push-in-Some-clause-ok : goal.variant_value-returns-in_ok-push-in-Some-clause-ok
-variant_value-returns-in_ok-push-in-Some-clause-ok t c =
-    let some : find (λ v. v.index == c.in-Variant.index) c.args.choice.now.variants ≡ Some c.in-Some.variant.now =
-    grind (arith, common_steps) in
-    let same : bytes_eq c.in-Some.variant.now.name c.in-Variant.name ≡ true = sym c.eq.ensures ∙ c.if-eq.true in
-    both_ok c.fields.result _ _ _ _ _ _
-    (variant_named c.args.left c.args.table.now c.args.choice.now c.args.value.now c.in-Variant.name c.in-Variant.index
-    c.in-Variant.values c.as_slice-in-Some-2.result.now c.in-Some.variant.now c.as_slice-in-Some.result.now
-    c.in-Variant.is some same c.as_slice-in-Some.ensures c.as_slice-in-Some-2.ensures)
-    (appended c.in-Variant.index _ _ c.in_ok-push-in-Some.ensures.items) c.fields.ensures.ok
+pub value_within-returns-in_err-definition-clause-err : goal.value_within-returns-in_err-definition-clause-err
+value_within-returns-in_err-definition-clause-err t c =
+    passed c.from_residual.result c.in_err-definition.field-0.0 _ c.from_residual.ensures.1
+    (c.in_err-definition.ensures.unknown c.args.value.now).0
 
-pub variant_value-returns-in_ok-push-in-Some-clause-err : goal.variant_value-returns-in_ok-push-in-Some-clause-err
-variant_value-returns-in_ok-push-in-Some-clause-err t c =
-    let some : find (λ v. v.index == c.in-Variant.index) c.args.choice.now.variants ≡ Some c.in-Some.variant.now =
-    grind (arith, common_steps) in
-    let same : bytes_eq c.in-Some.variant.now.name c.in-Variant.name ≡ true = sym c.eq.ensures ∙ c.if-eq.true in
-    both_err c.fields.result _ _ _ _ _ c.fields.new.out.items
-    (variant_named c.args.left c.args.table.now c.args.choice.now c.args.value.now c.in-Variant.name c.in-Variant.index
-    c.in-Variant.values c.as_slice-in-Some-2.result.now c.in-Some.variant.now c.as_slice-in-Some.result.now
-    c.in-Variant.is some same c.as_slice-in-Some.ensures c.as_slice-in-Some-2.ensures)
-    (appended c.in-Variant.index _ _ c.in_ok-push-in-Some.ensures.items) c.fields.ensures.err
+pub items-returns-in-Err-clause-err : goal.items-returns-in-Err-clause-err
+items-returns-in-Err-clause-err t c =
+    let some : 0 < length c.args.values.now = grind (arith, common_steps) in
+    first_of_all c.args.count (item (value_within (c.args.left - 1) c.args.table.now c.args.ty.now.id)) c.args.values.now
+    c.of_whole.result (omega arith) some
+    (λ value. c.of_whole.ensures (value_within (c.args.left - 1) c.args.table.now c.args.ty.now.id value)
+    (c.in-Err.ensures.unknown value).0)
+
+pub items_by-returns-in-Err-clause-err : goal.items_by-returns-in-Err-clause-err
+items_by-returns-in-Err-clause-err t c =
+    let write = definition_within c.args.left c.args.table.now c.args.definition.now in
+    next_fails _ _ _ _ _ _ c.of_whole.result c.loop-place.invariant
+    (next_value c.args.count c.loop-place.place (item write) c.loop-place.rest.now c.value-item.result (omega arith)
+    c.in-len1-up.len_at_least c.value-item.is)
+    (c.of_whole.ensures (write c.value-item.result) c.in-Err.ensures.err)
+
+pub items_by-loop-place-preserved : goal.items_by-loop-place-preserved
+items_by-loop-place-preserved t c =
+    let write = definition_within c.args.left c.args.table.now c.args.definition.now in
+    let next =
+    next_value c.args.count c.loop-place.place (item write) c.loop-place.rest.now c.value-item.result (omega arith)
+    c.in-len1-up.len_at_least c.value-item.is in
+    let done = part_appended (step.Index c.loop-place.place) _ _ _ c.in_default-value_by.ensures.ok in
+    let s = goes_on _ _ _ _ _ _ _ c.loop-place.invariant next done in
+    subst (λ rest.
+    SoFar (in_turn 0 (replicate c.args.count (item write)) c.args.values.now)
+    (in_turn (c.loop-place.place + 1) (replicate (c.args.count - (c.loop-place.place + 1)) (item write)) rest)
+    c.args.out.now.items c.value_by.new.out.items)
+    (sym (tail_whole c.loop-place.rest.now)) s
+
+pub members-returns-in-Err-clause-err : goal.members-returns-in-Err-clause-err
+members-returns-in-Err-clause-err t c =
+    let ty = c.index-types-place.result in
+    next_fails _ _ _ _ _ _ c.of_whole.result c.loop-place.invariant
+    (next_part (λ part. item part.value) (part_within c.args.left c.args.table.now) c.loop-place.place c.args.types.now ty
+    c.loop-place.rest.now c.value-item.result (omega arith) c.index-types-place.is c.in-len1-up.len_at_least c.value-item.is)
+    (c.of_whole.ensures (value_within (c.args.left - 1) c.args.table.now ty.id c.value-item.result) c.in-Err.ensures.err)
+
+pub fields-returns-then-ne-clause-err : goal.fields-returns-then-ne-clause-err
+fields-returns-then-ne-clause-err t c =
+    let f = c.index-all-place.result in
+    let named = c.named-item.result in
+    let differs : option_eq bytes_eq f.name named.0 ≡ false = grind (arith, common_steps) in
+    next_fails _ _ _ _ _ _ c.of_whole.result c.loop-place.invariant
+    (next_part field (map_field {G = Unit {0}} (part_within c.args.left c.args.table.now) (λ t. t)) c.loop-place.place
+    c.args.all.now f c.loop-place.rest.now named (omega arith) c.index-all-place.is c.in-len1-up.len_at_least c.named-item.is)
+    (subst (λ w. IsErrorOf w c.of_whole.result)
+    (sym (field_misnamed c.args.left c.args.table.now f c.loop-place.place named differs))
+    (c.of_whole.ensures (refused mismatch) (mismatch_here c.here-then-ne.result.steps c.here-then-ne.ensures)))
+
+pub fields-returns-in-Err-clause-err : goal.fields-returns-in-Err-clause-err
+fields-returns-in-Err-clause-err t c =
+    let f = c.index-all-place.result in
+    let named = c.named-item.result in
+    let same : option_eq bytes_eq f.name named.0 ≡ true = grind (arith, common_steps) in
+    next_fails _ _ _ _ _ _ c.of_whole-in-Err.result c.loop-place.invariant
+    (next_part field (map_field {G = Unit {0}} (part_within c.args.left c.args.table.now) (λ t. t)) c.loop-place.place
+    c.args.all.now f c.loop-place.rest.now named (omega arith) c.index-all-place.is c.in-len1-up.len_at_least c.named-item.is)
+    (subst (λ w. IsErrorOf w c.of_whole-in-Err.result)
+    (sym (field_named c.args.left c.args.table.now f c.loop-place.place named same))
+    (c.of_whole-in-Err.ensures (value_within (c.args.left - 1) c.args.table.now f.ty.id named.1) c.in-Err.ensures.err))
+
+pub pairs-returns-in-Err-clause-err : goal.pairs-returns-in-Err-clause-err
+pairs-returns-in-Err-clause-err t c =
+    let write = pair_within c.args.left c.args.table.now c.args.key.now c.args.value.now in
+    let entry = c.index-entries-place.result in
+    next_fails _ _ _ _ _ _ c.of_whole.result c.loop-place.invariant
+    (next_entry c.loop-place.place (item write) c.args.entries.now entry (omega arith) c.index-entries-place.is)
+    (c.of_whole.ensures (write entry) c.in-Err.ensures.err)
+
+pub pair-returns-in-Err-clause-err : goal.pair-returns-in-Err-clause-err
+pair-returns-in-Err-clause-err t c =
+    let whole =
+    pair_is c.args.left c.args.table.now c.args.key.now c.args.value.now c.args.entry.now c.saturating_sub-inner.result
+    c.in-List.both c.as_slice.result.now c.first-item.result c.in-List.is c.as_slice.ensures c.saturating_sub-inner.ensures
+    c.in-len1-up.len_at_least c.first-item.is in
+    let write = value_within c.saturating_sub-inner.result c.args.table.now c.args.key.now.id in
+    subst (λ w. IsErrorOf w c.of_whole.result) (sym whole)
+    (first_fails _ _ c.of_whole.result (c.of_whole.ensures (write c.first-item.result) c.in-Err.ensures.err))
+
+pub sequence_value-returns-in_ok-count-in-List-clause-err : goal.sequence_value-returns-in_ok-count-in-List-clause-err
+sequence_value-returns-in_ok-count-in-List-clause-err t c =
+    both_err c.items.result _ _ _ _ _ c.items.new.out.items
+    (sequence_is c.args.left c.args.table.now c.args.sequence.now c.args.value.now c.in-List.values
+    c.as_slice-values.result.now c.in-List.is c.as_slice-values.ensures)
+    c.in_ok-count-in-List.ensures.ok c.items.ensures.err
+
+pub pair-returns-in-Err-value_within-clause-err : goal.pair-returns-in-Err-value_within-clause-err
+pair-returns-in-Err-value_within-clause-err t c =
+    let levels = c.saturating_sub-inner.result in
+    let all = c.as_slice.result.now in
+    let rest = take (length all - 1) (drop 1 all) in
+    let whole =
+    pair_is c.args.left c.args.table.now c.args.key.now c.args.value.now c.args.entry.now levels c.in-List.both all
+    c.first-item.result c.in-List.is c.as_slice.ensures c.saturating_sub-inner.ensures c.in-len1-up.len_at_least
+    c.first-item.is in
+    let first = part_appended (step.Index 0) _ _ _ c.in_default-value_within.ensures.ok in
+    let s = goes_on _ _ _ _ _ _ _ (starts _ _ _ _ refl refl) whole first in
+    let second =
+    last_in_turn 1 (item (value_within levels c.args.table.now c.args.value.now.id)) all rest c.second-item.result refl
+    c.in-len1-up-more.len_at_least c.second-item.is in
+    next_fails _ _ _ _ _ _ c.of_whole-in-Err-value_within.result s second
+    (c.of_whole-in-Err-value_within.ensures
+    (value_within levels c.args.table.now c.args.value.now.id c.second-item.result) c.in-Err-value_within.ensures.err)
+
+pub pair-returns-clause-ok : goal.pair-returns-clause-ok
+pair-returns-clause-ok t c =
+    let levels = c.saturating_sub-inner.result in
+    let all = c.as_slice.result.now in
+    let rest = take (length all - 1) (drop 1 all) in
+    let whole =
+    pair_is c.args.left c.args.table.now c.args.key.now c.args.value.now c.args.entry.now levels c.in-List.both all
+    c.first-item.result c.in-List.is c.as_slice.ensures c.saturating_sub-inner.ensures c.in-len1-up.len_at_least
+    c.first-item.is in
+    let first = part_appended (step.Index 0) _ _ _ c.in_default-value_within.ensures.ok in
+    let s = goes_on _ _ _ _ _ _ _ (starts _ _ _ _ refl refl) whole first in
+    let second =
+    last_in_turn 1 (item (value_within levels c.args.table.now c.args.value.now.id)) all rest c.second-item.result refl
+    c.in-len1-up-more.len_at_least c.second-item.is in
+    let both = goes_on _ _ _ _ _ _ _ s second (part_appended (step.Index 1) _ _ _ c.in_default-value_within-2.ensures.ok) in
+    let none : length (take (length rest - 1) (drop 1 rest)) ≡ 0 = grind (arith, common_steps) in
+    ends _ _ _ _ _ both (record {
+      encoding = [];
+      encodes = none_left 2 rest none;
+      parts = sym (append-nil c.value_within-2.new.out.items);
+    })
 
 pub variant_value-returns-in_default-variant_with_index-clause-err : goal.variant_value-returns-in_default-variant_with_index-clause-err
 variant_value-returns-in_default-variant_with_index-clause-err t c =
-    let some : find (λ v. v.index == c.in-Variant.index) c.args.choice.now.variants ≡ Some c.in-Some.variant.now =
-    grind (arith, common_steps) in
-    let differs : bytes_eq c.in-Some.variant.now.name c.in-Variant.name ≡ false = sym c.eq.ensures ∙ c.if-eq.false in
-    variant_misnamed c.args.left c.args.table.now c.args.choice.now c.args.value.now c.in-Variant.name c.in-Variant.index
-    c.in-Variant.values c.in-Some.variant.now c.in-Variant.is some differs
-
-pub variant_value-returns-in_default-variant_with_index-2-clause-err : goal.variant_value-returns-in_default-variant_with_index-2-clause-err
-variant_value-returns-in_default-variant_with_index-2-clause-err t c =
     let none : find (λ v. v.index == c.in-Variant.index) c.args.choice.now.variants ≡ None = grind (arith, common_steps) in
     variant_missing c.args.left c.args.table.now c.args.choice.now c.args.value.now c.in-Variant.name c.in-Variant.index
     c.in-Variant.values c.in-Variant.is none
+    ∙ mismatch_here c.here-in_default-variant_with_index.result.steps c.here-in_default-variant_with_index.ensures
+
+pub variant_value-returns-then-ne-clause-err : goal.variant_value-returns-then-ne-clause-err
+variant_value-returns-then-ne-clause-err t c =
+    let some : find (λ v. v.index == c.in-Variant.index) c.args.choice.now.variants ≡ Some c.in-Some.variant.now =
+    grind (arith, common_steps) in
+    let differs : bytes_eq c.in-Some.variant.now.name c.in-Variant.name ≡ false = grind (arith, common_steps) in
+    variant_misnamed c.args.left c.args.table.now c.args.choice.now c.args.value.now c.in-Variant.name c.in-Variant.index
+    c.in-Variant.values c.in-Some.variant.now c.in-Variant.is some differs
+    ∙ mismatch_here c.here-then-ne.result.steps c.here-then-ne.ensures
+
+pub variant_value-returns-clause-ok : goal.variant_value-returns-clause-ok
+variant_value-returns-clause-ok t c =
+    let some : find (λ v. v.index == c.in-Variant.index) c.args.choice.now.variants ≡ Some c.in-Some.variant.now =
+    grind (arith, common_steps) in
+    let same : bytes_eq c.in-Some.variant.now.name c.in-Variant.name ≡ true = grind (arith, common_steps) in
+    both_ok c.fields.result _ _ _ _ _ _
+    (variant_named c.args.left c.args.table.now c.args.choice.now c.args.value.now c.in-Variant.name c.in-Variant.index
+    c.in-Variant.values c.as_slice-3.result.now c.in-Some.variant.now c.as_slice-2.result.now
+    c.in-Variant.is some same c.as_slice-2.ensures c.as_slice-3.ensures)
+    (appended c.in-Variant.index _ _ c.in_ok-push.ensures.items) c.fields.ensures.ok
+
+pub variant_value-returns-clause-err : goal.variant_value-returns-clause-err
+variant_value-returns-clause-err t c =
+    let some : find (λ v. v.index == c.in-Variant.index) c.args.choice.now.variants ≡ Some c.in-Some.variant.now =
+    grind (arith, common_steps) in
+    let same : bytes_eq c.in-Some.variant.now.name c.in-Variant.name ≡ true = grind (arith, common_steps) in
+    both_err c.fields.result _ _ _ _ _ c.fields.new.out.items
+    (variant_named c.args.left c.args.table.now c.args.choice.now c.args.value.now c.in-Variant.name c.in-Variant.index
+    c.in-Variant.values c.as_slice-3.result.now c.in-Some.variant.now c.as_slice-2.result.now
+    c.in-Variant.is some same c.as_slice-2.ensures c.as_slice-3.ensures)
+    (appended c.in-Variant.index _ _ c.in_ok-push.ensures.items) c.fields.ensures.err

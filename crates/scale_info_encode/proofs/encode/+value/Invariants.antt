@@ -1,7 +1,8 @@
 use Rattle.std.proofs.Common.{◌-◌, ◌*◌, drop, length, replicate}
-use Rattle.scale_info_encode.specs.Writers.{in_turn}
+use Rattle.scale_info_encode.specs.Writers.{item, in_turn}
 use Rattle.scale_info_encode.specs.Writings.{definition_within, members_within, fields_within}
-use Rattle.scale_info_encode.specs.Writings.{pairs_within}
+use Rattle.scale_info_encode.specs.Writings.{pairs_within, pair_within}
+use Rattle.scale_info_encode.proofs.InTurn.{members_from, fields_from}
 use Rattle.scale_info_encode.proofs.SoFar.{SoFar}
 use Rattle.scale_info_encode.proofs.encode.+value.Given as goal
 
@@ -47,24 +48,25 @@ decreases-pairs l = 5 * l.left - 3
 abbrev pub decreases-pair : goal.decreases-pair
 decreases-pair l = 5 * l.left - 4
 
-abbrev pub invariant-items_by-loop : goal.invariant-items_by-loop
-invariant-items_by-loop l =
-    let write = definition_within l.left l.table l.definition in
-    SoFar (in_turn (replicate l.count write) l.values) (in_turn (replicate (l.count - l.counter) write) l.rest)
+abbrev pub invariant-items_by-loop-place : goal.invariant-items_by-loop-place
+invariant-items_by-loop-place l =
+    let write = item (definition_within l.left l.table l.definition) in
+    SoFar (in_turn 0 (replicate l.count write) l.values) (in_turn l.place (replicate (l.count - l.place) write) l.rest)
     l.fn.out.items l.out.items
 
-abbrev pub invariant-members-loop-ty : goal.invariant-members-loop-ty
-invariant-members-loop-ty l =
+abbrev pub invariant-members-loop-place : goal.invariant-members-loop-place
+invariant-members-loop-place l =
     SoFar (members_within l.left l.table l.types l.values)
-    (members_within l.left l.table (drop l.ty-index l.types) l.rest) l.fn.out.items l.out.items
+    (members_from l.place l.left l.table (drop l.place l.types) l.rest) l.fn.out.items l.out.items
 
-abbrev pub invariant-fields-loop-field : goal.invariant-fields-loop-field
-invariant-fields-loop-field l =
+abbrev pub invariant-fields-loop-place : goal.invariant-fields-loop-place
+invariant-fields-loop-place l =
     SoFar (fields_within l.left l.table l.all l.values)
-    (fields_within l.left l.table (drop l.field-index l.all) l.rest) l.fn.out.items l.out.items
+    (fields_from l.place l.left l.table (drop l.place l.all) l.rest) l.fn.out.items l.out.items
 
-abbrev pub invariant-pairs-loop-entry : goal.invariant-pairs-loop-entry
-invariant-pairs-loop-entry l =
+abbrev pub invariant-pairs-loop-place : goal.invariant-pairs-loop-place
+invariant-pairs-loop-place l =
+    let write = item (pair_within l.left l.table l.key l.value) in
     SoFar (pairs_within l.left l.table l.key l.value (length l.entries) l.entries)
-    (pairs_within l.left l.table l.key l.value (length (drop l.entry-index l.entries)) (drop l.entry-index l.entries))
+    (in_turn l.place (replicate (length (drop l.place l.entries)) write) (drop l.place l.entries))
     l.fn.out.items l.out.items

@@ -26,3 +26,7 @@ returns-clause-second c = simp outs refl
 pub returns-clause-none : goal.returns-clause-none
 unfolding value_within compact_within
 returns-clause-none c = simp outs refl
+
+pub returns-clause-first_mismatch : goal.returns-clause-first_mismatch
+unfolding value_within compact_within
+returns-clause-first_mismatch c = simp outs refl

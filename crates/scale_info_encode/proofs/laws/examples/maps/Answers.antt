@@ -26,3 +26,7 @@ returns-clause-empty c = simp outs refl
 pub returns-clause-nested : goal.returns-clause-nested
 unfolding value_within compact_within
 returns-clause-nested c = simp outs refl
+
+pub returns-clause-nested_mismatch : goal.returns-clause-nested_mismatch
+unfolding value_within compact_within
+returns-clause-nested_mismatch c = simp outs refl

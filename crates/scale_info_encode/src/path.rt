@@ -1,0 +1,91 @@
+//! The path from a value to one of its parts.
+ghost use Rattle.std.specs.Prelude.{◌≡◌, ◌∷◌, [], IfOk};
+ghost use Rattle.scale_info_encode.specs.Writers.{step_to};
+
+use scale_info_collections::items::Items;
+use scale_info_collections::text::Text;
+use scale_info_collections::try_clone::TryClone;
+use std::alloc::AllocError;
+use std::fmt;
+
+/// A step from a value to one of its parts.
+#[derive(Debug, Drop, PartialEq, Eq)]
+pub enum Step {
+    /// To the field with this name, of a record or a variant.
+    Field(Text),
+    /// To the part at this index, counted from 0: an item of a list, or a field without a name.
+    Index(usize),
+}
+
+/// Prints the name or the index.
+impl fmt::Display for Step {
+    fn fmt<W: fmt::Write>(&self, f: &mut fmt::Formatter<W>) -> fmt::Result {
+        match self {
+            Step::Field(name) => write!(f, "{name}"),
+            Step::Index(index) => write!(f, "{index}"),
+        }
+    }
+}
+
+/// The path from a value to one of its parts.
+///
+/// Each step goes one part deeper, so a path has at most 127. A variant takes no step of its own:
+/// its parts are its fields. The pair of a map is an item of the map, with the key at index 0 and
+/// the value at index 1.
+///
+/// It is printed with its steps joined by dots, and as `value` where it has none:
+///
+/// ```text
+/// calls.0.dest   // the field `dest` of the first item of the field `calls`
+/// ```
+#[derive(Debug, Drop, PartialEq, Eq)]
+pub struct ValuePath {
+    /// The steps, from the whole value to the part.
+    pub steps: Items<Step>,
+}
+
+impl ValuePath {
+    /// The path from a whole, in which the value that this path starts from is the part at this
+    /// index, with this name, if it has one.
+    pub(crate) fn from_whole(
+        self,
+        name: &Option<Text>,
+        index: usize,
+    ) -> Result<ValuePath, AllocError>
+        ensures { IfOk result (λ path. path.steps ≡ step_to index name.now ∷ self.steps) }
+    {
+        let mut steps = self.steps.into_vec();
+        let step = match name {
+            Some(name) => Step::Field(name.try_clone(*steps.allocator())?),
+            None => Step::Index(index),
+        };
+        steps.insert(0, step)?;
+        Ok(ValuePath {
+            steps: Items::from(steps),
+        })
+    }
+}
+
+impl fmt::Display for ValuePath {
+    fn fmt<W: fmt::Write>(&self, f: &mut fmt::Formatter<W>) -> fmt::Result {
+        let [first, more @ ..] = self.steps.as_slice() else {
+            return f.write_str("value");
+        };
+        write!(f, "{first}")?;
+        for step in more {
+            write!(f, ".{step}")?;
+        }
+        Ok(())
+    }
+}
+
+/// The path of the value itself, which is to be appended to this output. It holds nothing, so it
+/// takes of the output its allocator alone.
+#[cold]
+pub(crate) fn here(out: &Vec<u8>) -> ValuePath
+    ensures { result.steps ≡ [] }
+{
+    ValuePath {
+        steps: Items::new(*out.allocator()),
+    }
+}
