@@ -1,9 +1,9 @@
-//! Values that are decoded by a table, lent, and written as text.
+//! Values that are decoded by a table, encoded again, and lent.
 use example_callers::print::print_decoded;
 use scale_info::PortableRegistry;
 use scale_info::lent::{Lent, decode_lent};
-use scale_info::value::{Dyn, ValueError, decode_value};
-use scale_info::value_text::{ValueTextError, append_value_json, value_json};
+use scale_info::value::{Dyn, ValueError, decode_value, encode_value};
+use scale_info::visit::skip_value;
 use std::alloc::{AllocError, Global};
 use std::test::Fail;
 use test_common::held::Held;
@@ -12,21 +12,25 @@ use test_memory_common::answers::{Answer, done, failed, shown};
 use test_memory_common::inputs::{output, table_of};
 use test_memory_common::marks::{begin, end};
 use test_memory_common::outcomes::Outcome;
-use test_memory_tables::json::appended;
 
-/// The id, the input and the table of a row: after a name and a colon an id, a table and an input,
+/// The ids, the table and the input of a row: after a name and a colon they stand in this order,
 /// with semicolons between them.
-fn parts(alloc: Global, row: &str) -> Result<(u32, Vec<u8>, PortableRegistry), Fail> {
+pub fn parts_of(row: &str) -> Result<(&str, &str, &str), Fail> {
     let (_, rest) = parted(row, ':')?;
-    let (id, rest) = parted(rest, ';')?;
+    let (ids, rest) = parted(rest, ';')?;
     let (table, input) = parted(rest, ';')?;
-    let id: u32 = id.trim().parse()?;
-    let input = row_bytes(alloc, input)?;
+    Ok((ids.trim(), table, input.trim()))
+}
+
+/// The id, the input and the table of a row.
+pub fn read(alloc: Global, row: &str) -> Result<(u32, Vec<u8>, PortableRegistry), Fail> {
+    let (id, table, input) = parts_of(row)?;
+    let (id, input): (u32, Vec<u8>) = (id.parse()?, row_bytes(alloc, input)?);
     Ok((id, input, table_of(alloc, table)?))
 }
 
-/// Whether another decoding gives this value too.
-fn is_decoded_again(
+/// Whether a value is the one that is decoded.
+pub fn is_decoded(
     alloc: Global,
     table: &PortableRegistry,
     id: u32,
@@ -55,7 +59,7 @@ fn printed(
     input: &[u8],
     value: &Dyn,
 ) -> Result<Answer, Fail> {
-    let is_same = is_decoded_again(alloc, table, id, input, value)?;
+    let is_same = is_decoded(alloc, table, id, input, value)?;
     let mut text = Vec::new(alloc);
     let rest = print_decoded(alloc, table, id, input, &mut text)?;
     let text = text_of(alloc, text, rest)?;
@@ -78,7 +82,7 @@ fn answer(
 
 /// Decodes the value of a row.
 pub fn decode(rt: &HostRuntime, row: &str) -> Result<Outcome, Fail> {
-    let (id, input, table) = parts(rt.alloc(), row)?;
+    let (id, input, table) = read(rt.alloc(), row)?;
     begin(rt);
     let returned = decode_value(rt.alloc(), &table, id, &input);
     end(rt);
@@ -86,9 +90,9 @@ pub fn decode(rt: &HostRuntime, row: &str) -> Result<Outcome, Fail> {
     Outcome::of(Ok(answer))
 }
 
-/// What a decoding to a value that borrows returned, and whether its copy is the value that is
-/// decoded.
-fn lent_answer(
+/// What a decoding to a value that borrows returned: whether its copy is the value that is decoded,
+/// and what is left.
+pub fn lent_answer(
     alloc: Global,
     table: &PortableRegistry,
     id: u32,
@@ -98,7 +102,7 @@ fn lent_answer(
     match returned {
         Ok((lent, rest)) => {
             let copy = lent.to_dyn(alloc)?;
-            let is_same = is_decoded_again(alloc, table, id, input, &copy)?;
+            let is_same = is_decoded(alloc, table, id, input, &copy)?;
             Ok(done(format!(in alloc; "{is_same} {rest:?}"))?)
         }
         Err(error) => Ok(failed(alloc, &error)?),
@@ -107,7 +111,7 @@ fn lent_answer(
 
 /// Decodes the value of a row as one that borrows.
 pub fn decode_and_lend(rt: &HostRuntime, row: &str) -> Result<Outcome, Fail> {
-    let (id, input, table) = parts(rt.alloc(), row)?;
+    let (id, input, table) = read(rt.alloc(), row)?;
     begin(rt);
     let returned = decode_lent(rt.alloc(), &table, id, &input);
     end(rt);
@@ -125,7 +129,7 @@ fn copy_answer(
 ) -> Result<Answer, Fail> {
     match returned {
         Ok(copy) => {
-            let is_same = is_decoded_again(alloc, table, id, input, &copy)?;
+            let is_same = is_decoded(alloc, table, id, input, &copy)?;
             Ok(done(format!(in alloc; "{is_same}"))?)
         }
         Err(error) => Ok(failed(alloc, &error)?),
@@ -134,7 +138,7 @@ fn copy_answer(
 
 /// Copies the value of a row that borrows.
 pub fn copy_lent(rt: &HostRuntime, row: &str) -> Result<Outcome, Fail> {
-    let (id, input, table) = parts(rt.alloc(), row)?;
+    let (id, input, table) = read(rt.alloc(), row)?;
     let (lent, _) = decode_lent(rt.alloc(), &table, id, &input)?;
     begin(rt);
     let returned = lent.to_dyn(rt.alloc());
@@ -143,29 +147,35 @@ pub fn copy_lent(rt: &HostRuntime, row: &str) -> Result<Outcome, Fail> {
     Outcome::of(Ok(answer))
 }
 
-/// Appends the text of the value of a row to one byte.
-pub fn append_text(rt: &HostRuntime, row: &str) -> Result<Outcome, Fail> {
-    let (id, input, table) = parts(rt.alloc(), row)?;
-    let table = Held(table);
-    let mut out = output(rt.alloc())?;
-    let before = appended(rt.alloc(), &out)?;
-    begin(rt);
-    let returned = append_value_json(rt.alloc(), &table.0, id, &input, &mut out);
-    end(rt);
-    let after = appended(rt.alloc(), &out)?;
-    Outcome::lending(Ok(before), Ok(after), shown(rt.alloc(), returned))
+/// The id of the type of a value, and that of the type by which it is encoded: the one after
+/// ` as `, or else the same.
+fn ids_of(ids: &str) -> Result<(u32, u32), Fail> {
+    let (id, other) = ids.split_once(" as ").unwrap_or((ids, ids));
+    Ok((id.parse()?, other.parse()?))
 }
 
-/// The text of the bytes of a row as one value.
-pub fn text(rt: &HostRuntime, row: &str) -> Result<Outcome, Fail> {
-    let (id, input, table) = parts(rt.alloc(), row)?;
+/// Appends the encoding of the value of a row to one byte.
+pub fn encode(rt: &HostRuntime, row: &str) -> Result<Outcome, Fail> {
+    let (ids, table, input) = parts_of(row)?;
+    let (id, other) = ids_of(ids)?;
+    let table = Held(table_of(rt.alloc(), table)?);
+    let (value, _) = decode_value(rt.alloc(), &table.0, id, &row_bytes(rt.alloc(), input)?)?;
+    let value = Held(value);
+    let mut out = output(rt.alloc())?;
+    let before = hex::encode(rt.alloc(), out.as_slice());
+    begin(rt);
+    let returned = encode_value(&table.0, other, &value.0, &mut out);
+    end(rt);
+    let after = hex::encode(rt.alloc(), out.as_slice());
+    Outcome::lending(before, after, shown(rt.alloc(), returned))
+}
+
+/// Goes past the value of a row: what is left.
+pub fn skip(rt: &HostRuntime, row: &str) -> Result<Outcome, Fail> {
+    let (id, input, table) = read(rt.alloc(), row)?;
     let table = Held(table);
     begin(rt);
-    let returned = value_json(rt.alloc(), &table.0, id, &input);
+    let returned = skip_value(&table.0, id, &input);
     end(rt);
-    Outcome::of(match returned {
-        Ok(text) => done(Ok(text)),
-        Err(ValueTextError::Value(error)) => failed(rt.alloc(), &error),
-        Err(error) => failed(rt.alloc(), &error),
-    })
+    Outcome::of(shown(rt.alloc(), returned))
 }

@@ -34,6 +34,7 @@ fn call_of_bytes(rt: &HostRuntime, name: &str, input: &str) -> Option<Result<Out
         "try_clone_entries" => bytes::try_clone_entries(rt, input),
         "to_json" => json::tree_of(rt, input),
         "from_json" => json::table_from(rt, input),
+        "from_json_text" => json::table_from_text(rt, input),
         "append_json" => json::text_of(rt, input),
         "append_json_of" => json::text_of_bytes(rt, input),
         "decode_compact" => bytes::decode_compact(rt, input),

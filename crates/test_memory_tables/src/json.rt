@@ -1,5 +1,5 @@
 //! Tables as JSON.
-use scale_info::{append_json, append_json_of, from_json, to_json};
+use scale_info::{append_json, append_json_of, from_json, from_json_text, to_json};
 use serde_json::Value;
 use std::alloc::Global;
 use std::fmt::Debug;
@@ -36,6 +36,26 @@ pub fn table_from(rt: &HostRuntime, row: &str) -> Result<Outcome, Fail> {
     let tree = Held(tree(rt.alloc(), row)?);
     begin(rt);
     let returned = from_json(rt.alloc(), &tree.0);
+    end(rt);
+    Outcome::of(encoded(rt.alloc(), returned))
+}
+
+/// The text that comes after the word "text", or else that of the table of this name.
+fn text(alloc: Global, row: &str) -> Result<String, Fail> {
+    match row.strip_prefix("text ") {
+        Some(text) => Ok(String::from_str(alloc, text)?),
+        None => {
+            let text = append_json(&table_of(alloc, row)?, Vec::new(alloc))?;
+            Ok(String::from_utf8(text)?)
+        }
+    }
+}
+
+/// The table of a text.
+pub fn table_from_text(rt: &HostRuntime, row: &str) -> Result<Outcome, Fail> {
+    let text = text(rt.alloc(), row)?;
+    begin(rt);
+    let returned = from_json_text(rt.alloc(), text.as_str());
     end(rt);
     Outcome::of(encoded(rt.alloc(), returned))
 }

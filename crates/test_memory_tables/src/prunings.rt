@@ -96,7 +96,7 @@ pub fn append_pruned_bytes(rt: &HostRuntime, row: &str) -> Result<Outcome, Fail>
 }
 
 /// The outcome of a walk.
-fn walked(alloc: Global, returned: Result<Numbering, RetainError>) -> Result<Outcome, Fail> {
+pub fn walked(alloc: Global, returned: Result<Numbering, RetainError>) -> Result<Outcome, Fail> {
     let answer = match returned {
         Ok(found) => {
             let (order, steps) = (found.order, found.steps);
