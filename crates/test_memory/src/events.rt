@@ -1,13 +1,12 @@
 //! Values that are shown to a visitor.
-use crate::values::read;
+use crate::values::Given;
 use scale_info::Field;
 use scale_info::form::PortableForm;
 use scale_info::visit::{EventVisitor, ValueEvent, VisitError, visit_events};
 use std::alloc::{AllocError, Global};
 use std::test::Fail;
-use test_common::held::Held;
 use test_memory_common::answers::{Answer, done, failed};
-use test_memory_common::marks::{begin, end};
+use test_memory_common::marked;
 use test_memory_common::outcomes::Outcome;
 
 /// Writes a word for each event.
@@ -73,12 +72,10 @@ fn answer(
 /// Shows a visitor the value of a row.
 pub fn visit(rt: &HostRuntime, row: &str) -> Result<Outcome, Fail> {
     let alloc = rt.alloc();
-    let (id, input, table) = read(alloc, row)?;
-    let table = Held(table);
+    let given = Given::read(alloc, row)?;
+    let table = &given.table.0;
     let text = String::new(alloc);
     let mut words = Words { alloc, text };
-    begin(rt);
-    let returned = visit_events(&table.0, id, &input, &mut words);
-    end(rt);
+    let returned = marked!(rt; visit_events(table, given.id, &given.input, &mut words));
     Outcome::of(answer(alloc, returned, words.text.as_str()))
 }

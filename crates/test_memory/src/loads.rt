@@ -1,5 +1,6 @@
 //! Types of a table that are loaded, and values by them.
-use crate::values::{lent_answer, parts_of};
+use crate::values::{Given, lent_outcome, parts_of};
+use crate::views::ids_and_bytes;
 use scale_info::PortableRegistry;
 use scale_info::lent::decode_lent;
 use scale_info::loaded::LoadedTypes;
@@ -8,10 +9,10 @@ use scale_info::view::TableView;
 use std::alloc::{AllocError, Global};
 use std::test::Fail;
 use test_common::held::Held;
-use test_common::rows::{numbers, parted, row_bytes};
+use test_common::rows::{numbers, row_bytes};
 use test_memory_common::answers::{digits, done, failed};
 use test_memory_common::inputs::bytes_of;
-use test_memory_common::marks::{begin, end};
+use test_memory_common::marked;
 use test_memory_common::outcomes::Outcome;
 
 /// The definition of each id in hexadecimal, in order.
@@ -31,15 +32,9 @@ fn definitions(alloc: Global, types: &LoadedTypes) -> Result<String, AllocError>
 
 /// Loads what the types with these ids reach: before the colon stand the ids.
 pub fn load(rt: &HostRuntime, row: &str) -> Result<Outcome, Fail> {
-    let (ids, input) = parted(row, ':')?;
-    let (ids, bytes) = (
-        numbers(rt.alloc(), ids)?,
-        bytes_of(rt.alloc(), input.trim())?,
-    );
+    let (ids, bytes) = ids_and_bytes(rt.alloc(), row)?;
     let view = TableView::new(rt.alloc(), &bytes)?;
-    begin(rt);
-    let returned = LoadedTypes::load(rt.alloc(), &view, &ids);
-    end(rt);
+    let returned = marked!(rt; LoadedTypes::load(rt.alloc(), &view, &ids));
     let answer = match returned {
         Ok(types) => done(definitions(rt.alloc(), &types)),
         Err(error) => failed(rt.alloc(), &error),
@@ -61,10 +56,9 @@ pub fn decode(rt: &HostRuntime, row: &str) -> Result<Outcome, Fail> {
     let (id, loaded) = ids_of(alloc, ids)?;
     let (bytes, input) = (bytes_of(alloc, table.trim())?, row_bytes(alloc, input)?);
     let types = Held(LoadedTypes::load(alloc, &TableView::new(alloc, &bytes)?, &loaded)?);
-    begin(rt);
-    let returned = decode_lent(alloc, &types.0, id, &input);
-    end(rt);
     let (table, _) = PortableRegistry::decode(alloc, &bytes)?;
-    let answer = lent_answer(alloc, &table, id, &input, returned)?;
-    Outcome::of(Ok(answer))
+    let table = Held(table);
+    let given = Given { id, input, table };
+    let returned = marked!(rt; decode_lent(alloc, &types.0, id, &given.input));
+    lent_outcome(alloc, &given, returned)
 }

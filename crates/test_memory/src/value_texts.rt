@@ -1,5 +1,5 @@
 //! Values as JSON: their texts, and the values that are taken from trees.
-use crate::values::{parts_of, read};
+use crate::values::{Given, parts_of};
 use scale_info::PortableRegistry;
 use scale_info::value::{Dyn, encode_value, from_json};
 use scale_info::value_text::{ValueTextError, append_value_json, value_json};
@@ -9,30 +9,26 @@ use std::test::Fail;
 use test_common::held::Held;
 use test_memory_common::answers::{done, failed, shown};
 use test_memory_common::inputs::{output, table_of};
-use test_memory_common::marks::{begin, end};
+use test_memory_common::marked;
 use test_memory_common::outcomes::Outcome;
 use test_memory_tables::json::appended;
 
 /// Appends the text of the value of a row to one byte.
 pub fn append(rt: &HostRuntime, row: &str) -> Result<Outcome, Fail> {
-    let (id, input, table) = read(rt.alloc(), row)?;
-    let table = Held(table);
+    let given = Given::read(rt.alloc(), row)?;
+    let (table, id, input) = (&given.table.0, given.id, given.input.as_slice());
     let mut out = output(rt.alloc())?;
     let before = appended(rt.alloc(), &out)?;
-    begin(rt);
-    let returned = append_value_json(rt.alloc(), &table.0, id, &input, &mut out);
-    end(rt);
+    let returned = marked!(rt; append_value_json(rt.alloc(), table, id, input, &mut out));
     let after = appended(rt.alloc(), &out)?;
     Outcome::lending(Ok(before), Ok(after), shown(rt.alloc(), returned))
 }
 
 /// The text of the bytes of a row as one value.
 pub fn text(rt: &HostRuntime, row: &str) -> Result<Outcome, Fail> {
-    let (id, input, table) = read(rt.alloc(), row)?;
-    let table = Held(table);
-    begin(rt);
-    let returned = value_json(rt.alloc(), &table.0, id, &input);
-    end(rt);
+    let given = Given::read(rt.alloc(), row)?;
+    let table = &given.table.0;
+    let returned = marked!(rt; value_json(rt.alloc(), table, given.id, &given.input));
     Outcome::of(match returned {
         Ok(text) => done(Ok(text)),
         Err(ValueTextError::Value(error)) => failed(rt.alloc(), &error),
@@ -60,9 +56,7 @@ pub fn take(rt: &HostRuntime, row: &str) -> Result<Outcome, Fail> {
     let id: u32 = id.parse()?;
     let table = Held(table_of(rt.alloc(), table)?);
     let tree = Held(Value::from_str(rt.alloc(), text)?);
-    begin(rt);
-    let returned = from_json(rt.alloc(), &table.0, id, &tree.0);
-    end(rt);
+    let returned = marked!(rt; from_json(rt.alloc(), &table.0, id, &tree.0));
     let answer = match returned {
         Ok(value) => done(digits(rt.alloc(), &table.0, id, &value)),
         Err(error) => failed(rt.alloc(), &error),

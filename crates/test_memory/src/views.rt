@@ -1,58 +1,44 @@
 //! Tables that stay bytes.
 use scale_info::form::PortableForm;
 use scale_info::view::TableView;
-use scale_info::{DecodeError, Items, Scale, Type};
+use scale_info::{Items, Scale, Type};
 use std::alloc::{AllocError, Global};
 use std::test::Fail;
 use test_common::held::Held;
 use test_common::rows::{numbers, parted};
 use test_memory_common::answers::{Answer, digits, done, encoded, failed, shown};
 use test_memory_common::inputs::bytes_of;
+use test_memory_common::marked;
 use test_memory_common::marks::{begin, end};
 use test_memory_common::outcomes::Outcome;
 use test_memory_tables::bytes::with_rest;
 use test_memory_tables::prunings::walked;
 
-/// The answer of a view and of what is left: the bytes of both.
-fn viewed(
-    alloc: Global,
-    returned: Result<(TableView<'_>, &[u8]), DecodeError>,
-) -> Result<Answer, AllocError> {
-    match returned {
-        Ok((view, rest)) => done(with_rest(hex::encode(alloc, view.as_bytes()), rest)),
-        Err(error) => failed(alloc, &error),
-    }
-}
-
 /// Makes the view of a table, and leaves out what comes after it.
 pub fn new(rt: &HostRuntime, row: &str) -> Result<Outcome, Fail> {
     let bytes = bytes_of(rt.alloc(), row)?;
-    begin(rt);
-    let returned = TableView::new(rt.alloc(), &bytes);
-    end(rt);
-    let returned = match returned {
-        Ok(view) => Ok((view, [].as_slice())),
-        Err(error) => Err(error),
+    let answer = match marked!(rt; TableView::new(rt.alloc(), &bytes)) {
+        Ok(view) => done(hex::encode(rt.alloc(), view.as_bytes())),
+        Err(error) => failed(rt.alloc(), &error),
     };
-    Outcome::of(viewed(rt.alloc(), returned))
+    Outcome::of(answer)
 }
 
 /// Makes the view of a table, and returns what comes after it.
 pub fn decode(rt: &HostRuntime, row: &str) -> Result<Outcome, Fail> {
     let bytes = bytes_of(rt.alloc(), row)?;
-    begin(rt);
-    let returned = TableView::decode(rt.alloc(), &bytes);
-    end(rt);
-    Outcome::of(viewed(rt.alloc(), returned))
+    let answer = match marked!(rt; TableView::decode(rt.alloc(), &bytes)) {
+        Ok((view, rest)) => done(with_rest(hex::encode(rt.alloc(), view.as_bytes()), rest)),
+        Err(error) => failed(rt.alloc(), &error),
+    };
+    Outcome::of(answer)
 }
 
 /// Makes the table of a view.
 pub fn to_owned(rt: &HostRuntime, row: &str) -> Result<Outcome, Fail> {
     let bytes = bytes_of(rt.alloc(), row)?;
     let view = TableView::new(rt.alloc(), &bytes)?;
-    begin(rt);
-    let returned = view.try_to_owned(rt.alloc());
-    end(rt);
+    let returned = marked!(rt; view.try_to_owned(rt.alloc()));
     Outcome::of(encoded(rt.alloc(), returned))
 }
 
@@ -78,9 +64,7 @@ fn found<T: Scale>(
 pub fn resolve(rt: &HostRuntime, row: &str) -> Result<Outcome, Fail> {
     let (index, bytes) = indexed(rt.alloc(), row)?;
     let view = TableView::new(rt.alloc(), &bytes)?;
-    begin(rt);
-    let returned = view.resolve(rt.alloc(), index);
-    end(rt);
+    let returned = marked!(rt; view.resolve(rt.alloc(), index));
     Outcome::of(found(rt.alloc(), returned))
 }
 
@@ -88,9 +72,7 @@ pub fn resolve(rt: &HostRuntime, row: &str) -> Result<Outcome, Fail> {
 pub fn entry(rt: &HostRuntime, row: &str) -> Result<Outcome, Fail> {
     let (index, bytes) = indexed(rt.alloc(), row)?;
     let view = TableView::new(rt.alloc(), &bytes)?;
-    begin(rt);
-    let returned = view.entry(rt.alloc(), index as usize);
-    end(rt);
+    let returned = marked!(rt; view.entry(rt.alloc(), index as usize));
     Outcome::of(found(rt.alloc(), returned))
 }
 
@@ -98,9 +80,7 @@ pub fn entry(rt: &HostRuntime, row: &str) -> Result<Outcome, Fail> {
 pub fn references(rt: &HostRuntime, row: &str) -> Result<Outcome, Fail> {
     let (index, bytes) = indexed(rt.alloc(), row)?;
     let view = TableView::new(rt.alloc(), &bytes)?;
-    begin(rt);
-    let returned = view.references(rt.alloc(), index);
-    end(rt);
+    let returned = marked!(rt; view.references(rt.alloc(), index));
     Outcome::of(shown(rt.alloc(), returned))
 }
 
@@ -121,23 +101,21 @@ fn descriptions(
 pub fn entries(rt: &HostRuntime, row: &str) -> Result<Outcome, Fail> {
     let bytes = bytes_of(rt.alloc(), row)?;
     let view = TableView::new(rt.alloc(), &bytes)?;
-    begin(rt);
-    let returned = descriptions(rt.alloc(), &view);
-    end(rt);
+    let returned = marked!(rt; descriptions(rt.alloc(), &view));
     Outcome::of(encoded(rt.alloc(), returned))
+}
+
+/// The ids and the bytes of a row, with a colon between them.
+pub fn ids_and_bytes(alloc: Global, row: &str) -> Result<(Vec<u32>, Vec<u8>), Fail> {
+    let (ids, input) = parted(row, ':')?;
+    Ok((numbers(alloc, ids)?, bytes_of(alloc, input.trim())?))
 }
 
 /// Numbers what entries reach: before the colon stand the roots.
 pub fn number(rt: &HostRuntime, row: &str) -> Result<Outcome, Fail> {
-    let (roots, input) = parted(row, ':')?;
-    let (roots, bytes) = (
-        numbers(rt.alloc(), roots)?,
-        bytes_of(rt.alloc(), input.trim())?,
-    );
+    let (roots, bytes) = ids_and_bytes(rt.alloc(), row)?;
     let view = TableView::new(rt.alloc(), &bytes)?;
-    begin(rt);
-    let returned = view.number(rt.alloc(), &roots);
-    end(rt);
+    let returned = marked!(rt; view.number(rt.alloc(), &roots));
     walked(rt.alloc(), returned)
 }
 
@@ -158,9 +136,7 @@ pub fn find_by_path(rt: &HostRuntime, row: &str) -> Result<Outcome, Fail> {
         bytes_of(rt.alloc(), input.trim())?,
     );
     let view = TableView::new(rt.alloc(), &bytes)?;
-    begin(rt);
-    let found = view.find_by_path(&path);
-    end(rt);
+    let found = marked!(rt; view.find_by_path(&path));
     Outcome::of(done(format!(in rt.alloc(); "{found:?}")))
 }
 

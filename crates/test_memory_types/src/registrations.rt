@@ -11,7 +11,7 @@ use std::alloc::{AllocError, Global};
 use std::test::Fail;
 use test_common::held::Held;
 use test_memory_common::answers::{Answer, digits, failed, printed};
-use test_memory_common::marks::{begin, end};
+use test_memory_common::marked;
 use test_memory_common::outcomes::Outcome;
 use test_memory_common::types::{catalogue, catalogue_of, type_named, types_named};
 
@@ -89,44 +89,30 @@ fn listed(
 }
 
 /// Registers types, which are handed over.
-fn register_types(rt: &HostRuntime, given: Given, types: Vec<MetaType>) -> Result<Outcome, Fail> {
-    let Given {
-        mut registry,
-        known,
-    } = given;
-    let before = state(rt.alloc(), &registry.0);
-    begin(rt);
-    let returned = registry.0.register_types(types, &known.0);
-    end(rt);
-    let after = state(rt.alloc(), &registry.0);
+fn register_types(
+    rt: &HostRuntime,
+    mut given: Given,
+    types: Vec<MetaType>,
+) -> Result<Outcome, Fail> {
+    let before = state(rt.alloc(), &given.registry.0);
+    let returned = marked!(rt; given.registry.0.register_types(types, &given.known.0));
+    let after = state(rt.alloc(), &given.registry.0);
     Outcome::lending(before, after, listed(rt.alloc(), returned))
 }
 
 /// Registers types, which stay where they are.
-fn register_all(rt: &HostRuntime, given: Given, types: &[MetaType]) -> Result<Outcome, Fail> {
-    let Given {
-        mut registry,
-        known,
-    } = given;
-    let before = state(rt.alloc(), &registry.0);
-    begin(rt);
-    let returned = registry.0.register_all(types, &known.0);
-    end(rt);
-    let after = state(rt.alloc(), &registry.0);
+fn register_all(rt: &HostRuntime, mut given: Given, types: &[MetaType]) -> Result<Outcome, Fail> {
+    let before = state(rt.alloc(), &given.registry.0);
+    let returned = marked!(rt; given.registry.0.register_all(types, &given.known.0));
+    let after = state(rt.alloc(), &given.registry.0);
     Outcome::lending(before, after, listed(rt.alloc(), returned))
 }
 
 /// Registers a type.
-fn register_type(rt: &HostRuntime, given: Given, ty: &MetaType) -> Result<Outcome, Fail> {
-    let Given {
-        mut registry,
-        known,
-    } = given;
-    let before = state(rt.alloc(), &registry.0);
-    begin(rt);
-    let returned = registry.0.register_type(ty, &known.0);
-    end(rt);
-    let after = state(rt.alloc(), &registry.0);
+fn register_type(rt: &HostRuntime, mut given: Given, ty: &MetaType) -> Result<Outcome, Fail> {
+    let before = state(rt.alloc(), &given.registry.0);
+    let returned = marked!(rt; given.registry.0.register_type(ty, &given.known.0));
+    let after = state(rt.alloc(), &given.registry.0);
     let answer = match returned {
         Ok(symbol) => printed(rt.alloc(), ids(rt.alloc(), &[symbol])),
         Err(error) => failed(rt.alloc(), &error),
