@@ -81,8 +81,8 @@ pub fn decode(rt: &HostRuntime, row: &str) -> Result<Outcome, Fail> {
 }
 
 /// Whether the copy of a value that borrows is the value that is decoded, and what is left.
-fn lent(alloc: Global, given: &Given, lent: &Lent<'_, '_>, rest: &[u8]) -> Result<Answer, Fail> {
-    let copy = lent.to_dyn(alloc)?;
+fn copied(alloc: Global, given: &Given, value: &Lent<'_, '_>, rest: &[u8]) -> Result<Answer, Fail> {
+    let copy = value.to_dyn(alloc)?;
     let is_same = given.is_decoded(alloc, &copy)?;
     Ok(done(format!(in alloc; "{is_same} {rest:?}"))?)
 }
@@ -94,7 +94,7 @@ pub fn lent_outcome(
     returned: Result<(Lent<'_, '_>, &[u8]), ValueError>,
 ) -> Result<Outcome, Fail> {
     let answer = match returned {
-        Ok((value, rest)) => lent(alloc, given, &value, rest)?,
+        Ok((value, rest)) => copied(alloc, given, &value, rest)?,
         Err(error) => failed(alloc, &error)?,
     };
     Outcome::of(Ok(answer))

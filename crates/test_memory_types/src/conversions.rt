@@ -19,17 +19,19 @@ use test_memory_common::types::{description_named, type_named};
 /// Converts a value.
 fn convert<T: IntoPortable + Drop>(
     rt: &HostRuntime,
-    mut given: Given,
+    Given {
+        mut registry,
+        known,
+    }: Given,
     value: Result<T, AllocError>,
 ) -> Result<Outcome, Fail>
 where
     T::Output: Scale,
 {
     let value = value?;
-    let before = state(rt.alloc(), &given.registry.0);
-    let (registry, known) = (&mut given.registry.0, &given.known.0);
-    let returned = marked!(rt; value.into_portable(rt.alloc(), registry, known));
-    let after = state(rt.alloc(), &given.registry.0);
+    let before = state(rt.alloc(), &registry.0);
+    let returned = marked!(rt; value.into_portable(rt.alloc(), &mut registry.0, &known.0));
+    let after = state(rt.alloc(), &registry.0);
     Outcome::lending(before, after, encoded(rt.alloc(), returned))
 }
 

@@ -91,28 +91,45 @@ fn listed(
 /// Registers types, which are handed over.
 fn register_types(
     rt: &HostRuntime,
-    mut given: Given,
+    Given {
+        mut registry,
+        known,
+    }: Given,
     types: Vec<MetaType>,
 ) -> Result<Outcome, Fail> {
-    let before = state(rt.alloc(), &given.registry.0);
-    let returned = marked!(rt; given.registry.0.register_types(types, &given.known.0));
-    let after = state(rt.alloc(), &given.registry.0);
+    let before = state(rt.alloc(), &registry.0);
+    let returned = marked!(rt; registry.0.register_types(types, &known.0));
+    let after = state(rt.alloc(), &registry.0);
     Outcome::lending(before, after, listed(rt.alloc(), returned))
 }
 
 /// Registers types, which stay where they are.
-fn register_all(rt: &HostRuntime, mut given: Given, types: &[MetaType]) -> Result<Outcome, Fail> {
-    let before = state(rt.alloc(), &given.registry.0);
-    let returned = marked!(rt; given.registry.0.register_all(types, &given.known.0));
-    let after = state(rt.alloc(), &given.registry.0);
+fn register_all(
+    rt: &HostRuntime,
+    Given {
+        mut registry,
+        known,
+    }: Given,
+    types: &[MetaType],
+) -> Result<Outcome, Fail> {
+    let before = state(rt.alloc(), &registry.0);
+    let returned = marked!(rt; registry.0.register_all(types, &known.0));
+    let after = state(rt.alloc(), &registry.0);
     Outcome::lending(before, after, listed(rt.alloc(), returned))
 }
 
 /// Registers a type.
-fn register_type(rt: &HostRuntime, mut given: Given, ty: &MetaType) -> Result<Outcome, Fail> {
-    let before = state(rt.alloc(), &given.registry.0);
-    let returned = marked!(rt; given.registry.0.register_type(ty, &given.known.0));
-    let after = state(rt.alloc(), &given.registry.0);
+fn register_type(
+    rt: &HostRuntime,
+    Given {
+        mut registry,
+        known,
+    }: Given,
+    ty: &MetaType,
+) -> Result<Outcome, Fail> {
+    let before = state(rt.alloc(), &registry.0);
+    let returned = marked!(rt; registry.0.register_type(ty, &known.0));
+    let after = state(rt.alloc(), &registry.0);
     let answer = match returned {
         Ok(symbol) => printed(rt.alloc(), ids(rt.alloc(), &[symbol])),
         Err(error) => failed(rt.alloc(), &error),
