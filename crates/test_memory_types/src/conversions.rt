@@ -19,10 +19,7 @@ use test_memory_common::types::{description_named, type_named};
 /// Converts a value.
 fn convert<T: IntoPortable + Drop>(
     rt: &HostRuntime,
-    Given {
-        mut registry,
-        known,
-    }: Given,
+    (mut registry, known): Given,
     value: Result<T, AllocError>,
 ) -> Result<Outcome, Fail>
 where
