@@ -92,6 +92,7 @@ pub use Rattle.scale_info_encode.specs.DefinitionWriters
 pub use Rattle.scale_info_encode.specs.IntegerWriters
 pub use Rattle.scale_info_encode.specs.Writers
 pub use Rattle.scale_info_encode.specs.Writings
+pub use Rattle.scale_info_encode.specs.Paths
 pub use Rattle.scale_info_visit.specs.declared.visitor.VisitError.TheVariants as VisitErrors
 pub use Rattle.scale_info_visit.specs.EachEvent
 pub use Rattle.scale_info_visit.specs.Events

@@ -1,5 +1,5 @@
 -- Equality of errors decides whether they are one value.
-use Rattle.std.proofs.Common.{◌≡◌, ◌==◌, ℕ, List, IsTrue, refl, ap}
+use Rattle.std.proofs.Common.{◌≡◌, ◌==◌, ℕ, List, refl, ap}
 use Rattle.std.specs.Bool.{Decides}
 use Rattle.std.proofs.lemmas.Bool.Decides.{Decides-eqb}
 use Rattle.std.proofs.lemmas.Slice.Eq.{slice_eq-Decides}

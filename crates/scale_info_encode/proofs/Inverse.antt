@@ -159,7 +159,7 @@ followed tag read write next more first second tagged = record {
 }
 
 -- a part has the bytes that it has by itself
-part_written : (s : Step) (w : Written) (bytes : List ℕ) → of_part s w ≡ written bytes → w ≡ written bytes
+pub part_written : (s : Step) (w : Written) (bytes : List ℕ) → of_part s w ≡ written bytes → w ≡ written bytes
 part_written s (written b) bytes e = e
 part_written s (refused why) bytes e = cc
 

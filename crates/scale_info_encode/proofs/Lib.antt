@@ -15,3 +15,4 @@ pub mod ValueKinds
 pub mod Widths
 pub mod Pruned
 mod EqualErrors
+mod Paths

@@ -2,3 +2,4 @@ pub mod Writers
 pub mod IntegerWriters
 pub mod DefinitionWriters
 pub mod Writings
+pub mod Paths

@@ -1,5 +1,6 @@
 //! The path from a value to one of its parts.
-ghost use Rattle.std.specs.Prelude.{◌≡◌, ◌∷◌, [], IfOk};
+ghost use Rattle.std.specs.Prelude.{◌≡◌, ◌∷◌, [], Some, IfOk};
+ghost use Rattle.scale_info_encode.specs.Paths.{step_text, path_text};
 ghost use Rattle.scale_info_encode.specs.Writers.{step_to};
 
 use scale_info_collections::items::Items;
@@ -17,12 +18,14 @@ pub enum Step {
     Index(usize),
 }
 
-/// Prints the name or the index.
+/// Prints the name, or the index in decimal digits.
 impl fmt::Display for Step {
+    ghost output = { λ step. Some (step_text step) };
+
     fn fmt<W: fmt::Write>(&self, f: &mut fmt::Formatter<W>) -> fmt::Result {
         match self {
-            Step::Field(name) => write!(f, "{name}"),
-            Step::Index(index) => write!(f, "{index}"),
+            Step::Field(name) => fmt::Display::fmt(name, f),
+            Step::Index(index) => fmt::Display::fmt(index, f),
         }
     }
 }
@@ -67,15 +70,20 @@ impl ValuePath {
 }
 
 impl fmt::Display for ValuePath {
+    ghost output = { λ path. Some (path_text path.steps) };
+
     fn fmt<W: fmt::Write>(&self, f: &mut fmt::Formatter<W>) -> fmt::Result {
-        let [first, more @ ..] = self.steps.as_slice() else {
-            return f.write_str("value");
-        };
-        write!(f, "{first}")?;
-        for step in more {
-            write!(f, ".{step}")?;
+        match self.steps.as_slice().split_first() {
+            None => f.write_str("value"),
+            Some((first, others)) => {
+                fmt::Display::fmt(first, f)?;
+                for step in others {
+                    f.write_str(".")?;
+                    fmt::Display::fmt(step, f)?;
+                }
+                Ok(())
+            }
         }
-        Ok(())
     }
 }
 

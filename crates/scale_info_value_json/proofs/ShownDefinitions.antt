@@ -1,5 +1,5 @@
 -- Values of each kind of definition are taken back from the text.
-use Rattle.std.proofs.Common.{◌≡◌, ℕ, ◌*◌, ◌<◌, ◌≤◌, ◌^◌, ◌==◌, Bool, true, false, ◌&&◌, List, [], ◌∷◌, ◌++◌, map, length, replicate}
+use Rattle.std.proofs.Common.{◌≡◌, ℕ, ◌+◌, ◌*◌, ◌<◌, ◌≤◌, ◌^◌, ◌==◌, Bool, true, false, ◌&&◌, List, [], ◌∷◌, ◌++◌, map, length, replicate}
 use Rattle.std.proofs.Common.{Option, Some, None, refl, ap, sym, ◌∙◌, subst, arith}
 use Rattle.std.proofs.lemmas.Bool.{and_parts, lt-ltb, ltb-true, eq-eqb}
 use Rattle.std.proofs.lemmas.Grind.{flat_map-append}
@@ -18,7 +18,7 @@ use Rattle.scale_info_tables.specs.declared.portable.PortableRegistry.{PortableR
 use Rattle.scale_info_value.specs.declared.value.Dyn.{Dyn}
 use Rattle.scale_info_value.specs.declared.value.Dyn.TheVariants as dyn
 use Rattle.scale_info_encode.specs.Writers as writing
-use Rattle.scale_info_encode.specs.Writers.{Writer, written, if_fits, refused}
+use Rattle.scale_info_encode.specs.Writers.{Writer, written, if_fits, refused, item}
 use Rattle.scale_info_encode.specs.IntegerWriters.{count, compact_bytes, is_signed_of}
 use Rattle.scale_info_encode.specs.DefinitionWriters as writers
 use Rattle.scale_info_encode.specs.DefinitionWriters.{Writers, held, list_in, record_in, unsigned_in, signed_in, truth_in, text_in}
@@ -41,7 +41,7 @@ use Rattle.scale_info_value_json.proofs.Shown.{IsShown, AreShown, none_shown}
 use Rattle.scale_info_value_json.proofs.ShownChoices.{variant_back}
 use Rattle.scale_info_value_json.proofs.ShownFields.{fields_back}
 use Rattle.scale_info_value_json.proofs.ShownLists.{placed_tokens, one_back, items_back, list_back, typed_list_back}
-use Rattle.scale_info_value_json.proofs.ShownParts.{tokens_by, AreTakenBack, PartIsTakenBack, nothing_back, held_parts, shown_map, parted_bytes}
+use Rattle.scale_info_value_json.proofs.ShownParts.{tokens_by, AreTakenBack, PartIsTakenBack, items_taken, nothing_back, held_parts, shown_map, parted_bytes}
 
 -- ---- primitives
 
@@ -186,20 +186,25 @@ module _ (table : PortableRegistry) (writers_of : Id → Writers) (takers_of : I
 
   -- items of each type in order are taken back
   members_are_back :
-      (types : List Id) (values : List Dyn) (b : List ℕ)
-      → writing.in_turn (map (λ p. p.value) (map writers_of types)) values ≡ written b → AllByRecursion IsByte b
+      (place : ℕ) (types : List Id) (values : List Dyn) (b : List ℕ)
+      → writing.in_turn place (map (λ p. item p.value) (map writers_of types)) values ≡ written b → AllByRecursion IsByte b
       → all_own values ≡ true
       → AreShown (placed_tokens table (map (λ t. definition_at table t.id) types) values)
       (in_turn (map (λ p. p.value) (map takers_of types))) values
-  members_are_back [] [] b e all own = none_shown (in_turn []) refl
-  members_are_back [] (v ∷ values) b e all own = cc
-  members_are_back (r ∷ types) [] b e all own = cc
-  members_are_back (r ∷ types) (v ∷ values) b e all own =
-      let p = parted_bytes ((writers_of r).value v) (writing.in_turn (map (λ p. p.value) (map writers_of types)) values) b e all in
+  members_are_back place [] [] b e all own = none_shown (in_turn []) refl
+  members_are_back place [] (v ∷ values) b e all own = cc
+  members_are_back place (r ∷ types) [] b e all own = cc
+  members_are_back place (r ∷ types) (v ∷ values) b e all own =
+      let write = (writers_of r).value in
+      let p =
+      parted_bytes (item write place v)
+      (writing.in_turn (place + 1) (map (λ p. item p.value) (map writers_of types)) values) b e all in
       let o = and_parts (has_own_names v) (all_own values) own in
       one_back table (definition_at table r.id) (map (λ t. definition_at table t.id) types) (takers_of r).value
       (in_turn (map (λ p. p.value) (map takers_of types))) (in_turn (map (λ p. p.value) (map takers_of (r ∷ types)))) v values
-      (λ tree trees. refl) ((back r).value v p.0 p.2 p.4 o.0) (members_are_back types values p.1 p.3 p.5 o.1)
+      (λ tree trees. refl)
+      (items_taken write (tokens_by table (definition_at table r.id)) (takers_of r).value (back r).value place v p.0 p.2 p.4 o.0)
+      (members_are_back (place + 1) types values p.1 p.3 p.5 o.1)
 
   -- a list of items in an array is taken back, by the definitions of the items
   array_of_back :
@@ -232,7 +237,7 @@ module _ (table : PortableRegistry) (writers_of : Id → Writers) (takers_of : I
       (members (map (λ part. part.value) (map takers_of d.fields)))
   tuple_back d =
       array_of_back (Some (def.Tuple d)) (λ n. map (λ t. definition_at table t.id) d.fields) (writers.members (map writers_of d.fields))
-      (in_turn (map (λ part. part.value) (map takers_of d.fields))) (members_are_back d.fields)
+      (in_turn (map (λ part. part.value) (map takers_of d.fields))) (members_are_back 0 d.fields)
       (list_typed table (Some (def.Tuple d))) (λ n. true) (λ values b e. refl)
 
   -- a key and a value are taken back
@@ -242,37 +247,47 @@ module _ (table : PortableRegistry) (writers_of : Id → Writers) (takers_of : I
       (takers.pair (takers_of key) (takers_of value))
   pair_back key value =
       array_of_back (Some (pair_of key value)) (λ n. definition_at table key.id ∷ definition_at table value.id ∷ [])
-      (writing.in_turn ((writers_of key).inner ∷ (writers_of value).inner ∷ []))
+      (writing.in_turn 0 (item (writers_of key).inner ∷ item (writers_of value).inner ∷ []))
       (in_turn ((takers_of key).inner ∷ (takers_of value).inner ∷ [])) both
       (list_typed table (Some (pair_of key value))) (λ n. true) (λ values b e. refl)
     where
       second :
-          (values : List Dyn) (b : List ℕ) → writing.in_turn ((writers_of value).inner ∷ []) values ≡ written b
+          (values : List Dyn) (b : List ℕ) → writing.in_turn 1 (item (writers_of value).inner ∷ []) values ≡ written b
           → AllByRecursion IsByte b → all_own values ≡ true
           → AreShown (placed_tokens table (definition_at table value.id ∷ []) values) (in_turn ((takers_of value).inner ∷ [])) values
       second [] b e all own = cc
       second (v ∷ []) b e all own =
-          let p = parted_bytes ((writers_of value).inner v) (writing.in_turn {A = Dyn} [] []) b e all in
+          let write = (writers_of value).inner in
+          let p = parted_bytes (item write 1 v) (writing.in_turn {A = Dyn} 2 [] []) b e all in
           let o = and_parts (has_own_names v) (all_own []) own in
           one_back table (definition_at table value.id) [] (takers_of value).inner (in_turn {A = Dyn} []) (in_turn ((takers_of value).inner ∷ [])) v []
-          (λ tree trees. refl) ((back value).inner v p.0 p.2 p.4 o.0) (none_shown (in_turn {A = Dyn} []) refl)
+          (λ tree trees. refl)
+          (items_taken write (tokens_by table (definition_at table value.id)) (takers_of value).inner (back value).inner 1 v
+          p.0 p.2 p.4 o.0)
+          (none_shown (in_turn {A = Dyn} []) refl)
       second (v ∷ w ∷ values) b e all own =
-          let p = parted_bytes ((writers_of value).inner v) (writing.in_turn {A = Dyn} [] (w ∷ values)) b e all in
+          let p =
+          parted_bytes (item (writers_of value).inner 1 v) (writing.in_turn {A = Dyn} 2 [] (w ∷ values)) b e all in
           let none = p.3 in cc
 
       both :
           (values : List Dyn) (b : List ℕ)
-          → writing.in_turn ((writers_of key).inner ∷ (writers_of value).inner ∷ []) values ≡ written b
+          → writing.in_turn 0 (item (writers_of key).inner ∷ item (writers_of value).inner ∷ []) values ≡ written b
           → AllByRecursion IsByte b → all_own values ≡ true
           → AreShown (placed_tokens table (definition_at table key.id ∷ definition_at table value.id ∷ []) values)
           (in_turn ((takers_of key).inner ∷ (takers_of value).inner ∷ [])) values
       both [] b e all own = cc
       both (v ∷ values) b e all own =
-          let p = parted_bytes ((writers_of key).inner v) (writing.in_turn ((writers_of value).inner ∷ []) values) b e all in
+          let write = (writers_of key).inner in
+          let p =
+          parted_bytes (item write 0 v) (writing.in_turn 1 (item (writers_of value).inner ∷ []) values) b e all in
           let o = and_parts (has_own_names v) (all_own values) own in
           one_back table (definition_at table key.id) (definition_at table value.id ∷ []) (takers_of key).inner
           (in_turn ((takers_of value).inner ∷ [])) (in_turn ((takers_of key).inner ∷ (takers_of value).inner ∷ [])) v values
-          (λ tree trees. refl) ((back key).inner v p.0 p.2 p.4 o.0) (second values p.1 p.3 p.5 o.1)
+          (λ tree trees. refl)
+          (items_taken write (tokens_by table (definition_at table key.id)) (takers_of key).inner (back key).inner 0 v
+          p.0 p.2 p.4 o.0)
+          (second values p.1 p.3 p.5 o.1)
 
   -- a count was written of fewer than 2^32
   counted_fits :
@@ -300,7 +315,7 @@ module _ (table : PortableRegistry) (writers_of : Id → Writers) (takers_of : I
       ap (λ (t : Bool). taken_map dyn.List (if t then each take (listed trees) else not_taken mismatch)) (ap has_count long ∙ fits)
       ∙ ap (taken_map dyn.List) h)
       (items_back table (Some (pair_of d.key d.value)) (writers.pair (writers_of d.key) (writers_of d.value)) take (pair_back d.key d.value)
-      (length x.0) x.0 p.1 p.3 p.5 own_items)))
+      (length x.0) 0 x.0 p.1 p.3 p.5 own_items)))
 
   -- a sequence is taken back
   sequence_back :
@@ -325,8 +340,8 @@ module _ (table : PortableRegistry) (writers_of : Id → Writers) (takers_of : I
   array_back d value bytes e all own =
       let r = d.type_param in
       let x = held_parts dyn.List list_in (writers.items d.len (writers_of r)) lists value bytes e in
-      let long = as_many d.len (writers_of r).value x.0 bytes x.2 in
-      let as_written = ap (λ n. writing.in_turn (replicate n (writers_of r).value) x.0) long ∙ x.2 in
+      let long = as_many d.len 0 (item (writers_of r).value) x.0 bytes x.2 in
+      let as_written = ap (λ n. writing.in_turn 0 (replicate n (item (writers_of r).value)) x.0) long ∙ x.2 in
       let own_items = sym (list_own x.0) ∙ ap has_own_names (sym x.1) ∙ own in
       let whole = items (λ n. n == d.len) (takers_of r) in
       subst (λ v. IsShown (tokens_by table (Some (def.Array d)) v) whole v) (sym x.1)

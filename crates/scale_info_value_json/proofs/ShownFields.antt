@@ -1,5 +1,5 @@
 -- Fields that are taken back from the text.
-use Rattle.std.proofs.Common.{◌≡◌, ℕ, Bool, true, false, ◌&&◌, ◌||◌, List, [], ◌∷◌, ◌++◌, map, Option, Some, None, option_map}
+use Rattle.std.proofs.Common.{◌≡◌, ℕ, ◌+◌, Bool, true, false, ◌&&◌, ◌||◌, List, [], ◌∷◌, ◌++◌, map, Option, Some, None, option_map}
 use Rattle.std.proofs.Common.{refl, ap, sym, ◌∙◌, subst}
 use Rattle.std.proofs.lemmas.Bool.{and_parts, eq-eqb}
 use Rattle.std.proofs.lemmas.Grind.{flat_map-append}
@@ -17,10 +17,11 @@ use Rattle.scale_info_types.specs.declared.ty.fields.Field.{Field as AnyField}
 use Rattle.scale_info_types.specs.Shapes.{map_field}
 use Rattle.scale_info_tables.specs.declared.portable.PortableRegistry.{PortableRegistry}
 use Rattle.scale_info_value.specs.declared.value.Dyn.{Dyn}
-use Rattle.scale_info_encode.specs.Writers.{written}
+use Rattle.scale_info_encode.specs.Writers as writing
+use Rattle.scale_info_encode.specs.Writers.{Writer, written, step_to}
 use Rattle.scale_info_encode.specs.DefinitionWriters as writers
 use Rattle.scale_info_encode.specs.DefinitionWriters.{Writers}
-use Rattle.scale_info_encode.proofs.Inverse.{parted}
+use Rattle.scale_info_encode.proofs.Inverse.{parted, part_written}
 use Rattle.scale_info_bytes.specs.Encodings.{IsByte}
 use Rattle.scale_info_visit.specs.Events.{definition_at, field_types, all_named, keys, names}
 use Rattle.scale_info_visit.specs.Visits.{placed, field_by}
@@ -97,30 +98,37 @@ module _ (table : PortableRegistry) (writers_of : Id → Writers) (takers_of : I
 
   -- a field that is written has its name
   field_parts :
-      (f : Field) (named : Option Text × Dyn) (b : List ℕ) → writers.field (written_field f) named ≡ written b
+      (place : ℕ) (f : Field) (named : Option Text × Dyn) (b : List ℕ)
+      → writers.field (written_field f) place named ≡ written b
       → (f.name ≡ named.0) × ((writers_of f.ty).value named.1 ≡ written b)
-  field_parts f named b e =
-      let p = passed_test (option_eq bytes_eq (option_map (λ t. t) f.name) named.0) (writers_of f.ty).value named.1 b e in
+  field_parts place f named b e =
+      let p =
+      passed_test (option_eq bytes_eq (option_map (λ t. t) f.name) named.0) (writers_of f.ty).value named.1 b
+      (part_written (step_to place named.0) _ b e) in
       (sym (name_stays f.name) ∙ equal_names (option_map (λ t. t) f.name) named.0 p.0, p.1)
+
+  -- the fields from a place on, in order
+  abbrev written_from : ℕ → List Field → Writer (List (Option Text × Dyn))
+  written_from place all values = writing.in_turn place (map writers.field (map written_field all)) values
 
   -- fields that are written have their names
   pub written_keys :
-      (all : List Field) (values : List (Option Text × Dyn)) (b : List ℕ)
-      → writers.fields (map written_field all) values ≡ written b → keys values ≡ names all
-  written_keys [] [] b e = refl
-  written_keys [] (v ∷ values) b e = cc
-  written_keys (f ∷ all) [] b e = cc
-  written_keys (f ∷ all) (v ∷ values) b e =
-      let p = parted (writers.field (written_field f) v) (writers.fields (map written_field all) values) b e in
-      λ i. sym (field_parts f v p.0 p.2).0 i ∷ written_keys all values p.1 p.3 i
+      (place : ℕ) (all : List Field) (values : List (Option Text × Dyn)) (b : List ℕ)
+      → written_from place all values ≡ written b → keys values ≡ names all
+  written_keys place [] [] b e = refl
+  written_keys place [] (v ∷ values) b e = cc
+  written_keys place (f ∷ all) [] b e = cc
+  written_keys place (f ∷ all) (v ∷ values) b e =
+      let p = parted (writers.field (written_field f) place v) (written_from (place + 1) all values) b e in
+      λ i. sym (field_parts place f v p.0 p.2).0 i ∷ written_keys (place + 1) all values p.1 p.3 i
 
   -- a field's value is taken back under its name
   field_back :
-      (f : Field) (named : Option Text × Dyn) (b : List ℕ) → writers.field (written_field f) named ≡ written b
-      → AllByRecursion IsByte b → has_own_names named.1 ≡ true
+      (place : ℕ) (f : Field) (named : Option Text × Dyn) (b : List ℕ)
+      → writers.field (written_field f) place named ≡ written b → AllByRecursion IsByte b → has_own_names named.1 ≡ true
       → IsShown (tokens_by table (definition_at table f.ty.id) named.1) (takers.field (taken_field f)) named
-  field_back f named b e bytes own =
-      let p = field_parts f named b e in
+  field_back place f named b e bytes own =
+      let p = field_parts place f named b e in
       let s = (back f.ty).value named.1 b p.1 bytes own in
       subst (λ (n : Option Text). IsShown {A = Option Text × Dyn} (tokens_by table (definition_at table f.ty.id) named.1)
       (λ tree. taken_map (λ value. (option_map (λ t. t) f.name, value)) ((takers_of f.ty).value tree)) (n, named.1))
@@ -139,15 +147,15 @@ module _ (table : PortableRegistry) (writers_of : Id → Writers) (takers_of : I
 
   -- fields in an array are taken back
   array_back :
-      (all : List Field) (values : List (Option Text × Dyn)) (b : List ℕ)
-      → writers.fields (map written_field all) values ≡ written b → AllByRecursion IsByte b → fields_own values ≡ true
+      (place : ℕ) (all : List Field) (values : List (Option Text × Dyn)) (b : List ℕ)
+      → written_from place all values ≡ written b → AllByRecursion IsByte b → fields_own values ≡ true
       → AreShown (flat_map event_tokens (placed (field_by table false) (field_types table all) values))
       (in_turn (map takers.field (map taken_field all))) values
-  array_back [] [] b e bytes own = none_shown (in_turn []) refl
-  array_back [] (v ∷ values) b e bytes own = cc
-  array_back (f ∷ all) [] b e bytes own = cc
-  array_back (f ∷ all) (v ∷ values) b e bytes own =
-      let p = parted_bytes (writers.field (written_field f) v) (writers.fields (map written_field all) values) b e bytes in
+  array_back place [] [] b e bytes own = none_shown (in_turn []) refl
+  array_back place [] (v ∷ values) b e bytes own = cc
+  array_back place (f ∷ all) [] b e bytes own = cc
+  array_back place (f ∷ all) (v ∷ values) b e bytes own =
+      let p = parted_bytes (writers.field (written_field f) place v) (written_from (place + 1) all values) b e bytes in
       let o = and_parts (has_own_names v.1) (fields_own values) own in
       let ts = tokens_by table (definition_at table f.ty.id) v.1 in
       let us = flat_map event_tokens (placed (field_by table false) (field_types table all) values) in
@@ -155,7 +163,7 @@ module _ (table : PortableRegistry) (writers_of : Id → Writers) (takers_of : I
       subst (λ all_tokens. AreShown all_tokens take (v ∷ values))
       (sym (tokens_of_first false v f all values ∙ ap (λ first. (first ++ ts) ++ us) (nothing_before v.0)))
       (one_shown ts us (takers.field (taken_field f)) (in_turn (map takers.field (map taken_field all))) take v values
-      (λ tree trees. refl) (field_back f v p.0 p.2 p.4 o.0) (array_back all values p.1 p.3 p.5 o.1))
+      (λ tree trees. refl) (field_back place f v p.0 p.2 p.4 o.0) (array_back (place + 1) all values p.1 p.3 p.5 o.1))
 
   -- fields stand for takers under their names
   taken_names : (all : List Field) → names_of (named_takers (map taken_field all)) ≡ names all
@@ -169,27 +177,27 @@ module _ (table : PortableRegistry) (writers_of : Id → Writers) (takers_of : I
 
   -- fields under their names, put to others that were found before, are taken back
   members_back :
-      (all : List Field) (values : List (Option Text × Dyn)) (b : List ℕ) (found : Members)
-      → writers.fields (map written_field all) values ≡ written b → AllByRecursion IsByte b → fields_own values ≡ true
+      (place : ℕ) (all : List Field) (values : List (Option Text × Dyn)) (b : List ℕ) (found : Members)
+      → written_from place all values ≡ written b → AllByRecursion IsByte b → fields_own values ≡ true
       → all_named (names all) ≡ true → are_distinct (names all) ≡ true
       → AreMembersShown (flat_map event_tokens (placed (field_by table true) (field_types table all) values)) found
       (named_takers (map taken_field all)) values
-  members_back [] [] b found e bytes own named distinct = no_members_shown found
-  members_back [] (v ∷ values) b found e bytes own named distinct = cc
-  members_back (f ∷ all) [] b found e bytes own named distinct = cc
-  members_back (f ∷ all) (v ∷ values) b found e bytes own named distinct =
-      let p = parted_bytes (writers.field (written_field f) v) (writers.fields (map written_field all) values) b e bytes in
+  members_back place [] [] b found e bytes own named distinct = no_members_shown found
+  members_back place [] (v ∷ values) b found e bytes own named distinct = cc
+  members_back place (f ∷ all) [] b found e bytes own named distinct = cc
+  members_back place (f ∷ all) (v ∷ values) b found e bytes own named distinct =
+      let p = parted_bytes (writers.field (written_field f) place v) (written_from (place + 1) all values) b e bytes in
       let o = and_parts (has_own_names v.1) (fields_own values) own in
       let n = some_name f.name (names all) named in
       let d = apart f.name (names all) distinct in
       let name = n.0 in
       let ts = tokens_by table (definition_at table f.ty.id) v.1 in
       let us = flat_map event_tokens (placed (field_by table true) (field_types table all) values) in
-      let s = field_back f v p.0 p.2 p.4 o.0 in
-      let rest = members_back all values p.1 (put name s.tree found) p.3 p.5 o.1 n.2 d.1 in
+      let s = field_back place f v p.0 p.2 p.4 o.0 in
+      let rest = members_back (place + 1) all values p.1 (put name s.tree found) p.3 p.5 o.1 n.2 d.1 in
       let alone : has_name (Some name) (names_of (named_takers (map taken_field all))) ≡ false =
       (λ i. has_name (sym n.1 i) (taken_names all i)) ∙ d.0 in
-      let under : v.0 ≡ Some name = sym (field_parts f v p.0 p.2).0 ∙ n.1 in
+      let under : v.0 ≡ Some name = sym (field_parts place f v p.0 p.2).0 ∙ n.1 in
       let first : option_map (λ (t : Text). t) f.name ≡ Some name = name_stays f.name ∙ n.1 in
       subst (λ all_tokens. AreMembersShown all_tokens found (named_takers (map taken_field (f ∷ all))) (v ∷ values))
       (sym (tokens_of_first true v f all values ∙ ap (λ key. (field_opening key true ++ ts) ++ us) under))
@@ -208,7 +216,7 @@ module _ (table : PortableRegistry) (writers_of : Id → Writers) (takers_of : I
       (takers.fields (map taken_field all)) values
   fields_back all values b e bytes own =
       let o = and_parts (own_names (keys values)) (fields_own values) own in
-      let same = written_keys all values b e in
+      let same = written_keys 0 all values b e in
       by_names (all_named (keys values)) refl same (not_passed (all_named (keys values)) (are_distinct (keys values)) o.0) o.1
     where
       by_names :
@@ -232,7 +240,7 @@ module _ (table : PortableRegistry) (writers_of : Id → Writers) (takers_of : I
           ∙ ap (λ (t : Bool). if t then all_taken (map (named_field (object found)) (map taken_field all)) else refused mismatch)
           (eq-eqb _ _ (count ∙ length-map (map taken_field all) (λ f. (f.name, takers.field f))))
           ∙ named_takers_are (object found) (map taken_field all) ∙ h)
-          (members_back all values b no_members e bytes own are_named are_apart)
+          (members_back 0 all values b no_members e bytes own are_named are_apart)
       by_names false is same distinct own =
           let array_of : is_object_of (map (λ f. f.name) (map taken_field all)) ≡ false =
           ap is_object_of (names_stay all) ∙ ap (λ (t : Bool). t && are_distinct (names all)) (ap all_named (sym same) ∙ is) in
@@ -242,4 +250,4 @@ module _ (table : PortableRegistry) (writers_of : Id → Writers) (takers_of : I
           ap (λ (t : Bool). if t then object_fields (map taken_field all) (array trees)
           else if_found (items_in (array trees)) (in_turn (map takers.field (map taken_field all)))) array_of
           ∙ h)
-          (array_back all values b e bytes own)
+          (array_back 0 all values b e bytes own)

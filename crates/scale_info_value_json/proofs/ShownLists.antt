@@ -1,5 +1,5 @@
 -- Lists that are taken back from the text.
-use Rattle.std.proofs.Common.{◌≡◌, ℕ, zero, suc, ◌<◌, Bool, true, false, List, [], ◌∷◌, ◌++◌, map, length, replicate}
+use Rattle.std.proofs.Common.{◌≡◌, ℕ, zero, suc, ◌+◌, ◌<◌, Bool, true, false, List, [], ◌∷◌, ◌++◌, map, length, replicate}
 use Rattle.std.proofs.Common.{Option, Some, option_map, refl, ap, sym, ◌∙◌, subst, arith}
 use Rattle.std.proofs.lemmas.Bool.{and_parts}
 use Rattle.std.proofs.lemmas.Grind.{flat_map-append}
@@ -16,9 +16,10 @@ use Rattle.scale_info_tables.specs.declared.portable.PortableRegistry.{PortableR
 use Rattle.scale_info_value.specs.declared.value.Dyn.{Dyn}
 use Rattle.scale_info_value.specs.declared.value.Dyn.TheVariants as dyn
 use Rattle.scale_info_encode.specs.Writers as writing
-use Rattle.scale_info_encode.specs.Writers.{Writer, written}
+use Rattle.scale_info_encode.specs.declared.path.Step.TheVariants as step
+use Rattle.scale_info_encode.specs.Writers.{Writer, written, item}
 use Rattle.scale_info_encode.specs.DefinitionWriters.{Writers}
-use Rattle.scale_info_encode.proofs.Inverse.{parted}
+use Rattle.scale_info_encode.proofs.Inverse.{parted, part_written}
 use Rattle.scale_info_visit.specs.Events as event
 use Rattle.scale_info_visit.specs.Events.{Event, definition_at, events_by, list_events, items_events, in_place, joined, integers_in}
 use Rattle.scale_info_visit.specs.Visits.{placed, value_by}
@@ -31,7 +32,7 @@ use Rattle.scale_info_value_json.specs.TreesOfTexts.{has_own_names}
 use Rattle.scale_info_value_json.proofs.Leaves.{string_shown, bytes_back}
 use Rattle.scale_info_value_json.proofs.OwnNames.{all_own}
 use Rattle.scale_info_value_json.proofs.Shown.{IsShown, AreShown, none_shown, one_shown, array_shown}
-use Rattle.scale_info_value_json.proofs.ShownParts.{tokens_by, AreTakenBack, PartIsTakenBack, IsByteBack, parted_bytes}
+use Rattle.scale_info_value_json.proofs.ShownParts.{tokens_by, AreTakenBack, PartIsTakenBack, IsByteBack, items_taken, parted_bytes}
 use Rattle.scale_info_value_json.proofs.SoFar.{then_more}
 
 module _ (table : PortableRegistry) where
@@ -59,16 +60,19 @@ module _ (table : PortableRegistry) where
   -- items of one type are taken back
   pub items_back :
       (type : Option TypeDef) (write : Writer Dyn) (take : Taker Dyn) → AreTakenBack write (tokens_by table type) take
-      → (n : ℕ) (values : List Dyn) (b : List ℕ) → writing.in_turn (replicate n write) values ≡ written b
+      → (n place : ℕ) (values : List Dyn) (b : List ℕ)
+      → writing.in_turn place (replicate n (item write)) values ≡ written b
       → AllByRecursion IsByte b → all_own values ≡ true → AreShown (placed_tokens (replicate n type) values) (each take) values
-  items_back type write take back zero [] b e all own = none_shown (each take) refl
-  items_back type write take back zero (v ∷ values) b e all own = cc
-  items_back type write take back (suc n) [] b e all own = cc
-  items_back type write take back (suc n) (v ∷ values) b e all own =
-      let p = parted_bytes (write v) (writing.in_turn (replicate n write) values) b e all in
+  items_back type write take back zero place [] b e all own = none_shown (each take) refl
+  items_back type write take back zero place (v ∷ values) b e all own = cc
+  items_back type write take back (suc n) place [] b e all own = cc
+  items_back type write take back (suc n) place (v ∷ values) b e all own =
+      let p =
+      parted_bytes (item write place v) (writing.in_turn (place + 1) (replicate n (item write)) values) b e all in
       let o = and_parts (has_own_names v) (all_own values) own in
-      one_back type (replicate n type) take (each take) (each take) v values (λ tree trees. refl) (back v p.0 p.2 p.4 o.0)
-      (items_back type write take back n values p.1 p.3 p.5 o.1)
+      one_back type (replicate n type) take (each take) (each take) v values (λ tree trees. refl)
+      (items_taken write (tokens_by table type) take back place v p.0 p.2 p.4 o.0)
+      (items_back type write take back n (place + 1) values p.1 p.3 p.5 o.1)
 
   -- a list of items that are no bytes is taken back
   pub list_back :
@@ -101,15 +105,15 @@ no_bytes i = omega arith
 -- items that are written as bytes are bytes
 are_bytes :
     (write : Writer Dyn) (take : Taker Dyn) → ((v : Dyn) (b : List ℕ) → write v ≡ written b → IsByteBack write take v)
-    → (n : ℕ) (values : List Dyn) (b : List ℕ) → writing.in_turn (replicate n write) values ≡ written b
+    → (n place : ℕ) (values : List Dyn) (b : List ℕ) → writing.in_turn place (replicate n (item write)) values ≡ written b
     → AreBytes take values
-are_bytes write take back zero [] b e = record { bytes = []; are = refl; small = no_bytes; taken_of = refl }
-are_bytes write take back zero (v ∷ values) b e = cc
-are_bytes write take back (suc n) [] b e = cc
-are_bytes write take back (suc n) (v ∷ values) b e =
-    let p = parted (write v) (writing.in_turn (replicate n write) values) b e in
-    let first = back v p.0 p.2 in
-    let rest = are_bytes write take back n values p.1 p.3 in
+are_bytes write take back zero place [] b e = record { bytes = []; are = refl; small = no_bytes; taken_of = refl }
+are_bytes write take back zero place (v ∷ values) b e = cc
+are_bytes write take back (suc n) place [] b e = cc
+are_bytes write take back (suc n) place (v ∷ values) b e =
+    let p = parted (item write place v) (writing.in_turn (place + 1) (replicate n (item write)) values) b e in
+    let first = back v p.0 (part_written (step.Index place) (write v) p.0 p.2) in
+    let rest = are_bytes write take back n (place + 1) values p.1 p.3 in
     record {
       bytes = first.byte ∷ rest.bytes;
       are = λ i. first.is i ∷ rest.are i;
@@ -124,11 +128,11 @@ module _ (table : PortableRegistry) (type : Option TypeDef) (writers : Writers) 
   -- a list of bytes is taken back
   bytes_list_back :
       (test : ℕ → Bool) (n : ℕ) (values : List Dyn) (b : List ℕ) → event.is_byte type ≡ true
-      → writing.in_turn (replicate n writers.value) values ≡ written b → test (length values) ≡ true
+      → writing.in_turn 0 (replicate n (item writers.value)) values ≡ written b → test (length values) ≡ true
       → IsShown (flat_map event_tokens (list_events true (in_place (value_by table) values (replicate n type))))
       (items test takers) (dyn.List values)
   bytes_list_back test n values b of_bytes e fits =
-      let a = are_bytes writers.value takers.value (back.bytes of_bytes) n values b e in
+      let a = are_bytes writers.value takers.value (back.bytes of_bytes) n 0 values b e in
       let types = replicate n type in
       let trees = map (λ k. number (unsigned k)) a.bytes in
       let all_integers : in_place (value_by table) values types ≡ map (λ k. event.unsigned k ∷ []) a.bytes =
@@ -153,7 +157,7 @@ module _ (table : PortableRegistry) (type : Option TypeDef) (writers : Writers) 
   -- a list of items of one type is taken back
   pub typed_list_back :
       (test : ℕ → Bool) (n : ℕ) (values : List Dyn) (b : List ℕ)
-      → writing.in_turn (replicate n writers.value) values ≡ written b → AllByRecursion IsByte b
+      → writing.in_turn 0 (replicate n (item writers.value)) values ≡ written b → AllByRecursion IsByte b
       → test (length values) ≡ true → all_own values ≡ true
       → IsShown (flat_map event_tokens (list_events (event.is_byte type) (in_place (value_by table) values (replicate n type))))
       (items test takers) (dyn.List values)
@@ -171,4 +175,4 @@ module _ (table : PortableRegistry) (type : Option TypeDef) (writers : Writers) 
           ∙ ap (λ (t : Bool). taken_map dyn.List (if t then each takers.value (listed trees) else refused mismatch))
           (ap test count ∙ fits)
           ∙ ap (taken_map dyn.List) h)
-          (items_back table type writers.value takers.value back.value n values b e all own)
+          (items_back table type writers.value takers.value back.value n 0 values b e all own)

@@ -10,9 +10,10 @@ use Rattle.scale_info_tables.specs.declared.portable.PortableRegistry.{PortableR
 use Rattle.scale_info_value.specs.declared.value.Dyn.{Dyn, out-Dyn}
 use Rattle.scale_info_value.specs.declared.value.Dyn.TheOpen.{Dyn-F}
 use Rattle.scale_info_value.specs.declared.value.Dyn.TheVariants as dyn
-use Rattle.scale_info_encode.specs.Writers.{Writer, Written, written, refused, mismatch, followed_by}
+use Rattle.scale_info_encode.specs.declared.path.Step.TheVariants as step
+use Rattle.scale_info_encode.specs.Writers.{Writer, Written, written, refused, mismatch, followed_by, item}
 use Rattle.scale_info_encode.specs.DefinitionWriters.{Writers, held, if_found}
-use Rattle.scale_info_encode.proofs.Inverse.{parted, first_bytes, rest_bytes}
+use Rattle.scale_info_encode.proofs.Inverse.{parted, part_written, first_bytes, rest_bytes}
 use Rattle.scale_info_encode.proofs.ValueKinds.{IsKind}
 use Rattle.scale_info_visit.specs.Events as event
 use Rattle.scale_info_visit.specs.Events.{events_by}
@@ -31,6 +32,13 @@ abbrev pub AreTakenBack : Writer Dyn → (Dyn → List Token) → Taker Dyn → 
 AreTakenBack write tokens take =
     (value : Dyn) (bytes : List ℕ) → write value ≡ written bytes → AllByRecursion IsByte bytes
     → has_own_names value ≡ true → IsShown (tokens value) take value
+
+-- so is one that is written as an item
+pub items_taken :
+    (write : Writer Dyn) (tokens : Dyn → List Token) (take : Taker Dyn) → AreTakenBack write tokens take → (place : ℕ)
+    → AreTakenBack (item write place) tokens take
+items_taken write tokens take back place value bytes e =
+    back value bytes (part_written (step.Index place) (write value) bytes e)
 
 -- a value that is written is a byte, and is taken from its number
 pub record IsByteBack (write : Writer Dyn) (take : Taker Dyn) (value : Dyn) : Type 0 where

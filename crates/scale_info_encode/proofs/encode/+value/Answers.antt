@@ -7,12 +7,12 @@ use Rattle.std.specs.Option.{option_eq}
 use Rattle.scale_info_types.specs.Shapes.{map_field}
 use Rattle.scale_info_encode.specs.declared.error.EncodeValueError.TheVariants as error
 use Rattle.scale_info_encode.specs.declared.path.Step.TheVariants as step
-use Rattle.scale_info_encode.specs.Writers.{item, in_turn, of_part, step_to, refused, mismatch, Appends, IsErrorOf}
+use Rattle.scale_info_encode.specs.Writers.{item, in_turn, refused, mismatch, Appends, IsErrorOf}
 use Rattle.scale_info_encode.specs.DefinitionWriters.{field}
-use Rattle.scale_info_encode.specs.Writings.{value_within, definition_within, part_within, pair_within, pairs_within}
+use Rattle.scale_info_encode.specs.Writings.{value_within, definition_within, part_within, pair_within}
 use Rattle.scale_info_encode.proofs.Appending.{mismatch_here}
 use Rattle.scale_info_encode.proofs.InTurn.{next_value, next_part, next_entry, no_next_value, first_of_all, alike, tail_whole, last_in_turn, none_left}
-use Rattle.scale_info_encode.proofs.SoFar.{SoFar, appended, on_err, passed, both_ok, both_err, both_kept, keeps, fails, starts, ends, goes_on, first_fails, next_fails, part_appended}
+use Rattle.scale_info_encode.proofs.SoFar.{SoFar, appended, passed, both_ok, both_err, both_kept, fails, starts, ends, goes_on, first_fails, next_fails, part_appended}
 use Rattle.scale_info_encode.proofs.Steps.{composite_is, tuple_is, sequence_is, map_is, variant_missing, variant_misnamed, variant_named, pair_is, field_named, field_misnamed}
 use Rattle.scale_info_encode.proofs.encode.+value.Goals as goal
 
