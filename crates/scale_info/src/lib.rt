@@ -6,6 +6,7 @@ pub mod impls;
 pub mod laws;
 pub mod macros;
 pub mod meta_type;
+pub mod typed;
 pub mod value;
 pub mod visit;
 pub mod walk;
