@@ -33,7 +33,9 @@ standing :
     → i < length xs → x ≡ get_or xs i x
     → slice_get (each_at value_at table place 0 xs) i ≡ Some (value_at table (part_at table place i) x)
 standing value_at table place i xs x less is =
+    let same : 0 + i ≡ i = omega arith in
     stands_at value_at table place 0 i xs x (slice_get-get_or xs i x less ∙ ap (λ y. Some y) (sym is))
+    ∙ ap (λ k. Some (value_at table (part_at table place k) x)) same
 
 -- one more item has a value
 pub next_stands :

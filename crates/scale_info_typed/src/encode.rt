@@ -16,6 +16,7 @@ use crate::place::Place;
 use crate::shown::Shown;
 use scale_info_encode::encode::encode_value;
 use scale_info_tables::portable::PortableRegistry;
+use scale_info_value::definition::Definitions;
 use scale_info_value::value::Dyn;
 use std::alloc::Global;
 
@@ -32,15 +33,15 @@ pub trait EncodeAs: Shown {
     /// The value at this place of the table that stands for this one.
     ///
     /// Errors: `Mismatch`, where there is none; `Memory`, where an allocation failed.
-    fn to_value(
+    fn to_value<D: Definitions>(
         &self,
         alloc: Global,
-        table: &PortableRegistry,
+        table: &D,
         place: Place,
     ) -> Result<Dyn, ConvertError>
-        ensures ok { IfOk result (λ value. value_at table.now place self.now ≡ Some value) }
+        ensures ok { IfOk result (λ value. value_at (D.table table.now) place self.now ≡ Some value) }
         ensures shown { IfOk result (λ value. Self.meant value ≡ Some (Self.seen self.now)) }
-        ensures err { IfErr result (IsMissing (value_at table.now place self.now)) };
+        ensures err { IfErr result (IsMissing (value_at (D.table table.now) place self.now)) };
 }
 
 /// Appends the encoding of a value of a program's type, by the type with this id.

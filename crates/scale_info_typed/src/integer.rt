@@ -11,7 +11,7 @@ use crate::error::ConvertError;
 use crate::place::Place;
 use crate::shown::Shown;
 use scale_info_lent::lent::Lent;
-use scale_info_tables::portable::PortableRegistry;
+use scale_info_value::definition::Definitions;
 use scale_info_value::value::Dyn;
 use std::alloc::Global;
 
@@ -217,10 +217,10 @@ impl DecodeAs for i128 {
 impl EncodeAs for u8 {
     ghost value_at = { λ _ _ n. Some (dyn.Unsigned n) };
 
-    fn to_value(
+    fn to_value<D: Definitions>(
         &self,
         _alloc: Global,
-        _table: &PortableRegistry,
+        _table: &D,
         _place: Place,
     ) -> Result<Dyn, ConvertError> {
         Ok(unsigned_value(u8::MAX as u128, *self as u128))
@@ -230,10 +230,10 @@ impl EncodeAs for u8 {
 impl EncodeAs for u16 {
     ghost value_at = { λ _ _ n. Some (dyn.Unsigned n) };
 
-    fn to_value(
+    fn to_value<D: Definitions>(
         &self,
         _alloc: Global,
-        _table: &PortableRegistry,
+        _table: &D,
         _place: Place,
     ) -> Result<Dyn, ConvertError> {
         Ok(unsigned_value(u16::MAX as u128, *self as u128))
@@ -243,10 +243,10 @@ impl EncodeAs for u16 {
 impl EncodeAs for u32 {
     ghost value_at = { λ _ _ n. Some (dyn.Unsigned n) };
 
-    fn to_value(
+    fn to_value<D: Definitions>(
         &self,
         _alloc: Global,
-        _table: &PortableRegistry,
+        _table: &D,
         _place: Place,
     ) -> Result<Dyn, ConvertError> {
         Ok(unsigned_value(u32::MAX as u128, *self as u128))
@@ -256,10 +256,10 @@ impl EncodeAs for u32 {
 impl EncodeAs for u64 {
     ghost value_at = { λ _ _ n. Some (dyn.Unsigned n) };
 
-    fn to_value(
+    fn to_value<D: Definitions>(
         &self,
         _alloc: Global,
-        _table: &PortableRegistry,
+        _table: &D,
         _place: Place,
     ) -> Result<Dyn, ConvertError> {
         Ok(unsigned_value(u64::MAX as u128, *self as u128))
@@ -269,10 +269,10 @@ impl EncodeAs for u64 {
 impl EncodeAs for u128 {
     ghost value_at = { λ _ _ n. Some (dyn.Unsigned n) };
 
-    fn to_value(
+    fn to_value<D: Definitions>(
         &self,
         _alloc: Global,
-        _table: &PortableRegistry,
+        _table: &D,
         _place: Place,
     ) -> Result<Dyn, ConvertError> {
         Ok(unsigned_value(u128::MAX, *self))
@@ -282,10 +282,10 @@ impl EncodeAs for u128 {
 impl EncodeAs for i8 {
     ghost value_at = { λ _ _ n. Some (dyn.Signed n) };
 
-    fn to_value(
+    fn to_value<D: Definitions>(
         &self,
         _alloc: Global,
-        _table: &PortableRegistry,
+        _table: &D,
         _place: Place,
     ) -> Result<Dyn, ConvertError> {
         Ok(signed_value(i8::MIN as i128, i8::MAX as i128, *self as i128))
@@ -295,10 +295,10 @@ impl EncodeAs for i8 {
 impl EncodeAs for i16 {
     ghost value_at = { λ _ _ n. Some (dyn.Signed n) };
 
-    fn to_value(
+    fn to_value<D: Definitions>(
         &self,
         _alloc: Global,
-        _table: &PortableRegistry,
+        _table: &D,
         _place: Place,
     ) -> Result<Dyn, ConvertError> {
         Ok(signed_value(i16::MIN as i128, i16::MAX as i128, *self as i128))
@@ -308,10 +308,10 @@ impl EncodeAs for i16 {
 impl EncodeAs for i32 {
     ghost value_at = { λ _ _ n. Some (dyn.Signed n) };
 
-    fn to_value(
+    fn to_value<D: Definitions>(
         &self,
         _alloc: Global,
-        _table: &PortableRegistry,
+        _table: &D,
         _place: Place,
     ) -> Result<Dyn, ConvertError> {
         Ok(signed_value(i32::MIN as i128, i32::MAX as i128, *self as i128))
@@ -321,10 +321,10 @@ impl EncodeAs for i32 {
 impl EncodeAs for i64 {
     ghost value_at = { λ _ _ n. Some (dyn.Signed n) };
 
-    fn to_value(
+    fn to_value<D: Definitions>(
         &self,
         _alloc: Global,
-        _table: &PortableRegistry,
+        _table: &D,
         _place: Place,
     ) -> Result<Dyn, ConvertError> {
         Ok(signed_value(i64::MIN as i128, i64::MAX as i128, *self as i128))
@@ -334,10 +334,10 @@ impl EncodeAs for i64 {
 impl EncodeAs for i128 {
     ghost value_at = { λ _ _ n. Some (dyn.Signed n) };
 
-    fn to_value(
+    fn to_value<D: Definitions>(
         &self,
         _alloc: Global,
-        _table: &PortableRegistry,
+        _table: &D,
         _place: Place,
     ) -> Result<Dyn, ConvertError> {
         Ok(signed_value(i128::MIN, i128::MAX, *self))

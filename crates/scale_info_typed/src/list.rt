@@ -12,7 +12,7 @@ use crate::place::Place;
 use crate::shown::Shown;
 use scale_info_collections::items::Items;
 use scale_info_lent::lent::Lent;
-use scale_info_tables::portable::PortableRegistry;
+use scale_info_value::definition::Definitions;
 use scale_info_value::value::Dyn;
 use std::alloc::Global;
 
@@ -35,16 +35,16 @@ fn items<T: DecodeAs>(alloc: Global, value: &Lent<'_, '_>) -> Result<Items<T>, C
 }
 
 /// The list of the values that stand for the items.
-fn list_value<T: EncodeAs>(
+fn list_value<T: EncodeAs, D: Definitions>(
     alloc: Global,
-    table: &PortableRegistry,
+    table: &D,
     place: Place,
     all: &[T],
 ) -> Result<Dyn, ConvertError>
     ensures ok { IfOk result
-        (λ value. list_at T.value_at table.now place all.now ≡ Some value) }
+        (λ value. list_at T.value_at (D.table table.now) place all.now ≡ Some value) }
     ensures shown { IfOk result (λ value. list T.meant value ≡ Some (map T.seen all.now)) }
-    ensures err { IfErr result (IsMissing (list_at T.value_at table.now place all.now)) }
+    ensures err { IfErr result (IsMissing (list_at T.value_at (D.table table.now) place all.now)) }
 {
     let mut values = Items::with_capacity(alloc, all.len())?;
     for (index, item) in all.iter().enumerate() {
@@ -110,10 +110,10 @@ impl<T: Shown> Shown for &[T] {
 impl<T: EncodeAs> EncodeAs for Items<T> {
     ghost value_at = { list_at T.value_at };
 
-    fn to_value(
+    fn to_value<D: Definitions>(
         &self,
         alloc: Global,
-        table: &PortableRegistry,
+        table: &D,
         place: Place,
     ) -> Result<Dyn, ConvertError> {
         list_value(alloc, table, place, self.as_slice())
@@ -123,10 +123,10 @@ impl<T: EncodeAs> EncodeAs for Items<T> {
 impl<T: EncodeAs> EncodeAs for Vec<T> {
     ghost value_at = { λ table place all. list_at T.value_at table place all.items };
 
-    fn to_value(
+    fn to_value<D: Definitions>(
         &self,
         alloc: Global,
-        table: &PortableRegistry,
+        table: &D,
         place: Place,
     ) -> Result<Dyn, ConvertError> {
         list_value(alloc, table, place, self)
@@ -136,10 +136,10 @@ impl<T: EncodeAs> EncodeAs for Vec<T> {
 impl<T: EncodeAs, const N: usize> EncodeAs for [T; N] {
     ghost value_at = { list_at T.value_at };
 
-    fn to_value(
+    fn to_value<D: Definitions>(
         &self,
         alloc: Global,
-        table: &PortableRegistry,
+        table: &D,
         place: Place,
     ) -> Result<Dyn, ConvertError> {
         list_value(alloc, table, place, self)
@@ -149,10 +149,10 @@ impl<T: EncodeAs, const N: usize> EncodeAs for [T; N] {
 impl<T: EncodeAs> EncodeAs for &[T] {
     ghost value_at = { λ table place all. list_at T.value_at table place all.now };
 
-    fn to_value(
+    fn to_value<D: Definitions>(
         &self,
         alloc: Global,
-        table: &PortableRegistry,
+        table: &D,
         place: Place,
     ) -> Result<Dyn, ConvertError> {
         list_value(alloc, table, place, self)

@@ -17,7 +17,7 @@ use crate::error::ConvertError;
 use crate::place::Place;
 use scale_info_collections::items::Items;
 use scale_info_lent::lent::Lent;
-use scale_info_tables::portable::PortableRegistry;
+use scale_info_value::definition::Definitions;
 use scale_info_value::value::Dyn;
 use std::alloc::Global;
 
@@ -109,20 +109,20 @@ pub(crate) trait MemberValues {
 
     /// Appends what stands for the members, where the first has as its index how many values there
     /// are.
-    fn append_values(
+    fn append_values<D: Definitions>(
         &self,
         alloc: Global,
-        table: &PortableRegistry,
+        table: &D,
         place: Place,
         values: &mut Items<Dyn>,
     ) -> Result<(), ConvertError>
         ensures ok { OnOk result (AppendsValues
-            (λ own. all_of (values_at table.now place (length values.old) self.now) ≡ Some own)
+            (λ own. all_of (values_at (D.table table.now) place (length values.old) self.now) ≡ Some own)
             values.old values.new) }
         ensures shown { OnOk result (AppendsValues (λ own. meant own ≡ Some (seen self.now))
             values.old values.new) }
         ensures err { IfErr result (IsMissing
-            (all_of (values_at table.now place (length values.old) self.now))) };
+            (all_of (values_at (D.table table.now) place (length values.old) self.now))) };
 }
 
 impl MemberValues for () {
@@ -134,10 +134,10 @@ impl MemberValues for () {
 
     ghost values_at = { λ _ _ _ _. [] };
 
-    fn append_values(
+    fn append_values<D: Definitions>(
         &self,
         _alloc: Global,
-        _table: &PortableRegistry,
+        _table: &D,
         _place: Place,
         _values: &mut Items<Dyn>,
     ) -> Result<(), ConvertError> {
@@ -156,10 +156,10 @@ impl<A: EncodeAs, B: MemberValues> MemberValues for (&A, B) {
         A.value_at table (part_at table place index) all.0.now
         ∷ B.values_at table place (index + 1) all.1 };
 
-    fn append_values(
+    fn append_values<D: Definitions>(
         &self,
         alloc: Global,
-        table: &PortableRegistry,
+        table: &D,
         place: Place,
         values: &mut Items<Dyn>,
     ) -> Result<(), ConvertError> {
@@ -172,16 +172,16 @@ impl<A: EncodeAs, B: MemberValues> MemberValues for (&A, B) {
 }
 
 /// The list of the values that stand for the members of a tuple.
-pub(crate) fn tuple_value<M: MemberValues>(
+pub(crate) fn tuple_value<M: MemberValues, D: Definitions>(
     alloc: Global,
-    table: &PortableRegistry,
+    table: &D,
     place: Place,
     members: &M,
 ) -> Result<Dyn, ConvertError>
     ensures ok { IfOk result
-        (λ value. tuple_at (M.values_at table.now place 0 members.now) ≡ Some value) }
+        (λ value. tuple_at (M.values_at (D.table table.now) place 0 members.now) ≡ Some value) }
     ensures shown { IfOk result (λ value. tuple M.meant value ≡ Some (M.seen members.now)) }
-    ensures err { IfErr result (IsMissing (tuple_at (M.values_at table.now place 0 members.now))) }
+    ensures err { IfErr result (IsMissing (tuple_at (M.values_at (D.table table.now) place 0 members.now))) }
 {
     let mut values = Items::new(alloc);
     members.append_values(alloc, table, place, &mut values)?;

@@ -16,10 +16,10 @@ use crate::shown::Shown;
 use scale_info_collections::items::Items;
 use scale_info_collections::try_clone::TryClone;
 use scale_info_lent::lent::Lent;
-use scale_info_tables::portable::PortableRegistry;
 use scale_info_types::form::PortableForm;
 use scale_info_types::ty::Field;
 use scale_info_types::ty::variant::Variant;
+use scale_info_value::definition::Definitions;
 use scale_info_value::value::Dyn;
 use std::alloc::{AllocError, Global};
 
@@ -93,19 +93,19 @@ fn with_field(
 }
 
 /// The variant `Some` with what stands for this value for its first field.
-fn something<T: EncodeAs>(
+fn something<T: EncodeAs, D: Definitions>(
     alloc: Global,
-    table: &PortableRegistry,
+    table: &D,
     variant: &Variant<PortableForm>,
     inner: &T,
 ) -> Result<Dyn, ConvertError>
     requires { variant.now.name ≡ codes "Some" }
     ensures ok { IfOk result (λ value.
-        with_first T.value_at table.now inner.now variant.now variant.now.fields ≡ Some value) }
+        with_first T.value_at (D.table table.now) inner.now variant.now variant.now.fields ≡ Some value) }
     ensures shown { IfOk result
         (λ value. optional T.meant value ≡ Some (Some (T.seen inner.now))) }
     ensures err { IfErr result (IsMissing
-        (with_first T.value_at table.now inner.now variant.now variant.now.fields)) }
+        (with_first T.value_at (D.table table.now) inner.now variant.now variant.now.fields)) }
 {
     match variant.fields.as_slice() {
         [] => Err(ConvertError::Mismatch),
@@ -137,10 +137,10 @@ impl<T: DecodeAs> DecodeAs for Option<T> {
 impl<T: EncodeAs> EncodeAs for Option<T> {
     ghost value_at = { optional_at T.value_at };
 
-    fn to_value(
+    fn to_value<D: Definitions>(
         &self,
         alloc: Global,
-        table: &PortableRegistry,
+        table: &D,
         place: Place,
     ) -> Result<Dyn, ConvertError> {
         match self {

@@ -4,10 +4,10 @@ ghost use Rattle.std.specs.Option.{option_copied};
 ghost use Rattle.scale_info_typed.specs.declared.place.Place.TheVariants as place;
 ghost use Rattle.scale_info_typed.specs.Places.{part_at, part_of, variant_named, variants_at};
 
-use scale_info_tables::portable::PortableRegistry;
 use scale_info_types::form::PortableForm;
 use scale_info_types::ty::TypeDef;
 use scale_info_types::ty::variant::Variant;
+use scale_info_value::definition::Definitions;
 
 /// Where a value stands in a table.
 #[derive(Clone, Copy)]
@@ -23,12 +23,12 @@ pub enum Place {
 impl Place {
     /// Where the part with this index stands, counted from 0: an item of a sequence or an array, an
     /// entry of a map, a member of a tuple, a field of a composite, the key or the value of an entry.
-    pub fn part(self, table: &PortableRegistry, index: usize) -> Place
-        ensures { result ≡ part_at table.now self index }
+    pub fn part<D: Definitions>(self, table: &D, index: usize) -> Place
+        ensures { result ≡ part_at (D.table table.now) self index }
     {
         match self {
-            Place::Type(id) => match table.resolve(id) {
-                Some(ty) => part_of(&ty.type_def, index),
+            Place::Type(id) => match table.definition(id) {
+                Some(definition) => part_of(definition, index),
                 None => Place::Nowhere,
             },
             Place::Entry(key, value) => match index {
@@ -40,12 +40,12 @@ impl Place {
     }
 
     /// The first variant with this name that a value here may be; None where there is none.
-    pub fn variant<'t>(
+    pub fn variant<'t, D: Definitions>(
         self,
-        table: &'t PortableRegistry,
+        table: &'t D,
         name: &str,
     ) -> Option<&'t Variant<PortableForm>>
-        ensures first { option_copied result ≡ variant_named name.now table.now self }
+        ensures first { option_copied result ≡ variant_named name.now (D.table table.now) self }
         ensures named { IfSome result (λ variant. variant.now.name ≡ name.now) }
     {
         self.variants(table)
@@ -54,17 +54,14 @@ impl Place {
     }
 
     /// The variants that a value here may be.
-    fn variants<'t>(self, table: &'t PortableRegistry) -> &'t [Variant<PortableForm>]
-        ensures { result.now ≡ variants_at table.now self }
+    fn variants<'t, D: Definitions>(self, table: &'t D) -> &'t [Variant<PortableForm>]
+        ensures { result.now ≡ variants_at (D.table table.now) self }
     {
         let Place::Type(id) = self else {
             return &[];
         };
-        let Some(ty) = table.resolve(id) else {
-            return &[];
-        };
-        match &ty.type_def {
-            TypeDef::Variant(choice) => choice.variants.as_slice(),
+        match table.definition(id) {
+            Some(TypeDef::Variant(choice)) => choice.variants.as_slice(),
             _ => &[],
         }
     }

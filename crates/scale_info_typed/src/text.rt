@@ -11,7 +11,7 @@ use crate::place::Place;
 use crate::shown::Shown;
 use scale_info_collections::text::Text;
 use scale_info_lent::lent::Lent;
-use scale_info_tables::portable::PortableRegistry;
+use scale_info_value::definition::Definitions;
 use scale_info_value::value::Dyn;
 use std::alloc::Global;
 
@@ -83,10 +83,10 @@ impl Shown for &str {
 impl EncodeAs for bool {
     ghost value_at = { λ _ _ b. Some (dyn.Bool b) };
 
-    fn to_value(
+    fn to_value<D: Definitions>(
         &self,
         _alloc: Global,
-        _table: &PortableRegistry,
+        _table: &D,
         _place: Place,
     ) -> Result<Dyn, ConvertError> {
         Ok(Dyn::Bool(*self))
@@ -96,10 +96,10 @@ impl EncodeAs for bool {
 impl EncodeAs for Text {
     ghost value_at = { λ _ _ t. Some (dyn.Text t) };
 
-    fn to_value(
+    fn to_value<D: Definitions>(
         &self,
         alloc: Global,
-        _table: &PortableRegistry,
+        _table: &D,
         _place: Place,
     ) -> Result<Dyn, ConvertError> {
         text_value(alloc, self.as_str())
@@ -109,10 +109,10 @@ impl EncodeAs for Text {
 impl EncodeAs for String {
     ghost value_at = { λ _ _ t. Some (dyn.Text (string_bytes t)) };
 
-    fn to_value(
+    fn to_value<D: Definitions>(
         &self,
         alloc: Global,
-        _table: &PortableRegistry,
+        _table: &D,
         _place: Place,
     ) -> Result<Dyn, ConvertError> {
         text_value(alloc, self)
@@ -122,10 +122,10 @@ impl EncodeAs for String {
 impl EncodeAs for &str {
     ghost value_at = { λ _ _ t. Some (dyn.Text t.now) };
 
-    fn to_value(
+    fn to_value<D: Definitions>(
         &self,
         alloc: Global,
-        _table: &PortableRegistry,
+        _table: &D,
         _place: Place,
     ) -> Result<Dyn, ConvertError> {
         text_value(alloc, self)

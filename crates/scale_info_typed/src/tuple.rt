@@ -11,7 +11,7 @@ use crate::members::{tuple_of, tuple_value};
 use crate::place::Place;
 use crate::shown::Shown;
 use scale_info_lent::lent::Lent;
-use scale_info_tables::portable::PortableRegistry;
+use scale_info_value::definition::Definitions;
 use scale_info_value::value::Dyn;
 use std::alloc::Global;
 
@@ -32,13 +32,13 @@ impl DecodeAs for () {
 impl EncodeAs for () {
     ghost value_at = { λ _ _ _. tuple_at [] };
 
-    fn to_value(
+    fn to_value<T: Definitions>(
         &self,
         alloc: Global,
-        table: &PortableRegistry,
+        table: &T,
         place: Place,
     ) -> Result<Dyn, ConvertError> {
-        tuple_value::<()>(alloc, table, place, &())
+        tuple_value(alloc, table, place, &())
     }
 }
 
@@ -61,13 +61,13 @@ impl<A: EncodeAs> EncodeAs for (A,) {
     ghost value_at = { λ table place t. tuple_at (A.value_at table (part_at table place 0) t.0 ∷
         []) };
 
-    fn to_value<'s>(
-        &'s self,
+    fn to_value<T: Definitions>(
+        &self,
         alloc: Global,
-        table: &PortableRegistry,
+        table: &T,
         place: Place,
     ) -> Result<Dyn, ConvertError> {
-        tuple_value::<(&'s A, ())>(alloc, table, place, &(&self.0, ()))
+        tuple_value(alloc, table, place, &(&self.0, ()))
     }
 }
 
@@ -90,13 +90,13 @@ impl<A: EncodeAs, B: EncodeAs> EncodeAs for (A, B) {
     ghost value_at = { λ table place t. tuple_at (A.value_at table (part_at table place 0) t.0 ∷
         B.value_at table (part_at table place 1) t.1 ∷ []) };
 
-    fn to_value<'s>(
-        &'s self,
+    fn to_value<T: Definitions>(
+        &self,
         alloc: Global,
-        table: &PortableRegistry,
+        table: &T,
         place: Place,
     ) -> Result<Dyn, ConvertError> {
-        tuple_value::<(&'s A, (&'s B, ()))>(alloc, table, place, &(&self.0, (&self.1, ())))
+        tuple_value(alloc, table, place, &(&self.0, (&self.1, ())))
     }
 }
 
@@ -121,18 +121,13 @@ impl<A: EncodeAs, B: EncodeAs, C: EncodeAs> EncodeAs for (A, B, C) {
         B.value_at table (part_at table place 1) t.1 ∷ C.value_at table (part_at table place 2)
         t.2 ∷ []) };
 
-    fn to_value<'s>(
-        &'s self,
+    fn to_value<T: Definitions>(
+        &self,
         alloc: Global,
-        table: &PortableRegistry,
+        table: &T,
         place: Place,
     ) -> Result<Dyn, ConvertError> {
-        tuple_value::<(&'s A, (&'s B, (&'s C, ())))>(
-            alloc,
-            table,
-            place,
-            &(&self.0, (&self.1, (&self.2, ()))),
-        )
+        tuple_value(alloc, table, place, &(&self.0, (&self.1, (&self.2, ()))))
     }
 }
 
@@ -157,13 +152,13 @@ impl<A: EncodeAs, B: EncodeAs, C: EncodeAs, D: EncodeAs> EncodeAs for (A, B, C, 
         B.value_at table (part_at table place 1) t.1 ∷ C.value_at table (part_at table place 2)
         t.2 ∷ D.value_at table (part_at table place 3) t.3 ∷ []) };
 
-    fn to_value<'s>(
-        &'s self,
+    fn to_value<T: Definitions>(
+        &self,
         alloc: Global,
-        table: &PortableRegistry,
+        table: &T,
         place: Place,
     ) -> Result<Dyn, ConvertError> {
-        tuple_value::<(&'s A, (&'s B, (&'s C, (&'s D, ()))))>(
+        tuple_value(
             alloc,
             table,
             place,
@@ -194,13 +189,13 @@ impl<A: EncodeAs, B: EncodeAs, C: EncodeAs, D: EncodeAs, E: EncodeAs> EncodeAs f
         t.2 ∷ D.value_at table (part_at table place 3) t.3 ∷ E.value_at table (part_at table place
         4) t.4 ∷ []) };
 
-    fn to_value<'s>(
-        &'s self,
+    fn to_value<T: Definitions>(
+        &self,
         alloc: Global,
-        table: &PortableRegistry,
+        table: &T,
         place: Place,
     ) -> Result<Dyn, ConvertError> {
-        tuple_value::<(&'s A, (&'s B, (&'s C, (&'s D, (&'s E, ())))))>(
+        tuple_value(
             alloc,
             table,
             place,
@@ -254,13 +249,13 @@ impl<A: EncodeAs, B: EncodeAs, C: EncodeAs, D: EncodeAs, E: EncodeAs, F: EncodeA
         t.2 ∷ D.value_at table (part_at table place 3) t.3 ∷ E.value_at table (part_at table place
         4) t.4 ∷ F.value_at table (part_at table place 5) t.5 ∷ []) };
 
-    fn to_value<'s>(
-        &'s self,
+    fn to_value<T: Definitions>(
+        &self,
         alloc: Global,
-        table: &PortableRegistry,
+        table: &T,
         place: Place,
     ) -> Result<Dyn, ConvertError> {
-        tuple_value::<(&'s A, (&'s B, (&'s C, (&'s D, (&'s E, (&'s F, ()))))))>(
+        tuple_value(
             alloc,
             table,
             place,
@@ -337,18 +332,13 @@ impl<
         4) t.4 ∷ F.value_at table (part_at table place 5) t.5 ∷ G.value_at table (part_at table
         place 6) t.6 ∷ []) };
 
-    fn to_value<'s>(
-        &'s self,
+    fn to_value<T: Definitions>(
+        &self,
         alloc: Global,
-        table: &PortableRegistry,
+        table: &T,
         place: Place,
     ) -> Result<Dyn, ConvertError> {
-        tuple_value::<
-            (
-                &'s A,
-                (&'s B, (&'s C, (&'s D, (&'s E, (&'s F, (&'s G, ())))))),
-            ),
-        >(
+        tuple_value(
             alloc,
             table,
             place,
@@ -431,21 +421,13 @@ impl<
         4) t.4 ∷ F.value_at table (part_at table place 5) t.5 ∷ G.value_at table (part_at table
         place 6) t.6 ∷ H.value_at table (part_at table place 7) t.7 ∷ []) };
 
-    fn to_value<'s>(
-        &'s self,
+    fn to_value<T: Definitions>(
+        &self,
         alloc: Global,
-        table: &PortableRegistry,
+        table: &T,
         place: Place,
     ) -> Result<Dyn, ConvertError> {
-        tuple_value::<
-            (
-                &'s A,
-                (
-                    &'s B,
-                    (&'s C, (&'s D, (&'s E, (&'s F, (&'s G, (&'s H, ())))))),
-                ),
-            ),
-        >(
+        tuple_value(
             alloc,
             table,
             place,

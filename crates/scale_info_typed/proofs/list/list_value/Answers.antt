@@ -7,7 +7,7 @@ use Rattle.scale_info_typed.proofs.list.list_value.Goals as goal
 pub returns-in_err-to_value-clause-err : goal.returns-in_err-to_value-clause-err
 returns-in_err-to_value-clause-err g c =
     let value_at = g.T.EncodeAs.value_at in
-    let table = c.args.table.now in
+    let table = g.D.Definitions.table c.args.table.now in
     let item = c.index-all-index.result in
     passed c.from_residual-in_err-to_value.result c.in_err-to_value.field-0.0 c.from_residual-in_err-to_value.ensures.1
     (value_at table c.part.result item) (list_at value_at table c.args.place c.args.all.now)
@@ -19,7 +19,7 @@ returns-in_err-to_value-clause-err g c =
 pub loop-index-preserved : goal.loop-index-preserved
 loop-index-preserved g c =
     let value_at = g.T.EncodeAs.value_at in
-    let table = c.args.table.now in
+    let table = g.D.Definitions.table c.args.table.now in
     let item = c.index-all-index.result in
     let index = c.loop-index.index in
     let all = c.args.all.now in
@@ -35,7 +35,7 @@ loop-index-preserved g c =
 
 pub returns-clause-ok : goal.returns-clause-ok
 returns-clause-ok g c =
-    all_stand g.T.EncodeAs.value_at c.args.table.now c.args.place c.loop-index.index c.args.all.now c.loop-index.values
+    all_stand g.T.EncodeAs.value_at (g.D.Definitions.table c.args.table.now) c.args.place c.loop-index.index c.args.all.now c.loop-index.values
     (omega arith) c.loop-index.invariant.0
 
 pub returns-clause-shown : goal.returns-clause-shown

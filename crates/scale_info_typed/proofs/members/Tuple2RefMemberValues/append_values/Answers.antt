@@ -8,8 +8,8 @@ use Rattle.scale_info_typed.proofs.members.Tuple2RefMemberValues.append_values.G
 
 pub returns-clause-err : goal.returns-clause-err
 returns-clause-err g c =
-    let others : ℕ → Option (List Dyn) = λ n. all_of (g.B.MemberValues.values_at c.args.table.now c.args.place n c.args.self.now.1) in
-    let first = g.A.EncodeAs.value_at c.args.table.now (part_at c.args.table.now c.args.place (length c.args.values.now)) c.args.self.now.0.now in
+    let others : ℕ → Option (List Dyn) = λ n. all_of (g.B.MemberValues.values_at (g.D.Definitions.table c.args.table.now) c.args.place n c.args.self.now.1) in
+    let first = g.A.EncodeAs.value_at (g.D.Definitions.table c.args.table.now) (part_at (g.D.Definitions.table c.args.table.now) c.args.place (length c.args.values.now)) c.args.self.now.0.now in
     let more : length c.push.new.self ≡ length c.args.values.now + 1 =
     ap length c.in_ok-push.ensures.list ∙ length-append c.args.values.now (c.in_ok-first.first ∷ []) in
     returned c.append_values.result (others (length c.push.new.self))
