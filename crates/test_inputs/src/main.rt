@@ -72,7 +72,7 @@ fn is_encoded(
 }
 
 /// What an input is.
-fn kind(alloc: Global, table: &PortableRegistry, id: u32, input: &[u8]) -> Result<Kind> {
+fn kind_of(alloc: Global, table: &PortableRegistry, id: u32, input: &[u8]) -> Result<Kind> {
     match decode_value(alloc, table, id, input) {
         Ok((value, rest)) => {
             if !is_encoded(alloc, table, id, &value, rest, input)? {
@@ -113,7 +113,7 @@ fn with(counts: Counts, kind: Kind) -> Counts {
 }
 
 /// The counts of the inputs of a length: the first so many numbers, the lowest byte first.
-fn counts(
+fn count_all(
     alloc: Global,
     table: &PortableRegistry,
     id: u32,
@@ -130,7 +130,7 @@ fn counts(
         let Some(input) = bytes.get(..len) else {
             bail!("an input is at most four bytes long");
         };
-        counts = with(counts, kind(alloc, table, id, input)?);
+        counts = with(counts, kind_of(alloc, table, id, input)?);
     }
     Ok(counts)
 }
@@ -144,7 +144,7 @@ fn print_counts(rt: &HostRuntime, id: u32, digits: &str) -> Result<()> {
             values,
             longer,
             malformed,
-        } = counts(alloc, &table, id, len, inputs)?;
+        } = count_all(alloc, &table, id, len, inputs)?;
         println!(rt; "{len} bytes: {values} values, {longer} longer, {malformed} malformed")?;
     }
     Ok(())
