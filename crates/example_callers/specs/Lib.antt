@@ -1,3 +1,4 @@
 pub mod ReadingLaws
+pub mod Signing
 pub mod Temperatures
 pub mod Transfers

@@ -12,6 +12,7 @@ pub mod print;
 pub mod pruned;
 pub mod pruning;
 pub mod register;
+pub mod signing;
 pub mod temperature;
 pub mod transfers;
 pub mod viewed;

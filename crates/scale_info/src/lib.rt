@@ -7,6 +7,7 @@ pub mod laws;
 pub mod macros;
 pub mod meta_type;
 pub mod metadata;
+pub mod typed;
 pub mod value;
 pub mod visit;
 pub mod walk;

@@ -1,0 +1,87 @@
+//! Changes the amount of a call that is to be signed, and encodes the call again.
+ghost use Rattle.std.specs.Prelude.{◌≡◌, IfOk, map};
+ghost use Rattle.example_callers.specs.Signing.{HasAmount, IsCallWith, with_amount};
+ghost use Rattle.example_callers.specs.Transfers.{is_amount};
+
+use anyhow::{Result, bail};
+use scale_info::laws::read_back;
+use scale_info::value::{Dyn, decode_value, encode_value};
+use scale_info::{Items, PortableRegistry, Text};
+use std::alloc::{AllocError, Global};
+
+/// Whether this is the name of an amount.
+fn is_amount(name: &Option<Text>) -> bool
+    ensures { result ≡ is_amount name.now }
+{
+    match name {
+        Some(name) => name.as_str() == "amount",
+        None => false,
+    }
+}
+
+/// The field, with this amount if it is one.
+fn field_with(field: (Option<Text>, Dyn), amount: u128) -> (Option<Text>, Dyn)
+    ensures { result ≡ with_amount amount field }
+{
+    let (name, value) = field;
+    if is_amount(&name) {
+        return (name, Dyn::Unsigned(amount));
+    }
+    (name, value)
+}
+
+/// The fields, each amount among them this one.
+fn fields_with(
+    alloc: Global,
+    fields: Vec<(Option<Text>, Dyn)>,
+    amount: u128,
+) -> Result<Items<(Option<Text>, Dyn)>, AllocError>
+    ensures { IfOk result (λ changed. changed ≡ map (with_amount amount) fields.items) }
+{
+    let mut changed = Items::with_capacity(alloc, fields.len())?;
+    for field in fields {
+        changed.push(field_with(field, amount))?;
+    }
+    Ok(changed)
+}
+
+/// The call, each amount among its fields this one.
+fn changed(alloc: Global, call: Dyn, amount: u128) -> Result<Dyn>
+    ensures { IfOk result (λ new. HasAmount amount call new) }
+{
+    let Dyn::Variant {
+        name,
+        index,
+        fields,
+    } = call
+    else {
+        bail!("a call is a variant");
+    };
+    Ok(Dyn::Variant {
+        name,
+        index,
+        fields: fields_with(alloc, fields.into_vec(), amount)?,
+    })
+}
+
+/// The bytes of a call whose field `amount` is this one, and which is in all else the call that the
+/// input encodes. The id is that of the type of calls.
+pub fn call_with_amount(
+    alloc: Global,
+    table: &PortableRegistry,
+    id: u32,
+    input: &[u8],
+    amount: u128,
+) -> Result<Vec<u8>>
+    ensures { IfOk result (λ bytes. IsCallWith table.now id amount input.now bytes.items) }
+{
+    read_back();
+    let (call, rest) = decode_value(alloc, table, id, input)?;
+    if !rest.is_empty() {
+        bail!("there are bytes after the call");
+    }
+    let call = changed(alloc, call, amount)?;
+    let mut bytes = Vec::new(alloc);
+    encode_value(table, id, &call, &mut bytes)?;
+    Ok(bytes)
+}

@@ -1,0 +1,66 @@
+//! Values of a program's types, decoded from bytes by a table.
+ghost use Rattle.std.specs.Prelude.{◌≡◌, Some, IfOk, IfErr};
+ghost use Rattle.scale_info_value.specs.Outcomes.{decoded, outcome_map};
+ghost use Rattle.scale_info_value.specs.Readings.{reading};
+ghost use Rattle.scale_info_lent.specs.LentValues.{dyn_of};
+ghost use Rattle.scale_info_typed.specs.ConvertErrors.{IsMissing, IsErrorOf};
+
+use crate::error::{ConvertError, DecodeAsError};
+use crate::shown::Shown;
+use scale_info_lent::lent::{Lent, decode_lent};
+use scale_info_tables::portable::PortableRegistry;
+use std::alloc::Global;
+
+/// A type of a program that decoded values are converted to.
+///
+/// | Type | Values that are one |
+/// |---|---|
+/// | `u8` to `u128` | integers of unsigned types, compact or not, that fit it |
+/// | `i8` to `i128` | integers of signed types that fit it |
+/// | `bool`, `Text`, `String` | truth values, texts |
+/// | `Vec<T>`, `Items<T>` | lists, each of whose items is a `T`; a map is a list of pairs |
+/// | `[T; N]` | such lists of `N` items |
+/// | `(A, B, ..)` | lists of just these members |
+/// | `Option<T>` | the variant `None` with no field, and `Some` with one field that is a `T` |
+///
+/// A struct of a program implements it by the fields of the value: see [`Lent::field`].
+pub trait DecodeAs: Shown + Drop {
+    /// The value of this type that a decoded value is.
+    ///
+    /// Errors: `Mismatch`, where it is none; `Memory`, where an allocation failed.
+    fn from_value(alloc: Global, value: &Lent<'_, '_>) -> Result<Self, ConvertError>
+        ensures ok { IfOk result (λ own. Self.meant (dyn_of value.now) ≡ Some (Self.seen own)) }
+        ensures err { IfErr result (IsMissing (Self.meant (dyn_of value.now))) };
+}
+
+/// Decodes a value of the type with this id from the start of the input, as a value of the type
+/// `T`, and returns it with the rest.
+///
+/// It decodes what `decode_value` decodes, with the same errors, and converts that value: see
+/// [`DecodeAs`]. So a `u32` is decoded by each unsigned width, as far as the integer fits.
+///
+/// Errors: `TooDeep`, where a value is more than 128 deep; `NoSuchType`, where an id is no index of
+/// the table; `Unsupported`, where values of a type are not decoded; `Malformed`, where no prefix
+/// of the input is a value of the type of the table; `Mismatch`, where one is, and is no `T`;
+/// `Memory`, where an allocation failed.
+///
+/// With a table that has `Vec<u16>` at index 0:
+///
+/// ```text
+/// let (all, rest) = decode_as::<Vec<u32>>(alloc, &table, 0, &[8, 1, 0, 2, 0, 255])?;
+/// // all is [1, 2], and the rest [255]
+/// ```
+pub fn decode_as<'i, T: DecodeAs>(
+    alloc: Global,
+    table: &PortableRegistry,
+    id: u32,
+    input: &'i [u8],
+) -> Result<(T, &'i [u8]), DecodeAsError>
+    ensures ok { IfOk result
+        (λ found. outcome_map T.meant (reading table.now id 1 input.now)
+        ≡ decoded (Some (T.seen found.0)) found.1.now) }
+    ensures err { IfErr result (IsErrorOf (outcome_map T.meant (reading table.now id 1 input.now))) }
+{
+    let (value, rest) = decode_lent(alloc, table, id, input)?;
+    Ok((T::from_value(alloc, &value)?, rest))
+}
