@@ -44,7 +44,7 @@ fn value_error(error: VisitError<AllocError>) -> ValueError
 /// The text goes by the type (`docs/FORMATS.md` has it byte by byte): integers up to 2^53 - 1 are
 /// numbers and others strings of their digits, bytes are a string of `0x` and hexadecimal digits.
 ///
-/// `table` is what `types` is to `decode_value_by`: a `PortableRegistry`, or what is loaded of one.
+/// `table` is what it is to `decode_value`: a `PortableRegistry`, or what is loaded of one.
 ///
 /// Errors: those of `decode_value`. The output is then as it was.
 ///
