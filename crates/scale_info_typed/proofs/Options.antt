@@ -1,5 +1,5 @@
 -- The variants of an option.
-use Rattle.std.proofs.Common.{◌≡◌, ℕ, List, [], ◌∷◌, Option, Some, None, option_map, option_and_then, refl, ap, sym, ◌∙◌, subst}
+use Rattle.std.proofs.Common.{◌≡◌, ℕ, List, [], ◌∷◌, Option, Some, None, option_map, option_and_then, ap, ◌∙◌}
 use Rattle.std.specs.Prelude.{codes}
 use Rattle.scale_info_types.specs.Portable.{Text}
 use Rattle.scale_info_value.specs.declared.value.Dyn.{Dyn}

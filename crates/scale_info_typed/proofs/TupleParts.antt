@@ -1,9 +1,8 @@
 -- The members of a tuple.
-use Rattle.std.proofs.Common.{◌≡◌, ℕ, zero, suc, ◌+◌, ◌<◌, ◌≤◌, arith, List, [], ◌∷◌, Option, Some, None, option_map, option_and_then, map, length, drop, refl, ap, sym, ◌∙◌, slice_get, subst}
+use Rattle.std.proofs.Common.{◌≡◌, ℕ, zero, suc, ◌+◌, ◌<◌, ◌≤◌, arith, List, [], ◌∷◌, Option, Some, None, option_map, option_and_then, length, drop, refl, ap, sym, ◌∙◌, slice_get, subst}
 use Rattle.std.proofs.lemmas.List.{drop_all}
 use Rattle.std.proofs.lemmas.Option.{none-some, same_Some}
 use Rattle.scale_info_value.specs.declared.value.Dyn.{Dyn}
-use Rattle.scale_info_lent.specs.ValueParts.{items_in, item_in}
 use Rattle.scale_info_typed.specs.Meanings.{and_others, member_and, no_members}
 use Rattle.scale_info_typed.proofs.AllOf.{left_at}
 

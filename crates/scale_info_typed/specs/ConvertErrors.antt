@@ -1,5 +1,5 @@
 -- Why a value is not converted, or bytes are not decoded as a value of a program's type.
-use Rattle.std.specs.Prelude.{◌≡◌, ℕ, List, Option, Some, None}
+use Rattle.std.specs.Prelude.{◌≡◌, ℕ, List, Option, None}
 use Rattle.scale_info_value.specs.Outcomes.{Outcome, decoded, failed, no_such_type, unsupported}
 use Rattle.scale_info_value.specs.Outcomes.{too_deep, malformed}
 use Rattle.scale_info_typed.specs.declared.error.ConvertError.{ConvertError}

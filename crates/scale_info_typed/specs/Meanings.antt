@@ -5,7 +5,8 @@ use Rattle.std.specs.Prelude.{option_and_then, length, map, if◌then◌else◌,
 use Rattle.std.specs.Str.{bytes_eq}
 use Rattle.scale_info_types.specs.Portable.{Text}
 use Rattle.scale_info_value.specs.declared.value.Dyn.{Dyn}
-use Rattle.scale_info_lent.specs.ValueParts.{unsigned_in, signed_in, items_in, fields_in, variant_in}
+use Rattle.scale_info_lent.specs.ValueParts.{unsigned_in, signed_in, items_in, fields_in}
+use Rattle.scale_info_lent.specs.ValueParts.{variant_in}
 
 -- the number, where it is below the limit
 abbrev pub below : ℕ → ℕ → Option ℕ

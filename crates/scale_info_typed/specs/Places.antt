@@ -1,5 +1,6 @@
 -- Where a value stands in a table: at a type, or as an entry of a map; and where its parts stand.
-use Rattle.std.specs.Prelude.{ℕ, zero, suc, List, [], Option, Some, None, option_map, slice_get, find}
+use Rattle.std.specs.Prelude.{ℕ, zero, suc, List, [], Option, Some, None, option_map}
+use Rattle.std.specs.Prelude.{slice_get, find}
 use Rattle.std.specs.Str.{bytes_eq}
 use Rattle.scale_info_types.specs.Portable.{Id, Text, Field, Variant, TypeDef}
 use Rattle.scale_info_types.specs.declared.ty.TypeDef.TheVariants as def

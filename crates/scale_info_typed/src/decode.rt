@@ -59,7 +59,8 @@ pub fn decode_as<'i, T: DecodeAs>(
     ensures ok { IfOk result
         (λ found. outcome_map T.meant (reading table.now id 1 input.now)
         ≡ decoded (Some (T.seen found.0)) found.1.now) }
-    ensures err { IfErr result (IsErrorOf (outcome_map T.meant (reading table.now id 1 input.now))) }
+    ensures err { IfErr result
+        (IsErrorOf (outcome_map T.meant (reading table.now id 1 input.now))) }
 {
     let (value, rest) = decode_lent(alloc, table, id, input)?;
     Ok((T::from_value(alloc, &value)?, rest))

@@ -22,9 +22,11 @@ use std::alloc::Global;
 
 /// A type of a program whose values are encoded by the types of a table.
 ///
-/// Integers, truth values and texts stand for themselves, a list or a tuple for the list of what its
-/// parts stand for, and an option for the first variant named `None`, or the first named `Some`,
-/// of the type of the table.
+/// What stands for an integer, a truth value or a text is that value; for a list or a tuple, the
+/// list of what stands for its parts; and for an option the first variant named `None`, or the
+/// first named `Some`, of the type of the table. It is implemented as
+/// [`DecodeAs`](crate::decode::DecodeAs) is, but for tuples of up to 8 members, and for `&str` and
+/// slices.
 pub trait EncodeAs: Shown {
     /// The value at a place of a table that stands for a value of this type; None where there is
     /// none.
@@ -39,15 +41,16 @@ pub trait EncodeAs: Shown {
         table: &D,
         place: Place,
     ) -> Result<Dyn, ConvertError>
-        ensures ok { IfOk result (λ value. value_at (D.table table.now) place self.now ≡ Some value) }
+        ensures ok { IfOk result
+            (λ value. value_at (D.table table.now) place self.now ≡ Some value) }
         ensures shown { IfOk result (λ value. Self.meant value ≡ Some (Self.seen self.now)) }
         ensures err { IfErr result (IsMissing (value_at (D.table table.now) place self.now)) };
 }
 
 /// Appends the encoding of a value of a program's type, by the type with this id.
 ///
-/// `decode_as` decodes what was appended to the same value, and leaves nothing. On an Err the output
-/// is as before.
+/// `decode_as` decodes what was appended to the same value, and leaves nothing. On an Err the
+/// output is as before.
 ///
 /// Errors: `Mismatch`, where no value of the type of the table stands for this one, as a `u32` that
 /// is more than 255 at `u8`, or an option at an enum without a variant `Some`; `TooDeep`, where a

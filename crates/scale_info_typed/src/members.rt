@@ -117,7 +117,8 @@ pub(crate) trait MemberValues {
         values: &mut Items<Dyn>,
     ) -> Result<(), ConvertError>
         ensures ok { OnOk result (AppendsValues
-            (λ own. all_of (values_at (D.table table.now) place (length values.old) self.now) ≡ Some own)
+            (λ own. all_of (values_at (D.table table.now) place (length values.old) self.now)
+            ≡ Some own)
             values.old values.new) }
         ensures shown { OnOk result (AppendsValues (λ own. meant own ≡ Some (seen self.now))
             values.old values.new) }
@@ -181,7 +182,8 @@ pub(crate) fn tuple_value<M: MemberValues, D: Definitions>(
     ensures ok { IfOk result
         (λ value. tuple_at (M.values_at (D.table table.now) place 0 members.now) ≡ Some value) }
     ensures shown { IfOk result (λ value. tuple M.meant value ≡ Some (M.seen members.now)) }
-    ensures err { IfErr result (IsMissing (tuple_at (M.values_at (D.table table.now) place 0 members.now))) }
+    ensures err { IfErr result
+        (IsMissing (tuple_at (M.values_at (D.table table.now) place 0 members.now))) }
 {
     let mut values = Items::new(alloc);
     members.append_values(alloc, table, place, &mut values)?;

@@ -101,7 +101,8 @@ fn something<T: EncodeAs, D: Definitions>(
 ) -> Result<Dyn, ConvertError>
     requires { variant.now.name ≡ codes "Some" }
     ensures ok { IfOk result (λ value.
-        with_first T.value_at (D.table table.now) inner.now variant.now variant.now.fields ≡ Some value) }
+        with_first T.value_at (D.table table.now) inner.now variant.now variant.now.fields
+        ≡ Some value) }
     ensures shown { IfOk result
         (λ value. optional T.meant value ≡ Some (Some (T.seen inner.now))) }
     ensures err { IfErr result (IsMissing

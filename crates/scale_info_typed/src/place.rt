@@ -22,7 +22,8 @@ pub enum Place {
 
 impl Place {
     /// Where the part with this index stands, counted from 0: an item of a sequence or an array, an
-    /// entry of a map, a member of a tuple, a field of a composite, the key or the value of an entry.
+    /// entry of a map, a member of a tuple, a field of a composite, or the key and the value of an
+    /// entry.
     pub fn part<D: Definitions>(self, table: &D, index: usize) -> Place
         ensures { result ≡ part_at (D.table table.now) self index }
     {

@@ -5,12 +5,12 @@ ghost use Rattle.scale_info_value.specs.declared.value.Dyn.{Dyn};
 /// A type of a program whose values stand for values of types of a table.
 ///
 /// Any type may implement it: an implementor says what contracts see of a value (a `Vec` and an
-/// `Items` of equal items are one list to them), and what a decoded value is as a value of the type.
-/// It owes nothing; [`DecodeAs`](crate::decode::DecodeAs) and
+/// `Items` of equal items are one list to them), and what a decoded value is as a value of the
+/// type. It owes nothing; [`DecodeAs`](crate::decode::DecodeAs) and
 /// [`EncodeAs`](crate::encode::EncodeAs) add the functions that keep to it.
 ///
-/// Implemented for `u8` to `u128`, `i8` to `i128`, `bool`, `Text`, `String`, `&str`, `Vec`, `Items`,
-/// arrays, slices, `Option`, and tuples of up to 12 members.
+/// Implemented for `u8` to `u128`, `i8` to `i128`, `bool`, `Text`, `String`, `&str`, `Vec`,
+/// `Items`, arrays, slices, `Option`, and tuples of up to 12 members.
 pub trait Shown {
     /// What contracts see of a value.
     ghost Seen: { Type 0 };

@@ -1,7 +1,7 @@
-use Rattle.std.proofs.Common.{rules, ap, sym, ◌≡◌, ◌∙◌, map}
+use Rattle.std.proofs.Common.{rules, ap, sym, ◌∙◌, map}
 use Rattle.std.proofs.lemmas.Iterator.Adapters.{YieldsList-from_vec}
 use Rattle.std.proofs.lemmas.Iterator.Consumers.{YieldsList-end}
-use Rattle.std.proofs.lemmas.List.{map-id, map-append}
+use Rattle.std.proofs.lemmas.List.{map-id}
 use Rattle.example_callers.specs.Signing.{with_amount}
 use Rattle.example_callers.proofs.signing.fields_with.Goals as goal
 

@@ -1,4 +1,4 @@
-use Rattle.std.proofs.Common.{◌≡◌, ℕ, ◌+◌, List, Option, Some, None, ap, sym, ◌∙◌, option_and_then, drop, slice_get}
+use Rattle.std.proofs.Common.{ℕ, ◌+◌, List, Option, ap, sym, ◌∙◌, option_and_then, drop}
 use Rattle.scale_info_value.specs.declared.value.Dyn.{Dyn}
 use Rattle.scale_info_lent.specs.LentValues.{dyn_of, value_of}
 use Rattle.scale_info_lent.specs.ValueParts.{items_in}
