@@ -1,0 +1,3 @@
+pub mod Layouts
+pub mod Names
+pub mod PathSearches
