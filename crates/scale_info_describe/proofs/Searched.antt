@@ -3,7 +3,6 @@ use Rattle.std.proofs.Common.{◌≡◌, ◌+◌, ◌++◌, ◌∷◌, ◌<◌, 
 use Rattle.std.proofs.Common.{get_or, drop, map, ap, sym, refl, arith, append_assoc, append-nil}
 use Rattle.std.proofs.lemmas.List.{drop_more, drop_all}
 use Rattle.scale_info_segments.specs.TypePaths.{IsPieces, StaticTexts, replaced, texts}
-use Rattle.scale_info_segments.proofs.TypePaths.{IsCutTo}
 use Rattle.scale_info_types.specs.Portable.{Text}
 use Rattle.scale_info_types.specs.declared.ty.PortableType.{PortableType}
 use Rattle.scale_info_describe.specs.PathSearches.{begins_with, indices_from, stands_in}

@@ -1,9 +1,9 @@
 -- Names, one type deep.
-use Rattle.std.proofs.Common.{◌≡◌, ◌≢◌, ◌-◌, ◌++◌, ◌∙◌, ℕ, zero, suc, List, Some, None, Option, ap, sym, refl, arith}
-use Rattle.std.specs.Prelude.{codes, decimal}
+use Rattle.std.proofs.Common.{◌≡◌, ◌≢◌, ◌-◌, ◌∙◌, ℕ, zero, suc, Option, ap, sym, refl, arith}
+use Rattle.std.specs.Prelude.{codes}
 use Rattle.scale_info_tables.specs.declared.portable.PortableRegistry.{PortableRegistry}
 use Rattle.scale_info_types.specs.Portable.{Description}
-use Rattle.scale_info_describe.specs.Names.{name_by, name_within, named, type_at}
+use Rattle.scale_info_describe.specs.Names.{name_by, name_within, type_at}
 
 -- a type that lies too deep
 pub too_deep :

@@ -1,5 +1,5 @@
 -- Types as Rust declares them.
-use Rattle.std.specs.Prelude.{◌≡◌, ◌++◌, ℕ, List, [], ◌∷◌, Bool, true, false, ◌||◌}
+use Rattle.std.specs.Prelude.{◌++◌, ℕ, List, [], ◌∷◌, Bool, true, false, ◌||◌}
 use Rattle.std.specs.Prelude.{Option, Some, None, option_map, codes, decimal, if◌then◌else◌}
 use Rattle.std.specs.List.{flat_map}
 use Rattle.scale_info_tables.specs.declared.portable.PortableRegistry.{PortableRegistry}

@@ -1,5 +1,5 @@
 -- The name of a type, as the field of another type mentions it.
-use Rattle.std.specs.Prelude.{◌≡◌, ◌++◌, ℕ, zero, suc, List, [], ◌∷◌, Bool, true, false, ◌||◌}
+use Rattle.std.specs.Prelude.{◌≡◌, ◌++◌, ℕ, zero, suc, List, [], ◌∷◌, Bool, false, ◌||◌}
 use Rattle.std.specs.Prelude.{Option, Some, None, Result, String, OnOk, option_map, unwrap_or, is_some}
 use Rattle.std.specs.Prelude.{length, ◌-◌, slice_get, codes, decimal, string_bytes, if◌then◌else◌}
 use Rattle.std.specs.List.{flat_map, join_by}

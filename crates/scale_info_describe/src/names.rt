@@ -13,9 +13,7 @@ use scale_info_identities::type_id::TypeId;
 use scale_info_tables::portable::PortableRegistry;
 use scale_info_types::form::PortableForm;
 use scale_info_types::ty::variant::Variant;
-use scale_info_types::ty::{
-    Field, Type, TypeDef, TypeDefBitSequence, TypeDefMap, TypeParameter,
-};
+use scale_info_types::ty::{Field, Type, TypeDef, TypeDefBitSequence, TypeDefMap, TypeParameter};
 use std::alloc::{AllocError, Global};
 
 /// How many types deep a name goes, 1 for the type itself. In the place of a type that lies deeper

@@ -71,7 +71,11 @@ fn ids_by(
     let types = &entries[..entries.len().min(4294967296)];
     let mut ids = Vec::new(alloc);
     for index in 0..types.len() {
-        if is_found(pieces.as_slice(), types[index].ty.path.segments.as_slice(), search) {
+        if is_found(
+            pieces.as_slice(),
+            types[index].ty.path.segments.as_slice(),
+            search,
+        ) {
             ids.push(index as u32)?;
         }
     }
