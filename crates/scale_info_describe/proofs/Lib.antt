@@ -1,2 +1,3 @@
+pub mod PathTests
 pub mod Searched
 pub mod Unfolded

@@ -3,7 +3,7 @@ use Rattle.std.proofs.Common.{◌≡◌, ◌≢◌, ◌-◌, ◌∙◌, ℕ, zer
 use Rattle.std.specs.Prelude.{codes}
 use Rattle.scale_info_tables.specs.declared.portable.PortableRegistry.{PortableRegistry}
 use Rattle.scale_info_types.specs.Portable.{Description}
-use Rattle.scale_info_describe.specs.Names.{name_by, name_within, type_at}
+use Rattle.scale_info_describe.specs.TypeNames.{name_by, name_within, type_at}
 
 -- a type that lies too deep
 pub too_deep :

@@ -1,3 +1,3 @@
-pub mod Layouts
-pub mod Names
 pub mod PathSearches
+pub mod TypeDeclarations
+pub mod TypeNames

@@ -1,5 +1,5 @@
 -- Types found by their paths.
-use Rattle.std.specs.Prelude.{◌≡◌, ◌+◌, ℕ, List, [], ◌∷◌, Bool, true, false, ◌&&◌, ◌||◌}
+use Rattle.std.specs.Prelude.{◌≡◌, ◌+◌, ◌++◌, ℕ, List, [], ◌∷◌, Bool, true, false, ◌&&◌, ◌||◌}
 use Rattle.std.specs.Prelude.{take, length, ◌==◌, if◌then◌else◌}
 use Rattle.std.specs.Str.{bytes_eq}
 use Rattle.scale_info_describe.specs.declared.search.Search.{Search}
@@ -22,6 +22,12 @@ is_path segments path = begins_with segments path && (length segments == length 
 abbrev pub stands_in : List Text → List Text → Bool
 stands_in pattern [] = begins_with pattern []
 stands_in pattern (t ∷ ts) = begins_with pattern (t ∷ ts) || stands_in pattern ts
+
+-- the path is some segments, these, and some others
+pub record StandInARow (segments path : List Text) : Type 0 where
+  pub front : List Text
+  pub back : List Text
+  pub parts : path ≡ front ++ (segments ++ back)
 
 -- the indices, ascending, of the entries whose paths pass the test; the first one's index is given
 abbrev pub indices_from : ℕ → (List Text → Bool) → List PortableType → List ℕ

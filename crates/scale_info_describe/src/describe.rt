@@ -3,11 +3,11 @@ ghost use Rattle.std.specs.Prelude.{◌≡◌, ◌++◌, ◌↔◌, ◌≤◌, [
 ghost use Rattle.std.specs.Prelude.{IfOk, OnErr, IsNone, is_some, string_bytes, unwrap_or};
 ghost use Rattle.std.specs.List.{flat_map};
 ghost use Rattle.scale_info_types.specs.declared.ty.TypeDef.TheVariants as def;
-ghost use Rattle.scale_info_describe.specs.Names.{Appends, name_within};
-ghost use Rattle.scale_info_describe.specs.Layouts.{description_at, declaration, alias, title};
-ghost use Rattle.scale_info_describe.specs.Layouts.{documentation, fields_on_lines, fields_of};
-ghost use Rattle.scale_info_describe.specs.Layouts.{field_line, variant_line, declared_struct};
-ghost use Rattle.scale_info_describe.specs.Layouts.{declared_enum};
+ghost use Rattle.scale_info_describe.specs.TypeNames.{Appends, name_within};
+ghost use Rattle.scale_info_describe.specs.TypeDeclarations.{description_at, declaration, alias, title};
+ghost use Rattle.scale_info_describe.specs.TypeDeclarations.{documentation, fields_on_lines, fields_of};
+ghost use Rattle.scale_info_describe.specs.TypeDeclarations.{field_line, variant_line, declared_struct};
+ghost use Rattle.scale_info_describe.specs.TypeDeclarations.{declared_enum};
 
 use crate::fields::{has_docs, has_name};
 use crate::names::{

@@ -1,7 +1,7 @@
 //! What the fields of a type have.
 ghost use Rattle.std.specs.Prelude.{◌≡◌};
-ghost use Rattle.scale_info_describe.specs.Names.{has_name};
-ghost use Rattle.scale_info_describe.specs.Layouts.{has_docs};
+ghost use Rattle.scale_info_describe.specs.TypeNames.{has_name};
+ghost use Rattle.scale_info_describe.specs.TypeDeclarations.{has_docs};
 
 use scale_info_types::form::PortableForm;
 use scale_info_types::ty::Field;

@@ -6,5 +6,6 @@
 
 pub mod describe;
 mod fields;
+pub mod laws;
 pub mod names;
 pub mod search;

@@ -1,10 +1,10 @@
 //! The name of a type, as the field of another type mentions it.
 ghost use Rattle.std.specs.Prelude.{◌≡◌, ◌++◌, [], IfOk, string_bytes, decimal};
 ghost use Rattle.scale_info_types.specs.declared.ty.TypeDef.TheVariants as def;
-ghost use Rattle.scale_info_describe.specs.Names.{Appends, name_within, name_at, named};
-ghost use Rattle.scale_info_describe.specs.Names.{definition_name, argument, arguments};
-ghost use Rattle.scale_info_describe.specs.Names.{tuple_name, field_on_line, fields_on_line};
-ghost use Rattle.scale_info_describe.specs.Names.{variants_on_line};
+ghost use Rattle.scale_info_describe.specs.TypeNames.{Appends, name_within, name_at, named};
+ghost use Rattle.scale_info_describe.specs.TypeNames.{definition_name, argument, arguments};
+ghost use Rattle.scale_info_describe.specs.TypeNames.{tuple_name, field_on_line, fields_on_line};
+ghost use Rattle.scale_info_describe.specs.TypeNames.{variants_on_line};
 
 use crate::fields::has_name;
 use itoa::Buffer;

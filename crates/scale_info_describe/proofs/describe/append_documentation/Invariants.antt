@@ -1,5 +1,5 @@
 use Rattle.std.proofs.Common.{◌≡◌, ◌++◌, drop, string_bytes}
-use Rattle.scale_info_describe.specs.Layouts.{documentation}
+use Rattle.scale_info_describe.specs.TypeDeclarations.{documentation}
 use Rattle.scale_info_describe.proofs.describe.append_documentation.Given as goal
 
 abbrev pub invariant-loop-line : goal.invariant-loop-line

@@ -1,7 +1,7 @@
 use Rattle.std.proofs.Common.{◌≡◌, ◌++◌, drop, string_bytes}
 use Rattle.std.specs.List.{flat_map}
-use Rattle.scale_info_describe.specs.Names.{name_within}
-use Rattle.scale_info_describe.specs.Layouts.{variant_line}
+use Rattle.scale_info_describe.specs.TypeNames.{name_within}
+use Rattle.scale_info_describe.specs.TypeDeclarations.{variant_line}
 use Rattle.scale_info_describe.proofs.describe.append_enum.Given as goal
 
 abbrev pub invariant-loop-variant : goal.invariant-loop-variant

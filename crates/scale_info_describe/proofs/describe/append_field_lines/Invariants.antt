@@ -1,7 +1,7 @@
 use Rattle.std.proofs.Common.{◌≡◌, ◌++◌, drop, string_bytes}
 use Rattle.std.specs.List.{flat_map}
-use Rattle.scale_info_describe.specs.Names.{name_within}
-use Rattle.scale_info_describe.specs.Layouts.{field_line}
+use Rattle.scale_info_describe.specs.TypeNames.{name_within}
+use Rattle.scale_info_describe.specs.TypeDeclarations.{field_line}
 use Rattle.scale_info_describe.proofs.describe.append_field_lines.Given as goal
 
 abbrev pub invariant-loop-field : goal.invariant-loop-field

@@ -3,7 +3,7 @@ use Rattle.std.specs.Prelude.{IsTrue}
 use Rattle.std.proofs.lemmas.Bool.{false≢true}
 use Rattle.std.proofs.lemmas.List.{drop_more}
 use Rattle.scale_info_types.specs.Portable.{Text}
-use Rattle.scale_info_describe.specs.Layouts.{has_docs, is_documented}
+use Rattle.scale_info_describe.specs.TypeDeclarations.{has_docs, is_documented}
 use Rattle.scale_info_describe.proofs.fields.has_docs.Goals as goal
 
 documented :

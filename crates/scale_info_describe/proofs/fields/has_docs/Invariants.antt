@@ -1,5 +1,5 @@
 use Rattle.std.proofs.Common.{◌≡◌, drop}
-use Rattle.scale_info_describe.specs.Layouts.{has_docs}
+use Rattle.scale_info_describe.specs.TypeDeclarations.{has_docs}
 use Rattle.scale_info_describe.proofs.fields.has_docs.Given as goal
 
 abbrev pub invariant-loop-field : goal.invariant-loop-field

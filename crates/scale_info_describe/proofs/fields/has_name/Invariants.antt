@@ -1,5 +1,5 @@
 use Rattle.std.proofs.Common.{◌≡◌, drop}
-use Rattle.scale_info_describe.specs.Names.{has_name}
+use Rattle.scale_info_describe.specs.TypeNames.{has_name}
 use Rattle.scale_info_describe.proofs.fields.has_name.Given as goal
 
 abbrev pub invariant-loop-field : goal.invariant-loop-field

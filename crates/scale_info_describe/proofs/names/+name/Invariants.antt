@@ -1,7 +1,7 @@
 use Rattle.std.proofs.Common.{◌≡◌, ◌++◌, ◌*◌, ◌+◌, drop, string_bytes}
 use Rattle.std.specs.List.{flat_map}
 use Rattle.std.specs.Prelude.{codes}
-use Rattle.scale_info_describe.specs.Names.{name_within, argument, field_on_line, variant_on_line}
+use Rattle.scale_info_describe.specs.TypeNames.{name_within, argument, field_on_line, variant_on_line}
 use Rattle.scale_info_describe.proofs.names.+name.Given as goal
 
 abbrev pub decreases-append_name : goal.decreases-append_name

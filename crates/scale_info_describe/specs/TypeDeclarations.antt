@@ -5,8 +5,8 @@ use Rattle.std.specs.List.{flat_map}
 use Rattle.scale_info_tables.specs.declared.portable.PortableRegistry.{PortableRegistry}
 use Rattle.scale_info_types.specs.Portable.{Text, Field, Variant, TypeDef, Description}
 use Rattle.scale_info_types.specs.declared.ty.TypeDef.TheVariants as def
-use Rattle.scale_info_describe.specs.Names.{type_at, last_segment, has_name, name_within}
-use Rattle.scale_info_describe.specs.Names.{arguments, field_on_line, fields_on_line, definition_name}
+use Rattle.scale_info_describe.specs.TypeNames.{type_at, last_segment, has_name, name_within}
+use Rattle.scale_info_describe.specs.TypeNames.{arguments, field_on_line, fields_on_line, definition_name}
 
 -- the blanks before a field or a variant
 abbrev pub four : List ℕ
