@@ -6,7 +6,8 @@ use Rattle.scale_info_tables.specs.declared.portable.PortableRegistry.{PortableR
 use Rattle.scale_info_types.specs.Portable.{Text, Field, Variant, TypeDef, Description}
 use Rattle.scale_info_types.specs.declared.ty.TypeDef.TheVariants as def
 use Rattle.scale_info_describe.specs.TypeNames.{type_at, last_segment, has_name, name_within}
-use Rattle.scale_info_describe.specs.TypeNames.{arguments, field_on_line, fields_on_line, definition_name}
+use Rattle.scale_info_describe.specs.TypeNames.{arguments, field_on_line, fields_on_line}
+use Rattle.scale_info_describe.specs.TypeNames.{definition_name}
 
 -- the blanks before a field or a variant
 abbrev pub four : List ℕ
@@ -76,7 +77,8 @@ module _ (name : ℕ → List ℕ) where
 
   -- an enum
   abbrev pub declared_enum : Description → List Variant → List ℕ
-  declared_enum d vs = codes "enum" ++ title d ++ codes " {\n" ++ flat_map variant_line vs ++ codes "}"
+  declared_enum d vs =
+      codes "enum" ++ title d ++ codes " {\n" ++ flat_map variant_line vs ++ codes "}"
 
   -- a definition that is neither, by the segments of the path: written out, where there is none
   abbrev pub alias_by : List Text → Description → TypeDef → List ℕ

@@ -1,13 +1,11 @@
 //! A type as Rust declares it.
-ghost use Rattle.std.specs.Prelude.{◌≡◌, ◌++◌, ◌↔◌, ◌≤◌, [], codes, length, option_map};
+ghost use Rattle.std.specs.Prelude.{◌≡◌, ◌↔◌, ◌≤◌, [], length, option_map};
 ghost use Rattle.std.specs.Prelude.{IfOk, OnErr, IsNone, is_some, string_bytes, unwrap_or};
-ghost use Rattle.std.specs.List.{flat_map};
-ghost use Rattle.scale_info_types.specs.declared.ty.TypeDef.TheVariants as def;
 ghost use Rattle.scale_info_describe.specs.TypeNames.{Appends, name_within};
-ghost use Rattle.scale_info_describe.specs.TypeDeclarations.{description_at, declaration, alias, title};
-ghost use Rattle.scale_info_describe.specs.TypeDeclarations.{documentation, fields_on_lines, fields_of};
-ghost use Rattle.scale_info_describe.specs.TypeDeclarations.{field_line, variant_line, declared_struct};
-ghost use Rattle.scale_info_describe.specs.TypeDeclarations.{declared_enum};
+ghost use Rattle.scale_info_describe.specs.TypeDeclarations.{description_at, declaration, alias};
+ghost use Rattle.scale_info_describe.specs.TypeDeclarations.{documentation, fields_on_lines, title};
+ghost use Rattle.scale_info_describe.specs.TypeDeclarations.{field_line, fields_of, variant_line};
+ghost use Rattle.scale_info_describe.specs.TypeDeclarations.{declared_enum, declared_struct};
 
 use crate::fields::{has_docs, has_name};
 use crate::names::{

@@ -1,5 +1,5 @@
 //! The name of a type, as the field of another type mentions it.
-ghost use Rattle.std.specs.Prelude.{◌≡◌, ◌++◌, [], IfOk, string_bytes, decimal};
+ghost use Rattle.std.specs.Prelude.{◌≡◌, IfOk, string_bytes, decimal};
 ghost use Rattle.scale_info_types.specs.declared.ty.TypeDef.TheVariants as def;
 ghost use Rattle.scale_info_describe.specs.TypeNames.{Appends, name_within, name_at, named};
 ghost use Rattle.scale_info_describe.specs.TypeNames.{definition_name, argument, arguments};

@@ -1,9 +1,7 @@
 //! Types of a table, found by their paths and written as Rust declares them.
 use crate::asserts::is;
 use scale_info::PortableRegistry;
-use scale_info::describe::{
-    append_description, describe, find_by_path, find_containing, name_of,
-};
+use scale_info::describe::{append_description, describe, find_by_path, find_containing, name_of};
 use std::alloc::Global;
 use std::test::Fail;
 use test_common::rows::row_bytes;
@@ -116,8 +114,18 @@ fn each_type_is_written(rt: HostRuntime) -> Result<(), Fail> {
 #[test]
 fn names_are_written(rt: HostRuntime) -> Result<(), Fail> {
     let table = table(rt.alloc())?;
-    is(&rt, "path", name_of(rt.alloc(), &table, 0)?.as_str(), "Transfer");
-    is(&rt, "missing", name_of(rt.alloc(), &table, 19)?.as_str(), "#19");
+    is(
+        &rt,
+        "path",
+        name_of(rt.alloc(), &table, 0)?.as_str(),
+        "Transfer",
+    );
+    is(
+        &rt,
+        "missing",
+        name_of(rt.alloc(), &table, 19)?.as_str(),
+        "#19",
+    );
     assert!(rt; describe(rt.alloc(), &table, 19)?.is_none());
     Ok(())
 }
