@@ -1,7 +1,8 @@
 -- The name of a type, as the field of another type mentions it.
 use Rattle.std.specs.Prelude.{◌≡◌, ◌++◌, ℕ, zero, suc, List, [], ◌∷◌, Bool, false, ◌||◌}
 use Rattle.std.specs.Prelude.{Option, Some, None, Result, String, OnOk, option_map, unwrap_or}
-use Rattle.std.specs.Prelude.{is_some, length, ◌-◌, slice_get, codes, decimal, string_bytes, if◌then◌else◌}
+use Rattle.std.specs.Prelude.{is_some, length, ◌-◌, slice_get, codes, decimal, string_bytes}
+use Rattle.std.specs.Prelude.{if◌then◌else◌}
 use Rattle.std.specs.List.{flat_map, join_by}
 use Rattle.scale_info_primitives.specs.Primitives.{primitive_name}
 use Rattle.scale_info_tables.specs.declared.portable.PortableRegistry.{PortableRegistry}
