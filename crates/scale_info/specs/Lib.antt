@@ -66,6 +66,9 @@ pub use Rattle.scale_info_tables.specs.ClosedTables
 pub use Rattle.scale_info_tables.specs.BuiltTables
 pub use Rattle.scale_info_tables.specs.Pruned
 pub use Rattle.scale_info_tables.specs.IndexedEntries
+pub use Rattle.scale_info_describe.specs.TypeNames
+pub use Rattle.scale_info_describe.specs.TypeDeclarations
+pub use Rattle.scale_info_describe.specs.PathSearches
 pub use Rattle.scale_info_view.specs.ViewEntries
 pub use Rattle.scale_info_view.specs.Views
 pub use Rattle.scale_info_tables.specs.TableExamples

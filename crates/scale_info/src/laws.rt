@@ -4,6 +4,7 @@ pub mod examples;
 
 pub use scale_info_catalogue::laws::equal_catalogue_errors;
 pub use scale_info_catalogue::laws::equal_register_errors;
+pub use scale_info_describe::laws::found_paths;
 pub use scale_info_encode::laws::equal_encode_errors;
 pub use scale_info_encode::laws::never_read;
 pub use scale_info_encode::laws::one_reading;

@@ -1,6 +1,7 @@
 //! Portable registries of types: tables by which a client in any language decodes SCALE values.
 #![tactic(auto)]
 
+pub mod describe;
 pub mod export;
 pub mod impls;
 pub mod laws;

@@ -1,6 +1,7 @@
 //! Tests of what tables are used for, where rows of data do not say it: long chains under walks,
 //! `prune`, `retain`, a builder and the program `type_table`; the program over readers and writers
-//! that fail, and over each change of a byte; and programs that write a table and print it.
+//! that fail, and over each change of a byte; programs that write a table and print it; and types
+//! that are found and written.
 #![tactic(auto)]
 
 #[cfg(test)]
@@ -11,6 +12,8 @@ mod callers;
 mod chains;
 #[cfg(test)]
 mod changes;
+#[cfg(test)]
+mod described;
 #[cfg(test)]
 mod entries;
 #[cfg(test)]

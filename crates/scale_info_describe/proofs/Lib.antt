@@ -1,0 +1,3 @@
+pub mod PathTests
+pub mod Searched
+pub mod Unfolded

@@ -1,0 +1,3 @@
+pub mod PathSearches
+pub mod TypeDeclarations
+pub mod TypeNames
