@@ -16,3 +16,4 @@ pub mod ShownDefinitions
 pub mod ShownLevels
 pub mod OneTree
 pub mod Encoded
+pub mod ObjectNames

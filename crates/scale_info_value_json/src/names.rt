@@ -1,5 +1,5 @@
 //! Names of fields.
-ghost use Rattle.std.specs.Prelude.{◌≡◌};
+ghost use Rattle.std.specs.Prelude.{◌≡◌, IfOk};
 ghost use Rattle.scale_info_visit.specs.Events.{names};
 ghost use Rattle.scale_info_value_json.specs.TreeParts.{has_name, are_distinct, is_object_of};
 
@@ -7,6 +7,8 @@ use scale_info_collections::text::Text;
 use scale_info_types::form::PortableForm;
 use scale_info_types::ty::Field;
 use scale_info_visit::visit::all_named;
+use std::alloc::{AllocError, Global};
+use std::collections::BTreeMap;
 
 /// Whether one of the fields has this name.
 fn has_name(name: &Option<Text>, fields: &[Field<PortableForm>]) -> bool
@@ -34,9 +36,37 @@ fn are_distinct(fields: &[Field<PortableForm>]) -> bool
     true
 }
 
-/// Whether fields are the members of an object: each has a name of its own.
-pub fn is_object_of(fields: &[Field<PortableForm>]) -> bool
-    ensures { result ≡ is_object_of (names fields.now) }
+/// Whether each of the fields has a name of its own, by a map of the names: what
+/// [`is_object_of`] returns, without comparing each two names.
+///
+/// Errors: an allocation failed.
+fn is_object_by_map(alloc: Global, fields: &[Field<PortableForm>]) -> Result<bool, AllocError>
+    ensures { IfOk result (λ is. is ≡ is_object_of (names fields.now)) }
 {
-    all_named(fields) && are_distinct(fields)
+    let mut later: BTreeMap<&str, ()> = BTreeMap::new(alloc);
+    let mut rest = fields;
+    while let [before @ .., field] = rest {
+        let Some(name) = &field.name else {
+            return Ok(false);
+        };
+        if later.insert(name.as_str(), ())?.is_some() {
+            return Ok(false);
+        }
+        rest = before;
+    }
+    Ok(true)
+}
+
+/// Whether fields are the members of an object: each has a name of its own.
+///
+/// A few names are compared two by two, and nothing is allocated for them; more are put into a map,
+/// so that the time for a type from outside goes by its length and no faster. Errors: an allocation
+/// failed.
+pub fn is_object_of(alloc: Global, fields: &[Field<PortableForm>]) -> Result<bool, AllocError>
+    ensures { IfOk result (λ is. is ≡ is_object_of (names fields.now)) }
+{
+    if fields.len() <= 16 {
+        return Ok(all_named(fields) && are_distinct(fields));
+    }
+    is_object_by_map(alloc, fields)
 }

@@ -236,7 +236,8 @@ fn fields(
     ensures err { IfErr result
         (IsErrorOf (fields_within left table.now all.now (view tree.now))) }
 {
-    if is_object_of(all) {
+    let as_object = is_object_of(alloc, all)?;
+    if as_object {
         return object_fields(alloc, table, all, left, tree);
     }
     match items_of(tree) {

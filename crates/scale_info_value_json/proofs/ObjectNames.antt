@@ -1,0 +1,119 @@
+-- Names that are put into a map, the last first.
+use Rattle.std.proofs.Common.{◌≡◌, ◌||◌, ◌&&◌, not, Bool, true, false, ℕ, List, [], ◌∷◌, ◌++◌}
+use Rattle.std.proofs.Common.{Option, Some, None, map, refl, sym, ap, ◌∙◌, cond, ◌≤◌, ◌-◌, suc, length}
+use Rattle.std.proofs.Common.{take, get_or, arith, append_assoc}
+use Rattle.std.proofs.lemmas.List.{map-append}
+use Rattle.std.specs.Option.{is_some}
+use Rattle.std.specs.Str.{bytes_eq}
+use Rattle.scale_info_visit.specs.Events.{all_named}
+use Rattle.scale_info_types.specs.Portable.{Field}
+use Rattle.scale_info_value_json.specs.TreeParts.{are_distinct, has_name, is_object_of}
+
+-- the names of fields
+abbrev pub names_of : List Field → List (Option (List ℕ))
+names_of fields = map (λ f. f.name) fields
+
+-- whether the map has a name, as what is found under it
+abbrev pub found : Bool → Option (Unit {0})
+found is = cond is (Some tt) None
+
+-- with a false part a conjunction is false
+both_false : (b : Bool) → (b && false) ≡ false
+both_false true = refl
+both_false false = refl
+
+-- fields of which some have no name, or one that comes twice, are no members of an object
+pub not_suffix :
+    (xs ys : List (Option (List ℕ))) → is_object_of ys ≡ false → is_object_of (xs ++ ys) ≡ false
+not_suffix [] ys e = e
+not_suffix (None ∷ xs) ys e = refl
+not_suffix (Some x ∷ xs) ys e = by (has_name (Some x) (xs ++ ys)) (not_suffix xs ys e)
+  where
+    by : (h : Bool) → (all_named (xs ++ ys) && are_distinct (xs ++ ys)) ≡ false
+        → (all_named (xs ++ ys) && (not h && are_distinct (xs ++ ys))) ≡ false
+    by true e = both_false (all_named (xs ++ ys))
+    by false e = e
+
+-- a list is what is before its last element, and that element
+pub split_last :
+    {A : Type 0} (xs : List A) (d : A) → 1 ≤ length xs
+    → xs ≡ take (length xs - 1) xs ++ get_or xs (length xs - 1) d ∷ []
+split_last [] d l = absurd (omega arith)
+split_last (x ∷ []) d l = refl
+split_last (x ∷ y ∷ ys) d l =
+    let shorter = split_last (y ∷ ys) d (omega arith) in
+    let n : length (x ∷ y ∷ ys) - 1 ≡ suc (length (y ∷ ys) - 1) = omega arith in
+    ap (λ t. x ∷ t) shorter
+    ∙ ap (λ k. take k (x ∷ y ∷ ys) ++ get_or (x ∷ y ∷ ys) k d ∷ []) (sym n)
+
+-- fields, where those before the last of some and the others are given
+pub regrouped :
+    (fields rest before after : List Field) (field : Field) → fields ≡ rest ++ after
+    → rest ≡ before ++ field ∷ [] → fields ≡ before ++ field ∷ after
+regrouped fields rest before after field e r =
+    e ∙ ap (λ t. t ++ after) r ∙ append_assoc before (field ∷ []) after
+
+names_join :
+    (before : List Field) (field : Field) (after : List Field)
+    → names_of (before ++ field ∷ after) ≡ names_of before ++ field.name ∷ names_of after
+names_join before field after = map-append (λ (f : Field). f.name) before (field ∷ after)
+
+-- some fields of which one has no name are no members of an object
+pub nameless :
+    (fields rest before after : List Field) (field : Field) → fields ≡ rest ++ after
+    → rest ≡ before ++ field ∷ [] → field.name ≡ None → is_object_of (names_of fields) ≡ false
+nameless fields rest before after field e r none =
+    ap (λ t. is_object_of (names_of t)) (regrouped fields rest before after field e r)
+    ∙ ap is_object_of (names_join before field after)
+    ∙ ap (λ n. is_object_of (names_of before ++ n ∷ names_of after)) none
+    ∙ not_suffix (names_of before) (None ∷ names_of after) refl
+
+-- a name that is among those after it comes twice
+twice_of : (name : List ℕ) (others : List (Option (List ℕ))) → has_name (Some name) others ≡ true
+    → is_object_of (Some name ∷ others) ≡ false
+twice_of name others h =
+    ap (λ b. all_named others && (not b && are_distinct others)) h ∙ both_false (all_named others)
+
+-- some fields of which one has a name that a later one has are no members of an object
+pub twice :
+    (fields rest before after : List Field) (field : Field) (name : List ℕ) → fields ≡ rest ++ after
+    → rest ≡ before ++ field ∷ [] → field.name ≡ Some name
+    → has_name (Some name) (names_of after) ≡ true → is_object_of (names_of fields) ≡ false
+twice fields rest before after field name e r some h =
+    ap (λ t. is_object_of (names_of t)) (regrouped fields rest before after field e r)
+    ∙ ap is_object_of (names_join before field after)
+    ∙ ap (λ n. is_object_of (names_of before ++ n ∷ names_of after)) some
+    ∙ not_suffix (names_of before) (Some name ∷ names_of after) (twice_of name (names_of after) h)
+
+-- a field with a name of its own before members of an object
+pub one_more :
+    (field : Field) (after : List Field) (name : List ℕ) → field.name ≡ Some name
+    → is_object_of (names_of after) ≡ true → has_name (Some name) (names_of after) ≡ false
+    → is_object_of (names_of (field ∷ after)) ≡ true
+one_more field after name some is h =
+    ap (λ n. is_object_of (n ∷ names_of after)) some
+    ∙ ap (λ b. all_named (names_of after) && (not b && are_distinct (names_of after))) h ∙ is
+
+-- where something is found, the map has the name
+pub has_found : (is : Bool) → is_some (found is) ≡ true → is ≡ true
+has_found true e = refl
+has_found false e = cc
+
+-- where nothing is found, the map has not the name
+pub has_not_found : (is : Bool) → is_some (found is) ≡ false → is ≡ false
+has_not_found true e = cc
+has_not_found false e = refl
+
+-- what is found under a name in the map with one more
+pub found_more :
+    (field : Field) (after : List Field) (name : List ℕ) → field.name ≡ Some name
+    → (q : List ℕ)
+    → cond (bytes_eq name q) (Some tt) (found (has_name (Some q) (names_of after)))
+    ≡ found (has_name (Some q) (names_of (field ∷ after)))
+found_more field after name some q =
+    by (bytes_eq name q) (has_name (Some q) (names_of after))
+    ∙ ap (λ n. found (has_name (Some q) (n ∷ names_of after))) (sym some)
+  where
+    by : (a b : Bool) → cond a (Some tt) (found b) ≡ found (a || b)
+    by true b = refl
+    by false b = refl
