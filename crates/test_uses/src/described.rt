@@ -102,11 +102,11 @@ fn table(alloc: Global) -> Result<PortableRegistry, Fail> {
 fn each_type_is_written(rt: HostRuntime) -> Result<(), Fail> {
     let table = table(rt.alloc())?;
     let mut out = String::new(rt.alloc());
-    let mut id = 0;
-    while append_description(rt.alloc(), &table, id, &mut out)? && id < 100 {
+    for id in 0..19 {
+        append_description(rt.alloc(), &table, id, &mut out)?;
         out.push_str("\n---\n")?;
-        id += 1;
     }
+    assert!(rt; !append_description(rt.alloc(), &table, 19, &mut out)?);
     assert_eq!(rt; out.as_str(), WRITTEN);
     Ok(())
 }
