@@ -8,7 +8,7 @@ use test_common::rows::row_bytes;
 
 /// An option of a byte string of metadata of version 16, as text: the table of `bool`, with two
 /// lines of docs, and more.
-const ANSWER: &str = "\"0x01446d6574611004000000050008046104629901\"\n";
+const ANSWER: &str = "\"0x01486d6574611004000000050008046104629901\"\n";
 
 /// The bytes of a text of digits, or none.
 fn bytes_of(alloc: Global, text: &str) -> Result<Vec<u8>, Fail> {
