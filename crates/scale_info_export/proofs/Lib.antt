@@ -1,4 +1,5 @@
 pub mod Exported
 pub mod Headline
+pub mod LentEntries
 pub mod NumberedEntries
 pub mod SameTables
