@@ -1,5 +1,5 @@
 -- Values appended to a list of bytes.
-use Rattle.std.proofs.Common.{◌≡◌, ℕ, Bool, true, false, List, [], Option, refl, ap, sym, ◌∙◌}
+use Rattle.std.proofs.Common.{◌≡◌, ℕ, Bool, true, false, List, Option, refl, ap, ◌∙◌}
 use Rattle.std.proofs.Common.{length}
 use Rattle.std.specs.Prelude.{nat_lt, ◌^◌}
 use Rattle.std.specs.Str.{is_utf8}
@@ -7,8 +7,7 @@ use Rattle.scale_info_bytes.specs.Encodings.{AppendsEncoding, HasNoEncoding}
 use Rattle.scale_info_bytes.specs.Strings.{EncodesText}
 use Rattle.scale_info_value.specs.declared.value.Dyn.{Dyn}
 use Rattle.scale_info_value.specs.declared.value.Dyn.TheOpen.{Dyn-F}
-use Rattle.scale_info_encode.specs.declared.path.Step.{Step}
-use Rattle.scale_info_encode.specs.Writers.{Writer, written, refused, mismatch, mismatch_at, if_fits, followed_by}
+use Rattle.scale_info_encode.specs.Writers.{Writer, written, refused, mismatch, if_fits, followed_by}
 use Rattle.scale_info_encode.specs.IntegerWriters.{compact_bytes}
 use Rattle.scale_info_encode.specs.DefinitionWriters.{held, if_found, text}
 use Rattle.scale_info_encode.proofs.Texts.{text_encodes}
@@ -19,10 +18,6 @@ pub appends_map :
     {P Q : List ℕ → Type 0} {a c : List ℕ} → ((b : List ℕ) → P b → Q b) → AppendsEncoding P a c
     → AppendsEncoding Q a c
 appends_map f p = record { encoding = p.encoding; encodes = f p.encoding p.encodes; parts = p.parts }
-
--- the value itself is at the path that has no step
-pub mismatch_here : (steps : List Step) → steps ≡ [] → refused mismatch ≡ refused (mismatch_at steps)
-mismatch_here steps e = ap (λ s. refused (mismatch_at s)) (sym e)
 
 -- a value of a kind is written by what it holds
 pub is_held :

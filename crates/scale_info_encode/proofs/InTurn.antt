@@ -1,6 +1,6 @@
 -- Writers in a row, of one kind.
 use Rattle.std.proofs.Common.{◌≡◌, ℕ, zero, suc, ◌+◌, ◌-◌, ◌<◌, ◌≤◌, List, [], ◌∷◌, length, take, drop, get_or, replicate, map, Option, drop-cons}
-use Rattle.std.proofs.Common.{refl, ap, ◌∙◌, sym, arith}
+use Rattle.std.proofs.Common.{◌⊎◌, inl, inr, refl, ap, ◌∙◌, sym, arith}
 use Rattle.std.proofs.lemmas.Grind.{common_steps}
 use Rattle.scale_info_value.proofs.InOrder.{take_next}
 use Rattle.scale_info_types.specs.Portable.{Id, Text, Field}
@@ -99,6 +99,16 @@ first_of_all zero write values e h long same = absurd (omega arith)
 first_of_all (suc n) write [] e h long same = absurd (omega arith)
 first_of_all (suc n) write (v ∷ vs) e h long same =
     first_fails (write 0 v) (in_turn 1 (replicate n write) vs) e (same v)
+
+-- where there are values and no writers, or writers and no values
+pub uneven :
+    {A : Type 0} (n : ℕ) (write : ℕ → Writer A) (values : List A) → (n ≡ 0 → length values ≡ 0 → ⊥)
+    → (n ≡ 0) ⊎ (length values ≡ 0) → in_turn 0 (replicate n write) values ≡ refused mismatch
+uneven zero write [] apart some = absurd (apart refl refl)
+uneven zero write (v ∷ vs) apart some = refl
+uneven (suc n) write [] apart some = refl
+uneven (suc n) write (v ∷ vs) apart (inl e) = absurd (omega arith)
+uneven (suc n) write (v ∷ vs) apart (inr e) = absurd (omega arith)
 
 -- so many items of one kind, where each gives what another gives
 pub alike :

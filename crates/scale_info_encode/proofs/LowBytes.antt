@@ -15,7 +15,7 @@ use Rattle.scale_info_encode.specs.IntegerWriters.{integer_bytes, first_width, i
 use Rattle.scale_info_encode.specs.DefinitionWriters.{unsigned, signed}
 use Rattle.scale_info_encode.proofs.Compacts.{width_is, more_is, power_rises}
 use Rattle.scale_info_encode.proofs.IntegerBytes.{lowest_first, length_is, back_again, forth_again, bound}
-use Rattle.scale_info_encode.proofs.Widths.{fits_of, fits_is, unsigned_fits, bytes_are_bits}
+use Rattle.scale_info_encode.proofs.Widths.{fits_of, fits_is, less_is, unsigned_fits, bytes_are_bits}
 use mir.Val.{bits, hbits}
 
 -- the first of the bytes from one on are fewer bytes from there on
@@ -64,14 +64,17 @@ at_most_16 w32 = omega arith
 at_most_16 w64 = omega arith
 at_most_16 w128 = omega arith
 
--- an integer that is not read from its low bytes does not fit them
-pub too_wide :
-    (w : Width) (n : ℕ) (low : List ℕ) → low ≡ take (byte_len w) (to_le_bytes w128 n) → (little_endian low ≡ n → ⊥)
-    → unsigned w n ≡ refused mismatch
-too_wide w n low e differs = elim (cases_lt n (256 ^ byte_len w)) [
-  | inl less ↦ absurd (differs (ap little_endian (low_bytes (byte_len w) n low (at_most_16 w) e) ∙ back_again (byte_len w) n less))
-  | inr more ↦ ap (λ t. if_fits t (to_le_bytes w n)) (more_is n (256 ^ byte_len w) more)
-]
+-- an integer above the limit of a width does not fit it
+pub too_wide : (w : Width) (n most : ℕ) → most + 1 ≡ 256 ^ byte_len w → most < n → unsigned w n ≡ refused mismatch
+too_wide w n most e h = ap (λ t. if_fits t (to_le_bytes w n)) (more_is n (256 ^ byte_len w) (subst (λ k. k ≤ n) e (omega arith)))
+
+-- an integer up to the limit of a width has its low bytes
+pub unsigned_low :
+    (w : Width) (n most : ℕ) (low : List ℕ) → low ≡ take (byte_len w) (to_le_bytes w128 n) → most + 1 ≡ 256 ^ byte_len w
+    → n ≤ most → unsigned w n ≡ written low
+unsigned_low w n most low e limit h =
+    ap (λ t. if_fits t (to_le_bytes w n)) (less_is n (256 ^ byte_len w) (subst (λ k. n < k) limit (omega arith)))
+    ∙ ap written (sym (low_bytes (byte_len w) n low (at_most_16 w) e))
 
 -- an integer that is read from its low bytes in two's complement has these
 pub signed_low :

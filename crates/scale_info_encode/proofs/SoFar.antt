@@ -8,7 +8,9 @@ use Rattle.scale_info_bytes.specs.Encodings.{IsPrefix}
 use Rattle.scale_info_encode.specs.declared.error.EncodeValueError.{EncodeValueError}
 use Rattle.scale_info_encode.specs.declared.error.EncodeValueError.TheVariants as error
 use Rattle.scale_info_encode.specs.declared.path.Step.{Step}
+use Rattle.scale_info_encode.specs.declared.failure.Failure.{Failure}
 use Rattle.scale_info_encode.specs.Writers.{Written, written, refused, followed_by, of_part, Appends, IsErrorOf}
+use Rattle.scale_info_encode.specs.Failures.{Fails, error_of}
 
 -- of a whole some bytes were appended, and this is left to be written
 pub record SoFar (whole left : Written) (old new : List ℕ) : Type 0 where
@@ -104,14 +106,18 @@ pub on_err : {X E P : Type 0} (r : Result X E) → P → OnErr r P
 on_err (Ok x) p = tt
 on_err (Err e) p = p
 
--- an error that is passed on
-pub passed :
-    {X : Type 0} (r : Result X EncodeValueError) (e : EncodeValueError) (whole : Written) → IsErrAnd r (λ d. d ≡ e)
-    → IsErrorOf whole e → IfErr r (IsErrorOf whole)
-passed (Ok x) e whole h p = tt
-passed (Err d) e whole h p = subst (IsErrorOf whole) (sym h) p
+-- what holds where a call succeeds holds where it did
+pub done : {X E P : Type 0} (r : Result X E) (x : X) → Ok x ≡ r → OnOk r P → P
+done {P = P} r x e h = subst (λ q. OnOk q P) (sym e) h
 
-module _ {X : Type 0} (r : Result X EncodeValueError) (whole first second : Written) (old mid new : List ℕ)
+-- a failure that is passed on
+pub passed :
+    {X : Type 0} (r : Result X Failure) (why : Failure) (whole : Written) (steps : List Step) → IsErrAnd r (λ d. d ≡ why)
+    → Fails whole steps why → IfErr r (Fails whole steps)
+passed (Ok x) why whole steps h p = tt
+passed (Err d) why whole steps h p = subst (Fails whole steps) (sym h) p
+
+module _ {X : Type 0} (r : Result X Failure) (whole first second : Written) (old mid new : List ℕ)
     (e : whole ≡ followed_by first second) (a : Appends first old mid) where
   -- where the first was appended, the second is left
   second_left : SoFar whole second old mid
@@ -121,16 +127,16 @@ module _ {X : Type 0} (r : Result X EncodeValueError) (whole first second : Writ
   pub both_ok : OnOk r (Appends second mid new) → OnOk r (Appends whole old new)
   both_ok h = on_ok r (λ b. ends whole second old mid new second_left b) h
     where
-      on_ok : {P Q : Type 0} (r : Result X EncodeValueError) → (P → Q) → OnOk r P → OnOk r Q
+      on_ok : {P Q : Type 0} (r : Result X Failure) → (P → Q) → OnOk r P → OnOk r Q
       on_ok (Ok x) f h = f h
       on_ok (Err d) f h = tt
 
   -- an error of the second is one of both
-  pub both_err : IfErr r (IsErrorOf second) → IfErr r (IsErrorOf whole)
-  both_err h = if_err r (λ d p. fails whole second old mid d second_left p) h
+  pub both_err : (steps : List Step) → IfErr r (Fails second steps) → IfErr r (Fails whole steps)
+  both_err steps h = if_err r (λ d p. fails whole second old mid (error_of steps d) second_left p) h
     where
       if_err :
-          {P Q : EncodeValueError → Type 0} (r : Result X EncodeValueError) → ((d : EncodeValueError) → P d → Q d)
+          {P Q : Failure → Type 0} (r : Result X Failure) → ((d : Failure) → P d → Q d)
           → IfErr r P → IfErr r Q
       if_err (Ok x) f h = tt
       if_err (Err d) f h = f d h
@@ -139,6 +145,6 @@ module _ {X : Type 0} (r : Result X EncodeValueError) (whole first second : Writ
   pub both_kept : OnErr r (IsPrefix mid new) → OnErr r (IsPrefix old new)
   both_kept h = err_map r (λ p. keeps whole second old mid new second_left p) h
     where
-      err_map : {P Q : Type 0} (r : Result X EncodeValueError) → (P → Q) → OnErr r P → OnErr r Q
+      err_map : {P Q : Type 0} (r : Result X Failure) → (P → Q) → OnErr r P → OnErr r Q
       err_map (Ok x) f h = tt
       err_map (Err d) f h = f h

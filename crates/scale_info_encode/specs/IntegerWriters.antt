@@ -20,8 +20,8 @@ abbrev pub many_bytes : ℕ → ℕ → List ℕ
 many_bytes width n = (4 * (width - 4) + 3) ∷ integer_bytes width n
 
 -- A compact integer below 2 to the 128, in its shortest form. The two low bits of the first byte
--- are the mode: 0 to 63 takes one byte, 64 to 16383 two, 16384 to 1073741823 four; and from there on
--- the bytes that it fits, from 4 to 16, stand after a byte that says how many.
+-- are the mode: 0 to 63 takes one byte, 64 to 16383 two, 16384 to 1073741823 four; and from there
+-- on the bytes that it fits, from 4 to 16, stand after a byte that says how many.
 abbrev pub compact_bytes : ℕ → List ℕ
 compact_bytes n =
     if nat_lt n 64 then (4 * n) ∷ []

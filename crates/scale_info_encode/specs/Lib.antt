@@ -3,3 +3,4 @@ pub mod IntegerWriters
 pub mod DefinitionWriters
 pub mod Writings
 pub mod Paths
+pub mod Failures

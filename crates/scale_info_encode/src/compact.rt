@@ -1,42 +1,38 @@
 //! Compact integers by a table.
-ghost use Rattle.std.specs.Prelude.{◌≡◌, ◌≤◌, ◌+◌, ◌^◌, IfErr, OnOk, OnErr};
-ghost use Rattle.scale_info_encode.specs.Writers.{Appends, IsErrorOf};
+ghost use Rattle.std.specs.Prelude.{◌≡◌, [], ◌≤◌, ◌+◌, ◌^◌, IfErr, OnOk, OnErr};
+ghost use Rattle.scale_info_encode.specs.Failures.{Fails};
+ghost use Rattle.scale_info_encode.specs.Writers.{Appends};
 ghost use Rattle.scale_info_encode.specs.IntegerWriters.{compact_below};
 ghost use Rattle.scale_info_encode.specs.DefinitionWriters.{held, unsigned_in, compact_primitive};
 ghost use Rattle.scale_info_encode.specs.Writings.{compact_within, compact_definition_within};
 
 use crate::definition::definition_of;
-use crate::error::EncodeValueError;
+use crate::failure::Failure;
 use crate::integer::compact;
-use crate::path::here;
 use scale_info_tables::portable::PortableRegistry;
 use scale_info_types::form::PortableForm;
 use scale_info_types::ty::{TypeDef, TypeDefPrimitive};
 use scale_info_value::value::Dyn;
 
 /// Appends a compact integer that is at most this one.
-fn compact_up_to(most: u128, value: &Dyn, out: &mut Vec<u8>) -> Result<(), EncodeValueError>
+fn compact_up_to(most: u128, value: &Dyn, out: &mut Vec<u8>) -> Result<(), Failure>
     ensures ok { OnOk result
         (Appends (held unsigned_in (compact_below (most + 1)) value.now)
         out.old.items out.new.items) }
-    ensures err { IfErr result (IsErrorOf (held unsigned_in (compact_below (most + 1)) value.now)) }
+    ensures err { IfErr result (Fails (held unsigned_in (compact_below (most + 1)) value.now) []) }
     ensures same { OnErr result (out.new.items ≡ out.old.items) }
 {
     match value {
         Dyn::Unsigned(n) if *n <= most => compact(*n, out),
-        _ => Err(EncodeValueError::Mismatch(here(out))),
+        _ => Err(Failure::Mismatch),
     }
 }
 
 /// Appends a compact integer that fits a primitive type.
-fn compact_primitive(
-    kind: &TypeDefPrimitive,
-    value: &Dyn,
-    out: &mut Vec<u8>,
-) -> Result<(), EncodeValueError>
+fn compact_primitive(kind: &TypeDefPrimitive, value: &Dyn, out: &mut Vec<u8>) -> Result<(), Failure>
     ensures ok { OnOk result
         (Appends (compact_primitive kind.now value.now) out.old.items out.new.items) }
-    ensures err { IfErr result (IsErrorOf (compact_primitive kind.now value.now)) }
+    ensures err { IfErr result (Fails (compact_primitive kind.now value.now) []) }
     ensures same { OnErr result (out.new.items ≡ out.old.items) }
 {
     match kind {
@@ -47,7 +43,7 @@ fn compact_primitive(
         TypeDefPrimitive::U128 => {
             compact_up_to(340282366920938463463374607431768211455, value, out)
         }
-        _ => Err(EncodeValueError::Unsupported),
+        _ => Err(Failure::Unsupported),
     }
 }
 
@@ -59,10 +55,10 @@ pub fn compact_within(
     left: u8,
     value: &Dyn,
     out: &mut Vec<u8>,
-) -> Result<(), EncodeValueError>
+) -> Result<(), Failure>
     ensures ok { OnOk result
         (Appends (compact_within left table.now id value.now) out.old.items out.new.items) }
-    ensures err { IfErr result (IsErrorOf (compact_within left table.now id value.now)) }
+    ensures err { IfErr result (Fails (compact_within left table.now id value.now) []) }
     ensures same { OnErr result (out.new.items ≡ out.old.items) }
 {
     let definition = definition_of(table, id, left)?;
@@ -77,21 +73,21 @@ fn compact_by(
     left: u8,
     value: &Dyn,
     out: &mut Vec<u8>,
-) -> Result<(), EncodeValueError>
+) -> Result<(), Failure>
     requires { 1 ≤ left }
     ensures ok { OnOk result
         (Appends (compact_definition_within left table.now definition.now value.now)
         out.old.items out.new.items) }
     ensures err { IfErr result
-        (IsErrorOf (compact_definition_within left table.now definition.now value.now)) }
+        (Fails (compact_definition_within left table.now definition.now value.now) []) }
     ensures same { OnErr result (out.new.items ≡ out.old.items) }
 {
     match definition {
         TypeDef::Composite(composite) => match composite.fields.as_slice() {
             [field] => compact_within(table, field.ty.id, left - 1, value, out),
-            _ => Err(EncodeValueError::Unsupported),
+            _ => Err(Failure::Unsupported),
         },
         TypeDef::Primitive(kind) => compact_primitive(kind, value, out),
-        _ => Err(EncodeValueError::Unsupported),
+        _ => Err(Failure::Unsupported),
     }
 }

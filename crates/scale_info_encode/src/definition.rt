@@ -1,11 +1,13 @@
 //! The definitions that ids stand for.
-ghost use Rattle.std.specs.Prelude.{◌≡◌, ◌≤◌, IfOk, IfErr};
+ghost use Rattle.std.specs.Prelude.{◌≡◌, ◌≢◌, ◌≤◌, IfOk, IfErr, List};
 ghost use Rattle.scale_info_value.specs.declared.value.Dyn.{Dyn};
-ghost use Rattle.scale_info_encode.specs.Writers.{IsErrorOf};
+ghost use Rattle.scale_info_encode.specs.declared.failure.Failure.TheVariants as failure;
+ghost use Rattle.scale_info_encode.specs.declared.path.Step.{Step};
+ghost use Rattle.scale_info_encode.specs.Failures.{Fails};
 ghost use Rattle.scale_info_encode.specs.Writings.{value_within, compact_within};
 ghost use Rattle.scale_info_encode.specs.Writings.{definition_within, compact_definition_within};
 
-use crate::error::EncodeValueError;
+use crate::failure::Failure;
 use scale_info_tables::portable::PortableRegistry;
 use scale_info_types::form::PortableForm;
 use scale_info_types::ty::TypeDef;
@@ -18,22 +20,23 @@ pub fn definition_of(
     table: &PortableRegistry,
     id: u32,
     left: u8,
-) -> Result<&TypeDef<PortableForm>, EncodeValueError>
+) -> Result<&TypeDef<PortableForm>, Failure>
     ensures level { IfOk result (λ _. 1 ≤ left) }
     ensures known { IfOk result (λ found. (value : Dyn)
         → (value_within left table.now id value
         ≡ definition_within left table.now found.now value)
         × (compact_within left table.now id value
         ≡ compact_definition_within left table.now found.now value)) }
-    ensures unknown { IfErr result (λ e. (value : Dyn)
-        → IsErrorOf (value_within left table.now id value) e
-        × IsErrorOf (compact_within left table.now id value) e) }
+    ensures unknown { IfErr result (λ why. (value : Dyn) (steps : List Step)
+        → Fails (value_within left table.now id value) steps why
+        × Fails (compact_within left table.now id value) steps why) }
+    ensures not_memory { IfErr result (λ why. why ≢ failure.Memory) }
 {
     if left == 0 {
-        return Err(EncodeValueError::TooDeep);
+        return Err(Failure::TooDeep);
     }
     match table.resolve(id) {
-        None => Err(EncodeValueError::NoSuchType),
+        None => Err(Failure::NoSuchType),
         Some(ty) => Ok(&ty.type_def),
     }
 }

@@ -3,6 +3,7 @@ ghost use Rattle.std.specs.Prelude.{◌≡◌, ◌≤◌, IfErr, OnOk, OnErr, le
 ghost use Rattle.scale_info_bytes.specs.Encodings.{IsPrefix};
 ghost use Rattle.scale_info_types.specs.declared.ty.TypeDef.TheVariants as def;
 ghost use Rattle.scale_info_encode.specs.Writers.{Appends, IsErrorOf, item, in_turn};
+ghost use Rattle.scale_info_encode.specs.Failures.{Fails};
 ghost use Rattle.scale_info_encode.specs.Writings.{value_within, definition_within, fields_within};
 ghost use Rattle.scale_info_encode.specs.Writings.{items_within, members_within, pair_within};
 ghost use Rattle.scale_info_encode.specs.Writings.{pairs_within, writing};
@@ -10,8 +11,9 @@ ghost use Rattle.scale_info_encode.specs.Writings.{pairs_within, writing};
 use crate::compact::compact_within;
 use crate::definition::definition_of;
 use crate::error::EncodeValueError;
+use crate::failure::{Failure, mismatch, without_parts};
 use crate::integer::count;
-use crate::path::here;
+use crate::path::Step;
 use crate::primitive::primitive;
 use scale_info_collections::text::Text;
 use scale_info_identities::symbol::UntrackedSymbol;
@@ -60,11 +62,14 @@ pub fn encode_value(
     ensures same { OnErr result (out.new.items ≡ out.old.items) }
 {
     let start = out.len();
-    let written = value_within(table, id, 128, value, out);
-    if written.is_err() {
-        out.truncate(start);
+    let mut steps = Vec::new(*out.allocator());
+    match value_within(table, id, 128, value, out, &mut steps) {
+        Ok(()) => Ok(()),
+        Err(failure) => {
+            out.truncate(start);
+            Err(failure.with_steps(steps))
+        }
     }
-    written
 }
 
 /// Appends a value of the type with this id, where so many levels are left. Where that fails, some
@@ -77,14 +82,15 @@ fn value_within(
     left: u8,
     value: &Dyn,
     out: &mut Vec<u8>,
-) -> Result<(), EncodeValueError>
+    steps: &mut Vec<Step>,
+) -> Result<(), Failure>
     ensures ok { OnOk result
         (Appends (value_within left table.now id value.now) out.old.items out.new.items) }
-    ensures err { IfErr result (IsErrorOf (value_within left table.now id value.now)) }
+    ensures err { IfErr result (Fails (value_within left table.now id value.now) steps.new.items) }
     ensures kept { OnErr result (IsPrefix out.old.items out.new.items) }
 {
     let definition = definition_of(table, id, left)?;
-    value_by(table, definition, left, value, out)
+    value_by(table, definition, left, value, out, steps)
 }
 
 /// Appends a value by the definition of its type.
@@ -99,27 +105,29 @@ fn value_by(
     left: u8,
     value: &Dyn,
     out: &mut Vec<u8>,
-) -> Result<(), EncodeValueError>
+    steps: &mut Vec<Step>,
+) -> Result<(), Failure>
     requires { 1 ≤ left }
     ensures ok { OnOk result
         (Appends (definition_within left table.now definition.now value.now)
         out.old.items out.new.items) }
     ensures err { IfErr result
-        (IsErrorOf (definition_within left table.now definition.now value.now)) }
+        (Fails (definition_within left table.now definition.now value.now) steps.new.items) }
     ensures kept { OnErr result (IsPrefix out.old.items out.new.items) }
 {
     match definition {
-        TypeDef::Composite(composite) => composite_value(table, composite, left, value, out),
-        TypeDef::Variant(choice) => variant_value(table, choice, left, value, out),
-        TypeDef::Sequence(sequence) => sequence_value(table, sequence, left, value, out),
-        TypeDef::Array(array) => array_value(table, array, left, value, out),
-        TypeDef::Tuple(tuple) => tuple_value(table, tuple, left, value, out),
-        TypeDef::Primitive(kind) => primitive(kind, value, out),
+        TypeDef::Composite(composite) => composite_value(table, composite, left, value, out, steps),
+        TypeDef::Variant(choice) => variant_value(table, choice, left, value, out, steps),
+        TypeDef::Sequence(sequence) => sequence_value(table, sequence, left, value, out, steps),
+        TypeDef::Array(array) => array_value(table, array, left, value, out, steps),
+        TypeDef::Tuple(tuple) => tuple_value(table, tuple, left, value, out, steps),
+        TypeDef::Primitive(kind) => without_parts(primitive(kind, value, out), steps),
         TypeDef::Compact(compact) => {
-            compact_within(table, compact.type_param.id, left, value, out)
+            let written = compact_within(table, compact.type_param.id, left, value, out);
+            without_parts(written, steps)
         }
-        TypeDef::BitSequence(_) => Err(EncodeValueError::Unsupported),
-        TypeDef::Map(map) => map_value(table, map, left, value, out),
+        TypeDef::BitSequence(_) => Err(Failure::Unsupported),
+        TypeDef::Map(map) => map_value(table, map, left, value, out, steps),
     }
 }
 
@@ -132,13 +140,15 @@ fn composite_value(
     left: u8,
     value: &Dyn,
     out: &mut Vec<u8>,
-) -> Result<(), EncodeValueError>
+    steps: &mut Vec<Step>,
+) -> Result<(), Failure>
     requires { 1 ≤ left }
     ensures ok { OnOk result
         (Appends (definition_within left table.now (def.Composite composite.now) value.now)
         out.old.items out.new.items) }
     ensures err { IfErr result
-        (IsErrorOf (definition_within left table.now (def.Composite composite.now) value.now)) }
+        (Fails (definition_within left table.now (def.Composite composite.now) value.now)
+        steps.new.items) }
     ensures kept { OnErr result (IsPrefix out.old.items out.new.items) }
 {
     match value {
@@ -149,9 +159,10 @@ fn composite_value(
                 left,
                 values.as_slice(),
                 out,
+                steps,
             )
         }
-        _ => Err(EncodeValueError::Mismatch(here(out))),
+        _ => Err(mismatch(steps)),
     }
 }
 
@@ -164,13 +175,15 @@ fn variant_value(
     left: u8,
     value: &Dyn,
     out: &mut Vec<u8>,
-) -> Result<(), EncodeValueError>
+    steps: &mut Vec<Step>,
+) -> Result<(), Failure>
     requires { 1 ≤ left }
     ensures ok { OnOk result
         (Appends (definition_within left table.now (def.Variant choice.now) value.now)
         out.old.items out.new.items) }
     ensures err { IfErr result
-        (IsErrorOf (definition_within left table.now (def.Variant choice.now) value.now)) }
+        (Fails (definition_within left table.now (def.Variant choice.now) value.now)
+        steps.new.items) }
     ensures kept { OnErr result (IsPrefix out.old.items out.new.items) }
 {
     let Dyn::Variant {
@@ -179,13 +192,13 @@ fn variant_value(
         fields: values,
     } = value
     else {
-        return Err(EncodeValueError::Mismatch(here(out)));
+        return Err(mismatch(steps));
     };
     let Some(variant) = variant_with_index(choice.variants.as_slice(), *index) else {
-        return Err(EncodeValueError::Mismatch(here(out)));
+        return Err(mismatch(steps));
     };
     if variant.name != *name {
-        return Err(EncodeValueError::Mismatch(here(out)));
+        return Err(mismatch(steps));
     }
     out.push(*index)?;
     fields(
@@ -194,6 +207,7 @@ fn variant_value(
         left,
         values.as_slice(),
         out,
+        steps,
     )
 }
 
@@ -206,22 +220,32 @@ fn sequence_value(
     left: u8,
     value: &Dyn,
     out: &mut Vec<u8>,
-) -> Result<(), EncodeValueError>
+    steps: &mut Vec<Step>,
+) -> Result<(), Failure>
     requires { 1 ≤ left }
     ensures ok { OnOk result
         (Appends (definition_within left table.now (def.Sequence sequence.now) value.now)
         out.old.items out.new.items) }
     ensures err { IfErr result
-        (IsErrorOf (definition_within left table.now (def.Sequence sequence.now) value.now)) }
+        (Fails (definition_within left table.now (def.Sequence sequence.now) value.now)
+        steps.new.items) }
     ensures kept { OnErr result (IsPrefix out.old.items out.new.items) }
 {
     match value {
         Dyn::List(values) => {
             let values = values.as_slice();
-            count(values.len(), out)?;
-            items(table, &sequence.type_param, values.len(), left, values, out)
+            without_parts(count(values.len(), out), steps)?;
+            items(
+                table,
+                &sequence.type_param,
+                values.len(),
+                left,
+                values,
+                out,
+                steps,
+            )
         }
-        _ => Err(EncodeValueError::Mismatch(here(out))),
+        _ => Err(mismatch(steps)),
     }
 }
 
@@ -234,13 +258,15 @@ fn array_value(
     left: u8,
     value: &Dyn,
     out: &mut Vec<u8>,
-) -> Result<(), EncodeValueError>
+    steps: &mut Vec<Step>,
+) -> Result<(), Failure>
     requires { 1 ≤ left }
     ensures ok { OnOk result
         (Appends (definition_within left table.now (def.Array array.now) value.now)
         out.old.items out.new.items) }
     ensures err { IfErr result
-        (IsErrorOf (definition_within left table.now (def.Array array.now) value.now)) }
+        (Fails (definition_within left table.now (def.Array array.now) value.now)
+        steps.new.items) }
     ensures kept { OnErr result (IsPrefix out.old.items out.new.items) }
 {
     match value {
@@ -253,9 +279,10 @@ fn array_value(
                 left,
                 values.as_slice(),
                 out,
+                steps,
             )
         }
-        _ => Err(EncodeValueError::Mismatch(here(out))),
+        _ => Err(mismatch(steps)),
     }
 }
 
@@ -269,25 +296,27 @@ fn items(
     left: u8,
     values: &[Dyn],
     out: &mut Vec<u8>,
-) -> Result<(), EncodeValueError>
+    steps: &mut Vec<Step>,
+) -> Result<(), Failure>
     requires { 1 ≤ left }
     ensures ok { OnOk result
         (Appends (items_within left table.now ty.now count values.now)
         out.old.items out.new.items) }
-    ensures err { IfErr result (IsErrorOf (items_within left table.now ty.now count values.now)) }
+    ensures err { IfErr result
+        (Fails (items_within left table.now ty.now count values.now) steps.new.items) }
     ensures kept { OnErr result (IsPrefix out.old.items out.new.items) }
 {
     if count == 0 && values.is_empty() {
         return Ok(());
     }
     if count == 0 || values.is_empty() {
-        return Err(EncodeValueError::Mismatch(here(out)));
+        return Err(mismatch(steps));
     }
     let definition = match definition_of(table, ty.id, left - 1) {
         Ok(definition) => definition,
-        Err(error) => return Err(error.of_whole(&None, 0)),
+        Err(failure) => return Err(failure.of_whole(&None, 0, steps)),
     };
-    items_by(table, definition, count, left - 1, values, out)
+    items_by(table, definition, count, left - 1, values, out, steps)
 }
 
 /// Appends so many values by the definition of their type.
@@ -300,29 +329,30 @@ fn items_by(
     left: u8,
     values: &[Dyn],
     out: &mut Vec<u8>,
-) -> Result<(), EncodeValueError>
+    steps: &mut Vec<Step>,
+) -> Result<(), Failure>
     requires { 1 ≤ left }
     ensures ok { OnOk result (Appends
         (in_turn 0 (replicate count (item (definition_within left table.now definition.now)))
         values.now)
         out.old.items out.new.items) }
-    ensures err { IfErr result (IsErrorOf
+    ensures err { IfErr result (Fails
         (in_turn 0 (replicate count (item (definition_within left table.now definition.now)))
-        values.now)) }
+        values.now) steps.new.items) }
     ensures kept { OnErr result (IsPrefix out.old.items out.new.items) }
 {
     let mut rest = values;
     for place in 0..count {
         let [value, more @ ..] = rest else {
-            return Err(EncodeValueError::Mismatch(here(out)));
+            return Err(mismatch(steps));
         };
-        if let Err(error) = value_by(table, definition, left, value, out) {
-            return Err(error.of_whole(&None, place));
+        if let Err(failure) = value_by(table, definition, left, value, out, steps) {
+            return Err(failure.of_whole(&None, place, steps));
         }
         rest = more;
     }
     if !rest.is_empty() {
-        return Err(EncodeValueError::Mismatch(here(out)));
+        return Err(mismatch(steps));
     }
     Ok(())
 }
@@ -336,20 +366,29 @@ fn tuple_value(
     left: u8,
     value: &Dyn,
     out: &mut Vec<u8>,
-) -> Result<(), EncodeValueError>
+    steps: &mut Vec<Step>,
+) -> Result<(), Failure>
     requires { 1 ≤ left }
     ensures ok { OnOk result
         (Appends (definition_within left table.now (def.Tuple tuple.now) value.now)
         out.old.items out.new.items) }
     ensures err { IfErr result
-        (IsErrorOf (definition_within left table.now (def.Tuple tuple.now) value.now)) }
+        (Fails (definition_within left table.now (def.Tuple tuple.now) value.now)
+        steps.new.items) }
     ensures kept { OnErr result (IsPrefix out.old.items out.new.items) }
 {
     match value {
         Dyn::List(values) => {
-            members(table, tuple.fields.as_slice(), left, values.as_slice(), out)
+            members(
+                table,
+                tuple.fields.as_slice(),
+                left,
+                values.as_slice(),
+                out,
+                steps,
+            )
         }
-        _ => Err(EncodeValueError::Mismatch(here(out))),
+        _ => Err(mismatch(steps)),
     }
 }
 
@@ -362,26 +401,28 @@ fn members(
     left: u8,
     values: &[Dyn],
     out: &mut Vec<u8>,
-) -> Result<(), EncodeValueError>
+    steps: &mut Vec<Step>,
+) -> Result<(), Failure>
     requires { 1 ≤ left }
     ensures ok { OnOk result
         (Appends (members_within left table.now types.now values.now)
         out.old.items out.new.items) }
-    ensures err { IfErr result (IsErrorOf (members_within left table.now types.now values.now)) }
+    ensures err { IfErr result
+        (Fails (members_within left table.now types.now values.now) steps.new.items) }
     ensures kept { OnErr result (IsPrefix out.old.items out.new.items) }
 {
     let mut rest = values;
     for (place, ty) in types.iter().enumerate() {
         let [value, more @ ..] = rest else {
-            return Err(EncodeValueError::Mismatch(here(out)));
+            return Err(mismatch(steps));
         };
-        if let Err(error) = value_within(table, ty.id, left - 1, value, out) {
-            return Err(error.of_whole(&None, place));
+        if let Err(failure) = value_within(table, ty.id, left - 1, value, out, steps) {
+            return Err(failure.of_whole(&None, place, steps));
         }
         rest = more;
     }
     if !rest.is_empty() {
-        return Err(EncodeValueError::Mismatch(here(out)));
+        return Err(mismatch(steps));
     }
     Ok(())
 }
@@ -395,29 +436,31 @@ fn fields(
     left: u8,
     values: &[(Option<Text>, Dyn)],
     out: &mut Vec<u8>,
-) -> Result<(), EncodeValueError>
+    steps: &mut Vec<Step>,
+) -> Result<(), Failure>
     requires { 1 ≤ left }
     ensures ok { OnOk result
         (Appends (fields_within left table.now all.now values.now) out.old.items out.new.items) }
-    ensures err { IfErr result (IsErrorOf (fields_within left table.now all.now values.now)) }
+    ensures err { IfErr result
+        (Fails (fields_within left table.now all.now values.now) steps.new.items) }
     ensures kept { OnErr result (IsPrefix out.old.items out.new.items) }
 {
     let mut rest = values;
     for (place, field) in all.iter().enumerate() {
         let [named, more @ ..] = rest else {
-            return Err(EncodeValueError::Mismatch(here(out)));
+            return Err(mismatch(steps));
         };
         if field.name != named.0 {
-            let error = EncodeValueError::Mismatch(here(out));
-            return Err(error.of_whole(&named.0, place));
+            let failure = mismatch(steps);
+            return Err(failure.of_whole(&named.0, place, steps));
         }
-        if let Err(error) = value_within(table, field.ty.id, left - 1, &named.1, out) {
-            return Err(error.of_whole(&named.0, place));
+        if let Err(failure) = value_within(table, field.ty.id, left - 1, &named.1, out, steps) {
+            return Err(failure.of_whole(&named.0, place, steps));
         }
         rest = more;
     }
     if !rest.is_empty() {
-        return Err(EncodeValueError::Mismatch(here(out)));
+        return Err(mismatch(steps));
     }
     Ok(())
 }
@@ -431,22 +474,24 @@ fn map_value(
     left: u8,
     value: &Dyn,
     out: &mut Vec<u8>,
-) -> Result<(), EncodeValueError>
+    steps: &mut Vec<Step>,
+) -> Result<(), Failure>
     requires { 1 ≤ left }
     ensures ok { OnOk result
         (Appends (definition_within left table.now (def.Map map.now) value.now)
         out.old.items out.new.items) }
     ensures err { IfErr result
-        (IsErrorOf (definition_within left table.now (def.Map map.now) value.now)) }
+        (Fails (definition_within left table.now (def.Map map.now) value.now)
+        steps.new.items) }
     ensures kept { OnErr result (IsPrefix out.old.items out.new.items) }
 {
     match value {
         Dyn::List(entries) => {
             let entries = entries.as_slice();
-            count(entries.len(), out)?;
-            pairs(table, &map.key, &map.value, left, entries, out)
+            without_parts(count(entries.len(), out), steps)?;
+            pairs(table, &map.key, &map.value, left, entries, out, steps)
         }
-        _ => Err(EncodeValueError::Mismatch(here(out))),
+        _ => Err(mismatch(steps)),
     }
 }
 
@@ -460,18 +505,20 @@ fn pairs(
     left: u8,
     entries: &[Dyn],
     out: &mut Vec<u8>,
-) -> Result<(), EncodeValueError>
+    steps: &mut Vec<Step>,
+) -> Result<(), Failure>
     requires { 1 ≤ left }
     ensures ok { OnOk result (Appends
         (pairs_within left table.now key.now value.now (length entries.now) entries.now)
         out.old.items out.new.items) }
-    ensures err { IfErr result (IsErrorOf
-        (pairs_within left table.now key.now value.now (length entries.now) entries.now)) }
+    ensures err { IfErr result (Fails
+        (pairs_within left table.now key.now value.now (length entries.now) entries.now)
+        steps.new.items) }
     ensures kept { OnErr result (IsPrefix out.old.items out.new.items) }
 {
     for (place, entry) in entries.iter().enumerate() {
-        if let Err(error) = pair(table, key, value, left, entry, out) {
-            return Err(error.of_whole(&None, place));
+        if let Err(failure) = pair(table, key, value, left, entry, out, steps) {
+            return Err(failure.of_whole(&None, place, steps));
         }
     }
     Ok(())
@@ -486,33 +533,34 @@ fn pair(
     left: u8,
     entry: &Dyn,
     out: &mut Vec<u8>,
-) -> Result<(), EncodeValueError>
+    steps: &mut Vec<Step>,
+) -> Result<(), Failure>
     requires { 1 ≤ left }
     ensures ok { OnOk result
         (Appends (pair_within left table.now key.now value.now entry.now)
         out.old.items out.new.items) }
     ensures err { IfErr result
-        (IsErrorOf (pair_within left table.now key.now value.now entry.now)) }
+        (Fails (pair_within left table.now key.now value.now entry.now) steps.new.items) }
     ensures kept { OnErr result (IsPrefix out.old.items out.new.items) }
 {
     let Dyn::List(both) = entry else {
-        return Err(EncodeValueError::Mismatch(here(out)));
+        return Err(mismatch(steps));
     };
     let inner = left.saturating_sub(2);
     let [first, more @ ..] = both.as_slice() else {
-        return Err(EncodeValueError::Mismatch(here(out)));
+        return Err(mismatch(steps));
     };
-    if let Err(error) = value_within(table, key.id, inner, first, out) {
-        return Err(error.of_whole(&None, 0));
+    if let Err(failure) = value_within(table, key.id, inner, first, out, steps) {
+        return Err(failure.of_whole(&None, 0, steps));
     }
     let [second, more @ ..] = more else {
-        return Err(EncodeValueError::Mismatch(here(out)));
+        return Err(mismatch(steps));
     };
-    if let Err(error) = value_within(table, value.id, inner, second, out) {
-        return Err(error.of_whole(&None, 1));
+    if let Err(failure) = value_within(table, value.id, inner, second, out, steps) {
+        return Err(failure.of_whole(&None, 1, steps));
     }
     if !more.is_empty() {
-        return Err(EncodeValueError::Mismatch(here(out)));
+        return Err(mismatch(steps));
     }
     Ok(())
 }

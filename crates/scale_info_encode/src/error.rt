@@ -1,10 +1,8 @@
 //! Why a value could not be encoded.
 ghost use Rattle.std.specs.Prelude.{◌≡◌};
 ghost use Rattle.scale_info_encode.specs.declared.error.EncodeValueError.TheVariants as error;
-ghost use Rattle.scale_info_encode.specs.Writers.{Written, IsErrorOf, of_part, step_to};
 
 use crate::path::ValuePath;
-use scale_info_collections::text::Text;
 use std::alloc::{AllocError, AllocFailed};
 use thiserror::Error;
 
@@ -30,25 +28,6 @@ pub enum EncodeValueError {
     /// An allocation failed.
     #[error("Memory")]
     Memory,
-}
-
-impl EncodeValueError {
-    /// The error of a part as one of the whole, where this is the part's index, and its name, if it
-    /// has one.
-    #[cold]
-    #[inline(never)]
-    pub(crate) fn of_whole(self, name: &Option<Text>, index: usize) -> EncodeValueError
-        ensures { (outcome : Written) → IsErrorOf outcome self
-            → IsErrorOf (of_part (step_to index name.now) outcome) result }
-    {
-        match self {
-            EncodeValueError::Mismatch(path) => match path.from_whole(name, index) {
-                Ok(path) => EncodeValueError::Mismatch(path),
-                Err(_) => EncodeValueError::Memory,
-            },
-            other => other,
-        }
-    }
 }
 
 impl From<AllocError> for EncodeValueError {

@@ -52,8 +52,8 @@ pub fn never_read()
 /// one, bytes are the encoding of a value by the new table, at the index of a node in that list,
 /// exactly where they are by the old table at the node.
 ///
-/// `[bool, Vec<u32>, text, u32]` pruned to the vector is `[Vec<u32>, u32]`. There a value is encoded
-/// at id 0 as it was at id 1 before.
+/// `[bool, Vec<u32>, text, u32]` pruned to the vector is `[Vec<u32>, u32]`. There a value is
+/// encoded at id 0 as it was at id 1 before.
 pub fn writes_alike()
     ensures { (old new : PortableRegistry) (kept : List ℕ)
         → IsTable (system_of old) kept (map entry_of new.types)

@@ -8,6 +8,7 @@ mod compact;
 mod definition;
 pub mod encode;
 pub mod error;
+mod failure;
 mod integer;
 pub mod laws;
 pub mod path;

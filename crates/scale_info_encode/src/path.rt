@@ -1,12 +1,9 @@
 //! The path from a value to one of its parts.
-ghost use Rattle.std.specs.Prelude.{◌≡◌, ◌∷◌, [], Some, IfOk};
+ghost use Rattle.std.specs.Prelude.{Some};
 ghost use Rattle.scale_info_encode.specs.Paths.{step_text, path_text};
-ghost use Rattle.scale_info_encode.specs.Writers.{step_to};
 
 use scale_info_collections::items::Items;
 use scale_info_collections::text::Text;
-use scale_info_collections::try_clone::TryClone;
-use std::alloc::AllocError;
 use std::fmt;
 
 /// A step from a value to one of its parts.
@@ -47,28 +44,6 @@ pub struct ValuePath {
     pub steps: Items<Step>,
 }
 
-impl ValuePath {
-    /// The path from a whole, in which the value that this path starts from is the part at this
-    /// index, with this name, if it has one.
-    pub(crate) fn from_whole(
-        self,
-        name: &Option<Text>,
-        index: usize,
-    ) -> Result<ValuePath, AllocError>
-        ensures { IfOk result (λ path. path.steps ≡ step_to index name.now ∷ self.steps) }
-    {
-        let mut steps = self.steps.into_vec();
-        let step = match name {
-            Some(name) => Step::Field(name.try_clone(*steps.allocator())?),
-            None => Step::Index(index),
-        };
-        steps.insert(0, step)?;
-        Ok(ValuePath {
-            steps: Items::from(steps),
-        })
-    }
-}
-
 impl fmt::Display for ValuePath {
     ghost output = { λ path. Some (path_text path.steps) };
 
@@ -84,16 +59,5 @@ impl fmt::Display for ValuePath {
                 Ok(())
             }
         }
-    }
-}
-
-/// The path of the value itself, which is to be appended to this output. It holds nothing, so it
-/// takes of the output its allocator alone.
-#[cold]
-pub(crate) fn here(out: &Vec<u8>) -> ValuePath
-    ensures { result.steps ≡ [] }
-{
-    ValuePath {
-        steps: Items::new(*out.allocator()),
     }
 }

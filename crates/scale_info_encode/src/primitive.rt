@@ -1,14 +1,14 @@
 //! Values of primitive types, which have no parts.
-ghost use Rattle.std.specs.Prelude.{◌≡◌, IfErr, OnOk, OnErr};
+ghost use Rattle.std.specs.Prelude.{◌≡◌, [], IfErr, OnOk, OnErr};
 ghost use Rattle.scale_info_value.specs.IntegerWidths.{width_of};
-ghost use Rattle.scale_info_encode.specs.Writers.{Appends, IsErrorOf};
+ghost use Rattle.scale_info_encode.specs.Failures.{Fails};
+ghost use Rattle.scale_info_encode.specs.Writers.{Appends};
 ghost use Rattle.scale_info_encode.specs.DefinitionWriters.{unsigned_in, signed_in, truth_in};
 ghost use Rattle.scale_info_encode.specs.DefinitionWriters.{text_in, held, unsigned, signed, truth};
 ghost use Rattle.scale_info_encode.specs.DefinitionWriters.{text, primitive};
 
-use crate::error::EncodeValueError;
+use crate::failure::Failure;
 use crate::integer::{signed, unsigned};
-use crate::path::here;
 use scale_info_bytes::error::EncodeError;
 use scale_info_bytes::text::encode_text;
 use scale_info_types::ty::TypeDefPrimitive;
@@ -16,76 +16,68 @@ use scale_info_value::integer::IntegerWidth;
 use scale_info_value::value::Dyn;
 
 /// Appends a truth value.
-fn truth(value: &Dyn, out: &mut Vec<u8>) -> Result<(), EncodeValueError>
+fn truth(value: &Dyn, out: &mut Vec<u8>) -> Result<(), Failure>
     ensures ok { OnOk result
         (Appends (held truth_in truth value.now) out.old.items out.new.items) }
-    ensures err { IfErr result (IsErrorOf (held truth_in truth value.now)) }
+    ensures err { IfErr result (Fails (held truth_in truth value.now) []) }
     ensures same { OnErr result (out.new.items ≡ out.old.items) }
 {
     match value {
         Dyn::Bool(truth) => Ok(out.push(*truth as u8)?),
-        _ => Err(EncodeValueError::Mismatch(here(out))),
+        _ => Err(Failure::Mismatch),
     }
 }
 
 /// Appends an integer of an unsigned type.
-fn unsigned_value(
-    width: IntegerWidth,
-    value: &Dyn,
-    out: &mut Vec<u8>,
-) -> Result<(), EncodeValueError>
+fn unsigned_value(width: IntegerWidth, value: &Dyn, out: &mut Vec<u8>) -> Result<(), Failure>
     ensures ok { OnOk result
         (Appends (held unsigned_in (unsigned (width_of width)) value.now)
         out.old.items out.new.items) }
     ensures err { IfErr result
-        (IsErrorOf (held unsigned_in (unsigned (width_of width)) value.now)) }
+        (Fails (held unsigned_in (unsigned (width_of width)) value.now) []) }
     ensures same { OnErr result (out.new.items ≡ out.old.items) }
 {
     match value {
         Dyn::Unsigned(n) => unsigned(width, *n, out),
-        _ => Err(EncodeValueError::Mismatch(here(out))),
+        _ => Err(Failure::Mismatch),
     }
 }
 
 /// Appends an integer of a signed type.
-fn signed_value(width: IntegerWidth, value: &Dyn, out: &mut Vec<u8>) -> Result<(), EncodeValueError>
+fn signed_value(width: IntegerWidth, value: &Dyn, out: &mut Vec<u8>) -> Result<(), Failure>
     ensures ok { OnOk result
         (Appends (held signed_in (signed (width_of width)) value.now)
         out.old.items out.new.items) }
-    ensures err { IfErr result (IsErrorOf (held signed_in (signed (width_of width)) value.now)) }
+    ensures err { IfErr result (Fails (held signed_in (signed (width_of width)) value.now) []) }
     ensures same { OnErr result (out.new.items ≡ out.old.items) }
 {
     match value {
         Dyn::Signed(n) => signed(width, *n, out),
-        _ => Err(EncodeValueError::Mismatch(here(out))),
+        _ => Err(Failure::Mismatch),
     }
 }
 
 /// Appends a text.
-fn text(value: &Dyn, out: &mut Vec<u8>) -> Result<(), EncodeValueError>
+fn text(value: &Dyn, out: &mut Vec<u8>) -> Result<(), Failure>
     ensures ok { OnOk result (Appends (held text_in text value.now) out.old.items out.new.items) }
-    ensures err { IfErr result (IsErrorOf (held text_in text value.now)) }
+    ensures err { IfErr result (Fails (held text_in text value.now) []) }
     ensures same { OnErr result (out.new.items ≡ out.old.items) }
 {
     match value {
         Dyn::Text(chars) => match encode_text(out, chars.as_str()) {
             Ok(()) => Ok(()),
-            Err(EncodeError::TooLong) => Err(EncodeValueError::Mismatch(here(out))),
-            Err(EncodeError::Memory) => Err(EncodeValueError::Memory),
+            Err(EncodeError::TooLong) => Err(Failure::Mismatch),
+            Err(EncodeError::Memory) => Err(Failure::Memory),
         },
-        _ => Err(EncodeValueError::Mismatch(here(out))),
+        _ => Err(Failure::Mismatch),
     }
 }
 
 /// Appends a value of a primitive type.
-pub fn primitive(
-    kind: &TypeDefPrimitive,
-    value: &Dyn,
-    out: &mut Vec<u8>,
-) -> Result<(), EncodeValueError>
+pub fn primitive(kind: &TypeDefPrimitive, value: &Dyn, out: &mut Vec<u8>) -> Result<(), Failure>
     ensures ok { OnOk result
         (Appends (primitive kind.now value.now) out.old.items out.new.items) }
-    ensures err { IfErr result (IsErrorOf (primitive kind.now value.now)) }
+    ensures err { IfErr result (Fails (primitive kind.now value.now) []) }
     ensures same { OnErr result (out.new.items ≡ out.old.items) }
 {
     match kind {
@@ -102,7 +94,7 @@ pub fn primitive(
         TypeDefPrimitive::I64 => signed_value(IntegerWidth::Eight, value, out),
         TypeDefPrimitive::I128 => signed_value(IntegerWidth::Sixteen, value, out),
         TypeDefPrimitive::Char | TypeDefPrimitive::U256 | TypeDefPrimitive::I256 => {
-            Err(EncodeValueError::Unsupported)
+            Err(Failure::Unsupported)
         }
     }
 }

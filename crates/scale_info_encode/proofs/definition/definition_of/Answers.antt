@@ -6,12 +6,12 @@ use Rattle.scale_info_encode.proofs.definition.definition_of.Goals as goal
 
 pub returns-then-left-eq0-clause-unknown : goal.returns-then-left-eq0-clause-unknown
 returns-then-left-eq0-clause-unknown c =
-    λ value. nothing_left c.args.left c.args.table.now c.args.id value (omega arith)
+    λ value steps. nothing_left c.args.left c.args.table.now c.args.id value (omega arith)
 
 pub returns-in-None-clause-unknown : goal.returns-in-None-clause-unknown
 returns-in-None-clause-unknown c =
     let none : type_at c.args.table.now c.args.id ≡ None = grind (arith, common_steps) in
-    λ value. no_type c.args.left c.args.table.now c.args.id value (omega arith) none
+    λ value steps. no_type c.args.left c.args.table.now c.args.id value (omega arith) none
 
 pub returns-in-Some-clause-known : goal.returns-in-Some-clause-known
 returns-in-Some-clause-known c =

@@ -1,18 +1,17 @@
-use Rattle.std.proofs.Common.{◌≡◌, ◌-◌, ◌+◌, ◌<◌, ◌==◌, true, false, Some, None, [], find, length, take, drop, replicate, arith, refl, sym, ◌∙◌, subst}
+use Rattle.std.proofs.Common.{◌≡◌, ◌-◌, ◌+◌, ◌<◌, ◌==◌, true, false, Some, None, [], find, length, take, drop, replicate, arith, ◌⊎◌, refl, sym, subst}
 use Rattle.std.proofs.lemmas.Grind.{common_steps}
 use Rattle.std.proofs.lemmas.List.{append-nil}
 use Rattle.std.specs.Str.{bytes_eq}
 use Rattle.std.specs.Prelude.{IfErr, OnOk}
 use Rattle.std.specs.Option.{option_eq}
 use Rattle.scale_info_types.specs.Shapes.{map_field}
-use Rattle.scale_info_encode.specs.declared.error.EncodeValueError.TheVariants as error
 use Rattle.scale_info_encode.specs.declared.path.Step.TheVariants as step
-use Rattle.scale_info_encode.specs.Writers.{item, in_turn, refused, mismatch, Appends, IsErrorOf}
+use Rattle.scale_info_encode.specs.Writers.{item, in_turn, refused, mismatch, Appends}
+use Rattle.scale_info_encode.specs.Failures.{Fails, error_of}
 use Rattle.scale_info_encode.specs.DefinitionWriters.{field}
 use Rattle.scale_info_encode.specs.Writings.{value_within, definition_within, part_within, pair_within}
-use Rattle.scale_info_encode.proofs.Appending.{mismatch_here}
-use Rattle.scale_info_encode.proofs.InTurn.{next_value, next_part, next_entry, no_next_value, first_of_all, alike, tail_whole, last_in_turn, none_left}
-use Rattle.scale_info_encode.proofs.SoFar.{SoFar, appended, passed, both_ok, both_err, both_kept, fails, starts, ends, goes_on, first_fails, next_fails, part_appended}
+use Rattle.scale_info_encode.proofs.InTurn.{next_value, next_part, next_entry, no_next_value, first_of_all, alike, uneven, tail_whole, last_in_turn, none_left}
+use Rattle.scale_info_encode.proofs.SoFar.{SoFar, appended, passed, both_ok, both_err, both_kept, fails, starts, ends, done, goes_on, first_fails, next_fails, part_appended}
 use Rattle.scale_info_encode.proofs.Steps.{composite_is, tuple_is, sequence_is, map_is, variant_missing, variant_misnamed, variant_named, pair_is, field_named, field_misnamed}
 use Rattle.scale_info_encode.proofs.encode.+value.Goals as goal
 
@@ -25,85 +24,95 @@ composite_value-returns-in-Record-clause-ok t c =
 
 pub composite_value-returns-in-Record-clause-err : goal.composite_value-returns-in-Record-clause-err
 composite_value-returns-in-Record-clause-err t c =
-    subst (λ w. IfErr c.fields.result (IsErrorOf w))
+    subst (λ w. IfErr c.fields.result (Fails w c.fields.new.steps.items))
     (sym (composite_is c.args.left c.args.table.now c.args.composite.now c.args.value.now c.in-Record.values
     c.as_slice-in-Record.result.now c.as_slice.result.now c.in-Record.is c.as_slice-in-Record.ensures c.as_slice.ensures))
     c.fields.ensures.err
 
 pub tuple_value-returns-in-List-clause-err : goal.tuple_value-returns-in-List-clause-err
 tuple_value-returns-in-List-clause-err t c =
-    subst (λ w. IfErr c.members.result (IsErrorOf w))
+    subst (λ w. IfErr c.members.result (Fails w c.members.new.steps.items))
     (sym (tuple_is c.args.left c.args.table.now c.args.tuple.now c.args.value.now c.in-List.values
     c.as_slice-in-List.result.now c.as_slice.result.now c.in-List.is c.as_slice-in-List.ensures c.as_slice.ensures))
     c.members.ensures.err
 
 pub items-returns-clause-err : goal.items-returns-clause-err
 items-returns-clause-err t c =
-    subst (λ w. IfErr c.items_by.result (IsErrorOf w))
+    subst (λ w. IfErr c.items_by.result (Fails w c.items_by.new.steps.items))
     (sym (alike c.args.count (value_within (c.args.left - 1) c.args.table.now c.args.ty.now.id)
     (definition_within (c.args.left - 1) c.args.table.now c.in-Ok.definition.now) c.args.values.now
     (λ value. (c.in-Ok.ensures.known value).0)))
     c.items_by.ensures.err
 
+pub items-returns-then-count-eq0-2-clause-err : goal.items-returns-then-count-eq0-2-clause-err
+items-returns-then-count-eq0-2-clause-err t c =
+    let apart : c.args.count ≡ 0 → length c.args.values.now ≡ 0 → ⊥ = λ n e. grind (arith, common_steps) in
+    let some : (c.args.count ≡ 0) ⊎ (length c.args.values.now ≡ 0) = grind (arith, common_steps) in
+    subst (λ w. Fails w c.mismatch.new.steps.items c.mismatch.result)
+    (sym (uneven c.args.count (item (value_within (c.args.left - 1) c.args.table.now c.args.ty.now.id)) c.args.values.now apart some))
+    c.mismatch.ensures
+
 pub items_by-returns-in_default-clause-err : goal.items_by-returns-in_default-clause-err
 items_by-returns-in_default-clause-err t c =
     let write = item (definition_within c.args.left c.args.table.now c.args.definition.now) in
-    fails _ _ _ _ (error.Mismatch c.here.result) c.loop-place.invariant
-    (no_next_value c.args.count c.loop-place.place write c.loop-place.rest.now (omega arith) c.in_default.len_below
-    ∙ mismatch_here c.here.result.steps c.here.ensures)
+    let e = error_of c.mismatch.new.steps.items c.mismatch.result in
+    fails _ _ _ _ e c.loop-place.invariant
+    (subst (λ w. Fails w c.mismatch.new.steps.items c.mismatch.result)
+    (sym (no_next_value c.args.count c.loop-place.place write c.loop-place.rest.now (omega arith) c.in_default.len_below))
+    c.mismatch.ensures)
 
-pub sequence_value-returns-in_ok-count-in-List-clause-ok : goal.sequence_value-returns-in_ok-count-in-List-clause-ok
-sequence_value-returns-in_ok-count-in-List-clause-ok t c =
+pub sequence_value-returns-in_ok-without_parts-in-List-clause-ok : goal.sequence_value-returns-in_ok-without_parts-in-List-clause-ok
+sequence_value-returns-in_ok-without_parts-in-List-clause-ok t c =
     both_ok c.items.result _ _ _ _ _ _
     (sequence_is c.args.left c.args.table.now c.args.sequence.now c.args.value.now c.in-List.values
     c.as_slice-values.result.now c.in-List.is c.as_slice-values.ensures)
-    c.in_ok-count-in-List.ensures.ok c.items.ensures.ok
+    (done c.count.result _ c.in_ok-without_parts-in-List.ensures.same c.count.ensures.ok) c.items.ensures.ok
 
-pub sequence_value-returns-in_ok-count-in-List-clause-kept : goal.sequence_value-returns-in_ok-count-in-List-clause-kept
-sequence_value-returns-in_ok-count-in-List-clause-kept t c =
+pub sequence_value-returns-in_ok-without_parts-in-List-clause-kept : goal.sequence_value-returns-in_ok-without_parts-in-List-clause-kept
+sequence_value-returns-in_ok-without_parts-in-List-clause-kept t c =
     both_kept c.items.result _ _ _ _ _ _
     (sequence_is c.args.left c.args.table.now c.args.sequence.now c.args.value.now c.in-List.values
     c.as_slice-values.result.now c.in-List.is c.as_slice-values.ensures)
-    c.in_ok-count-in-List.ensures.ok c.items.ensures.kept
+    (done c.count.result _ c.in_ok-without_parts-in-List.ensures.same c.count.ensures.ok) c.items.ensures.kept
 
-pub map_value-returns-in_ok-count-in-List-clause-ok : goal.map_value-returns-in_ok-count-in-List-clause-ok
-map_value-returns-in_ok-count-in-List-clause-ok t c =
+pub map_value-returns-in_ok-without_parts-in-List-clause-ok : goal.map_value-returns-in_ok-without_parts-in-List-clause-ok
+map_value-returns-in_ok-without_parts-in-List-clause-ok t c =
     both_ok c.pairs.result _ _ _ _ _ _
     (map_is c.args.left c.args.table.now c.args.map.now c.args.value.now c.in-List.entries
     c.as_slice-entries.result.now c.in-List.is c.as_slice-entries.ensures)
-    c.in_ok-count-in-List.ensures.ok c.pairs.ensures.ok
+    (done c.count.result _ c.in_ok-without_parts-in-List.ensures.same c.count.ensures.ok) c.pairs.ensures.ok
 
-pub map_value-returns-in_ok-count-in-List-clause-err : goal.map_value-returns-in_ok-count-in-List-clause-err
-map_value-returns-in_ok-count-in-List-clause-err t c =
+pub map_value-returns-in_ok-without_parts-in-List-clause-err : goal.map_value-returns-in_ok-without_parts-in-List-clause-err
+map_value-returns-in_ok-without_parts-in-List-clause-err t c =
     both_err c.pairs.result _ _ _ _ _ c.pairs.new.out.items
     (map_is c.args.left c.args.table.now c.args.map.now c.args.value.now c.in-List.entries
     c.as_slice-entries.result.now c.in-List.is c.as_slice-entries.ensures)
-    c.in_ok-count-in-List.ensures.ok c.pairs.ensures.err
+    (done c.count.result _ c.in_ok-without_parts-in-List.ensures.same c.count.ensures.ok) c.pairs.new.steps.items c.pairs.ensures.err
 
-pub map_value-returns-in_ok-count-in-List-clause-kept : goal.map_value-returns-in_ok-count-in-List-clause-kept
-map_value-returns-in_ok-count-in-List-clause-kept t c =
+pub map_value-returns-in_ok-without_parts-in-List-clause-kept : goal.map_value-returns-in_ok-without_parts-in-List-clause-kept
+map_value-returns-in_ok-without_parts-in-List-clause-kept t c =
     both_kept c.pairs.result _ _ _ _ _ _
     (map_is c.args.left c.args.table.now c.args.map.now c.args.value.now c.in-List.entries
     c.as_slice-entries.result.now c.in-List.is c.as_slice-entries.ensures)
-    c.in_ok-count-in-List.ensures.ok c.pairs.ensures.kept
+    (done c.count.result _ c.in_ok-without_parts-in-List.ensures.same c.count.ensures.ok) c.pairs.ensures.kept
 
 pub value_within-returns-in_err-definition-clause-err : goal.value_within-returns-in_err-definition-clause-err
 value_within-returns-in_err-definition-clause-err t c =
-    passed c.from_residual.result c.in_err-definition.field-0.0 _ c.from_residual.ensures.1
-    (c.in_err-definition.ensures.unknown c.args.value.now).0
+    passed c.from_residual.result c.in_err-definition.field-0.0 _ _ c.from_residual.ensures.1
+    (c.in_err-definition.ensures.unknown c.args.value.now _).0
 
 pub items-returns-in-Err-clause-err : goal.items-returns-in-Err-clause-err
 items-returns-in-Err-clause-err t c =
     let some : 0 < length c.args.values.now = grind (arith, common_steps) in
     first_of_all c.args.count (item (value_within (c.args.left - 1) c.args.table.now c.args.ty.now.id)) c.args.values.now
-    c.of_whole.result (omega arith) some
+    (error_of c.of_whole.new.steps.items c.of_whole.result) (omega arith) some
     (λ value. c.of_whole.ensures (value_within (c.args.left - 1) c.args.table.now c.args.ty.now.id value)
-    (c.in-Err.ensures.unknown value).0)
+    (c.in-Err.ensures.unknown value _).0)
 
 pub items_by-returns-in-Err-clause-err : goal.items_by-returns-in-Err-clause-err
 items_by-returns-in-Err-clause-err t c =
     let write = definition_within c.args.left c.args.table.now c.args.definition.now in
-    next_fails _ _ _ _ _ _ c.of_whole.result c.loop-place.invariant
+    next_fails _ _ _ _ _ _ (error_of c.of_whole.new.steps.items c.of_whole.result) c.loop-place.invariant
     (next_value c.args.count c.loop-place.place (item write) c.loop-place.rest.now c.value-item.result (omega arith)
     c.in-len1-up.len_at_least c.value-item.is)
     (c.of_whole.ensures (write c.value-item.result) c.in-Err.ensures.err)
@@ -125,7 +134,7 @@ items_by-loop-place-preserved t c =
 pub members-returns-in-Err-clause-err : goal.members-returns-in-Err-clause-err
 members-returns-in-Err-clause-err t c =
     let ty = c.index-types-place.result in
-    next_fails _ _ _ _ _ _ c.of_whole.result c.loop-place.invariant
+    next_fails _ _ _ _ _ _ (error_of c.of_whole.new.steps.items c.of_whole.result) c.loop-place.invariant
     (next_part (λ part. item part.value) (part_within c.args.left c.args.table.now) c.loop-place.place c.args.types.now ty
     c.loop-place.rest.now c.value-item.result (omega arith) c.index-types-place.is c.in-len1-up.len_at_least c.value-item.is)
     (c.of_whole.ensures (value_within (c.args.left - 1) c.args.table.now ty.id c.value-item.result) c.in-Err.ensures.err)
@@ -135,22 +144,22 @@ fields-returns-then-ne-clause-err t c =
     let f = c.index-all-place.result in
     let named = c.named-item.result in
     let differs : option_eq bytes_eq f.name named.0 ≡ false = grind (arith, common_steps) in
-    next_fails _ _ _ _ _ _ c.of_whole.result c.loop-place.invariant
+    next_fails _ _ _ _ _ _ (error_of c.of_whole.new.steps.items c.of_whole.result) c.loop-place.invariant
     (next_part field (map_field {G = Unit {0}} (part_within c.args.left c.args.table.now) (λ t. t)) c.loop-place.place
     c.args.all.now f c.loop-place.rest.now named (omega arith) c.index-all-place.is c.in-len1-up.len_at_least c.named-item.is)
-    (subst (λ w. IsErrorOf w c.of_whole.result)
+    (subst (λ w. Fails w c.of_whole.new.steps.items c.of_whole.result)
     (sym (field_misnamed c.args.left c.args.table.now f c.loop-place.place named differs))
-    (c.of_whole.ensures (refused mismatch) (mismatch_here c.here-then-ne.result.steps c.here-then-ne.ensures)))
+    (c.of_whole.ensures (refused mismatch) c.mismatch-failure.ensures))
 
 pub fields-returns-in-Err-clause-err : goal.fields-returns-in-Err-clause-err
 fields-returns-in-Err-clause-err t c =
     let f = c.index-all-place.result in
     let named = c.named-item.result in
     let same : option_eq bytes_eq f.name named.0 ≡ true = grind (arith, common_steps) in
-    next_fails _ _ _ _ _ _ c.of_whole-in-Err.result c.loop-place.invariant
+    next_fails _ _ _ _ _ _ (error_of c.of_whole-in-Err.new.steps.items c.of_whole-in-Err.result) c.loop-place.invariant
     (next_part field (map_field {G = Unit {0}} (part_within c.args.left c.args.table.now) (λ t. t)) c.loop-place.place
     c.args.all.now f c.loop-place.rest.now named (omega arith) c.index-all-place.is c.in-len1-up.len_at_least c.named-item.is)
-    (subst (λ w. IsErrorOf w c.of_whole-in-Err.result)
+    (subst (λ w. Fails w c.of_whole-in-Err.new.steps.items c.of_whole-in-Err.result)
     (sym (field_named c.args.left c.args.table.now f c.loop-place.place named same))
     (c.of_whole-in-Err.ensures (value_within (c.args.left - 1) c.args.table.now f.ty.id named.1) c.in-Err.ensures.err))
 
@@ -158,7 +167,7 @@ pub pairs-returns-in-Err-clause-err : goal.pairs-returns-in-Err-clause-err
 pairs-returns-in-Err-clause-err t c =
     let write = pair_within c.args.left c.args.table.now c.args.key.now c.args.value.now in
     let entry = c.index-entries-place.result in
-    next_fails _ _ _ _ _ _ c.of_whole.result c.loop-place.invariant
+    next_fails _ _ _ _ _ _ (error_of c.of_whole.new.steps.items c.of_whole.result) c.loop-place.invariant
     (next_entry c.loop-place.place (item write) c.args.entries.now entry (omega arith) c.index-entries-place.is)
     (c.of_whole.ensures (write entry) c.in-Err.ensures.err)
 
@@ -169,15 +178,15 @@ pair-returns-in-Err-clause-err t c =
     c.in-List.both c.as_slice.result.now c.first-item.result c.in-List.is c.as_slice.ensures c.saturating_sub-inner.ensures
     c.in-len1-up.len_at_least c.first-item.is in
     let write = value_within c.saturating_sub-inner.result c.args.table.now c.args.key.now.id in
-    subst (λ w. IsErrorOf w c.of_whole.result) (sym whole)
-    (first_fails _ _ c.of_whole.result (c.of_whole.ensures (write c.first-item.result) c.in-Err.ensures.err))
+    subst (λ w. Fails w c.of_whole.new.steps.items c.of_whole.result) (sym whole)
+    (first_fails _ _ (error_of c.of_whole.new.steps.items c.of_whole.result) (c.of_whole.ensures (write c.first-item.result) c.in-Err.ensures.err))
 
-pub sequence_value-returns-in_ok-count-in-List-clause-err : goal.sequence_value-returns-in_ok-count-in-List-clause-err
-sequence_value-returns-in_ok-count-in-List-clause-err t c =
+pub sequence_value-returns-in_ok-without_parts-in-List-clause-err : goal.sequence_value-returns-in_ok-without_parts-in-List-clause-err
+sequence_value-returns-in_ok-without_parts-in-List-clause-err t c =
     both_err c.items.result _ _ _ _ _ c.items.new.out.items
     (sequence_is c.args.left c.args.table.now c.args.sequence.now c.args.value.now c.in-List.values
     c.as_slice-values.result.now c.in-List.is c.as_slice-values.ensures)
-    c.in_ok-count-in-List.ensures.ok c.items.ensures.err
+    (done c.count.result _ c.in_ok-without_parts-in-List.ensures.same c.count.ensures.ok) c.items.new.steps.items c.items.ensures.err
 
 pub pair-returns-in-Err-value_within-clause-err : goal.pair-returns-in-Err-value_within-clause-err
 pair-returns-in-Err-value_within-clause-err t c =
@@ -193,7 +202,7 @@ pair-returns-in-Err-value_within-clause-err t c =
     let second =
     last_in_turn 1 (item (value_within levels c.args.table.now c.args.value.now.id)) all rest c.second-item.result refl
     c.in-len1-up-more.len_at_least c.second-item.is in
-    next_fails _ _ _ _ _ _ c.of_whole-in-Err-value_within.result s second
+    next_fails _ _ _ _ _ _ (error_of c.of_whole-in-Err-value_within.new.steps.items c.of_whole-in-Err-value_within.result) s second
     (c.of_whole-in-Err-value_within.ensures
     (value_within levels c.args.table.now c.args.value.now.id c.second-item.result) c.in-Err-value_within.ensures.err)
 
@@ -222,18 +231,20 @@ pair-returns-clause-ok t c =
 pub variant_value-returns-in_default-variant_with_index-clause-err : goal.variant_value-returns-in_default-variant_with_index-clause-err
 variant_value-returns-in_default-variant_with_index-clause-err t c =
     let none : find (λ v. v.index == c.in-Variant.index) c.args.choice.now.variants ≡ None = grind (arith, common_steps) in
-    variant_missing c.args.left c.args.table.now c.args.choice.now c.args.value.now c.in-Variant.name c.in-Variant.index
-    c.in-Variant.values c.in-Variant.is none
-    ∙ mismatch_here c.here-in_default-variant_with_index.result.steps c.here-in_default-variant_with_index.ensures
+    subst (λ w. Fails w c.mismatch-in_default-variant_with_index.new.steps.items c.mismatch-in_default-variant_with_index.result)
+    (sym (variant_missing c.args.left c.args.table.now c.args.choice.now c.args.value.now c.in-Variant.name c.in-Variant.index
+    c.in-Variant.values c.in-Variant.is none))
+    c.mismatch-in_default-variant_with_index.ensures
 
 pub variant_value-returns-then-ne-clause-err : goal.variant_value-returns-then-ne-clause-err
 variant_value-returns-then-ne-clause-err t c =
     let some : find (λ v. v.index == c.in-Variant.index) c.args.choice.now.variants ≡ Some c.in-Some.variant.now =
     grind (arith, common_steps) in
     let differs : bytes_eq c.in-Some.variant.now.name c.in-Variant.name ≡ false = grind (arith, common_steps) in
-    variant_misnamed c.args.left c.args.table.now c.args.choice.now c.args.value.now c.in-Variant.name c.in-Variant.index
-    c.in-Variant.values c.in-Some.variant.now c.in-Variant.is some differs
-    ∙ mismatch_here c.here-then-ne.result.steps c.here-then-ne.ensures
+    subst (λ w. Fails w c.mismatch-then-ne.new.steps.items c.mismatch-then-ne.result)
+    (sym (variant_misnamed c.args.left c.args.table.now c.args.choice.now c.args.value.now c.in-Variant.name c.in-Variant.index
+    c.in-Variant.values c.in-Some.variant.now c.in-Variant.is some differs))
+    c.mismatch-then-ne.ensures
 
 pub variant_value-returns-clause-ok : goal.variant_value-returns-clause-ok
 variant_value-returns-clause-ok t c =
@@ -255,4 +266,4 @@ variant_value-returns-clause-err t c =
     (variant_named c.args.left c.args.table.now c.args.choice.now c.args.value.now c.in-Variant.name c.in-Variant.index
     c.in-Variant.values c.as_slice-3.result.now c.in-Some.variant.now c.as_slice-2.result.now
     c.in-Variant.is some same c.as_slice-2.ensures c.as_slice-3.ensures)
-    (appended c.in-Variant.index _ _ c.in_ok-push.ensures.items) c.fields.ensures.err
+    (appended c.in-Variant.index _ _ c.in_ok-push.ensures.items) c.fields.new.steps.items c.fields.ensures.err

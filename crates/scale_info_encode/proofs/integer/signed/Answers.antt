@@ -2,7 +2,6 @@ use Rattle.std.proofs.Common.{◌≡◌, take, ap, sym, ◌∙◌}
 use Rattle.std.proofs.lemmas.Int.{to_z-of_z}
 use Rattle.std.specs.Int.{w128, to_le_bytes, byte_len, cast_signed, cast_unsigned}
 use Rattle.scale_info_value.specs.IntegerWidths.{width_of}
-use Rattle.scale_info_encode.proofs.Appending.{mismatch_here}
 use Rattle.scale_info_encode.proofs.LowBytes.{too_wide_signed, signed_low, same_bits}
 use Rattle.scale_info_encode.proofs.integer.signed.Goals as goal
 
@@ -17,7 +16,6 @@ returns-then-with_sign-n-clause-err c =
     too_wide_signed width c.args.n c.split_at.result.0.now low
     (λ e. c.if-with_sign-n.true
     (ap (cast_unsigned w128) (c.with_sign.ensures.integer ∙ ap (cast_signed width) c.little_endian.ensures.integer ∙ e)))
-    ∙ mismatch_here c.here.result.steps c.here.ensures
 
 pub returns-clause-ok : goal.returns-clause-ok
 returns-clause-ok c =

@@ -3,7 +3,7 @@ use Rattle.scale_info_bytes.specs.Encodings.{HasNoEncoding, IfTooLong}
 use Rattle.scale_info_bytes.specs.Strings.{EncodesText}
 use Rattle.scale_info_value.specs.declared.value.Dyn.TheVariants as dyn
 use Rattle.scale_info_encode.specs.DefinitionWriters.{text, text_in}
-use Rattle.scale_info_encode.proofs.Appending.{appends_map, is_held, no_text, mismatch_here}
+use Rattle.scale_info_encode.proofs.Appending.{appends_map, is_held, no_text}
 use Rattle.scale_info_encode.proofs.Texts.{encodes_text}
 use Rattle.scale_info_encode.proofs.ValueKinds.{texts}
 use Rattle.scale_info_encode.proofs.primitive.text.Goals as goal
@@ -23,4 +23,3 @@ returns-in-Err-TooLong-clause-err c =
     ∙ no_text c.as_str.result.now
     (subst (IfTooLong (HasNoEncoding (EncodesText c.as_str.result.now))) c.in-Err-TooLong.field-0-is
     c.in-Err-TooLong.ensures.too_long)
-    ∙ mismatch_here c.here.result.steps c.here.ensures
