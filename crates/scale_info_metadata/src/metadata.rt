@@ -150,8 +150,9 @@ fn split_table(input: &[u8]) -> Option<(&[u8], &[u8])>
 ///
 /// The input is a table and nothing else, or a node's metadata: the word `meta`, a byte for the
 /// version, which is 14, 15 or 16, the table, and more that is not read. Metadata may also stand in
-/// a byte string that is the whole input, or in an option of one, as runtimes return it. An input that
-/// is metadata is never taken for a table; see `FORMATS.md` for the tables that so can't be read.
+/// a byte string that is the whole input, or in an option of one, as runtimes return it. An input
+/// that is metadata is never taken for a table; see `FORMATS.md` for the tables that so can't be
+/// read.
 ///
 /// Errors: `Version`, where the input is metadata of another version; `Trailing`, where it is no
 /// metadata and bytes come after its table; `Malformed`, where there is no table in it.

@@ -8,6 +8,7 @@ pub mod decode;
 pub mod encode;
 pub mod error;
 mod integer;
+pub mod laws;
 mod list;
 mod members;
 mod option;

@@ -60,13 +60,15 @@ fn is_object_by_map(alloc: Global, fields: &[Field<PortableForm>]) -> Result<boo
 /// Whether fields are the members of an object: each has a name of its own.
 ///
 /// A few names are compared two by two, and nothing is allocated for them; more are put into a map,
-/// so that the time for a type from outside goes by its length and no faster. Errors: an allocation
-/// failed.
-pub fn is_object_of(alloc: Global, fields: &[Field<PortableForm>]) -> Result<bool, AllocError>
-    ensures { IfOk result (λ is. is ≡ is_object_of (names fields.now)) }
+/// so that the time for a type from outside goes by its length and no faster. Where there is no
+/// memory for the map they are compared two by two as well.
+pub fn is_object_of(alloc: Global, fields: &[Field<PortableForm>]) -> bool
+    ensures { result ≡ is_object_of (names fields.now) }
 {
-    if fields.len() <= 16 {
-        return Ok(all_named(fields) && are_distinct(fields));
+    if fields.len() > 16 {
+        if let Ok(by_map) = is_object_by_map(alloc, fields) {
+            return by_map;
+        }
     }
-    is_object_by_map(alloc, fields)
+    all_named(fields) && are_distinct(fields)
 }

@@ -236,8 +236,7 @@ fn fields(
     ensures err { IfErr result
         (IsErrorOf (fields_within left table.now all.now (view tree.now))) }
 {
-    let as_object = is_object_of(alloc, all)?;
-    if as_object {
+    if is_object_of(alloc, all) {
         return object_fields(alloc, table, all, left, tree);
     }
     match items_of(tree) {

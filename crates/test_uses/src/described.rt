@@ -20,7 +20,7 @@ const TABLE: &str = "\
     3c00000108044100000004420400140000010000400000040000440000040c143c34004804204d656173\
     757265640000080044000428496e206d65747265732e0040000000";
 
-/// What is written of those from 0 on, with a line `---` behind each.
+/// What is written of those from 0 on, with a line `---` after each.
 const WRITTEN: &str = "\
 /// Moves an amount.
 /// Once.

@@ -11,36 +11,36 @@ use Rattle.scale_info_value_json.proofs.SoFar.{passed, passes}
 use Rattle.scale_info_value_json.proofs.OneLevel.{object_is, array_items_are, no_array}
 use Rattle.scale_info_value_json.proofs.take.+value.Goals as goal
 
-pub fields-returns-then-as_object-clause-ok : goal.fields-returns-then-as_object-clause-ok
-fields-returns-then-as_object-clause-ok t c =
+pub fields-returns-then-is_object_of-clause-ok : goal.fields-returns-then-is_object_of-clause-ok
+fields-returns-then-is_object_of-clause-ok t c =
     subst (λ w. IfOk c.object_fields.result (λ values. w ≡ taken values))
-    (sym (object_is c.args.left c.args.table.now c.args.all.now (view c.args.tree.now) (sym c.in_ok-as_object.ensures ∙ c.if-as_object.true)))
+    (sym (object_is c.args.left c.args.table.now c.args.all.now (view c.args.tree.now) (sym c.is_object_of.ensures ∙ c.if-is_object_of.true)))
     c.object_fields.ensures.ok
 
-pub fields-returns-then-as_object-clause-err : goal.fields-returns-then-as_object-clause-err
-fields-returns-then-as_object-clause-err t c =
+pub fields-returns-then-is_object_of-clause-err : goal.fields-returns-then-is_object_of-clause-err
+fields-returns-then-is_object_of-clause-err t c =
     subst (λ w. IfErr c.object_fields.result (IsErrorOf w))
-    (sym (object_is c.args.left c.args.table.now c.args.all.now (view c.args.tree.now) (sym c.in_ok-as_object.ensures ∙ c.if-as_object.true)))
+    (sym (object_is c.args.left c.args.table.now c.args.all.now (view c.args.tree.now) (sym c.is_object_of.ensures ∙ c.if-is_object_of.true)))
     c.object_fields.ensures.err
 
 pub fields-returns-in-Some-clause-ok : goal.fields-returns-in-Some-clause-ok
 fields-returns-in-Some-clause-ok t c =
     subst (λ w. IfOk c.array_fields.result (λ values. w ≡ taken values))
     (sym (array_items_are c.args.left c.args.table.now c.args.all.now (view c.args.tree.now) (map view c.in-Some.trees.now)
-    (sym c.in_ok-as_object.ensures ∙ c.if-as_object.false) c.in-Some.ensures))
+    (sym c.is_object_of.ensures ∙ c.if-is_object_of.false) c.in-Some.ensures))
     c.array_fields.ensures.ok
 
 pub fields-returns-in-Some-clause-err : goal.fields-returns-in-Some-clause-err
 fields-returns-in-Some-clause-err t c =
     subst (λ w. IfErr c.array_fields.result (IsErrorOf w))
     (sym (array_items_are c.args.left c.args.table.now c.args.all.now (view c.args.tree.now) (map view c.in-Some.trees.now)
-    (sym c.in_ok-as_object.ensures ∙ c.if-as_object.false) c.in-Some.ensures))
+    (sym c.is_object_of.ensures ∙ c.if-is_object_of.false) c.in-Some.ensures))
     c.array_fields.ensures.err
 
 pub fields-returns-in-None-clause-err : goal.fields-returns-in-None-clause-err
 fields-returns-in-None-clause-err t c =
     no_array c.args.left c.args.table.now c.args.all.now (view c.args.tree.now)
-    (sym c.in_ok-as_object.ensures ∙ c.if-as_object.false) c.in-None.ensures
+    (sym c.is_object_of.ensures ∙ c.if-is_object_of.false) c.in-None.ensures
 
 pub variant_value-returns-in_default-chosen-clause-err : goal.variant_value-returns-in_default-chosen-clause-err
 variant_value-returns-in_default-chosen-clause-err t c =
