@@ -21,7 +21,7 @@ eight = codes "        "
 abbrev pub documentation_line : List ℕ → Text → List ℕ
 documentation_line blanks line = blanks ++ codes "/// " ++ line ++ codes "\n"
 
--- lines of documentation, each after these blanks
+-- lines of documentation, each behind these blanks
 abbrev pub documentation : List ℕ → List Text → List ℕ
 documentation blanks docs = flat_map (documentation_line blanks) docs
 
@@ -54,7 +54,7 @@ module _ (name : ℕ → List ℕ) where
       if has_name fs || has_docs fs then fields_on_lines outer inner fs
       else fields_on_line name fs
 
-  -- a blank, the last segment of the path and the arguments after it
+  -- a blank, the last segment of the path and the arguments behind it
   abbrev pub title_by : Option Text → Description → List ℕ
   title_by None d = []
   title_by (Some segment) d = codes " " ++ segment ++ arguments name d.type_params

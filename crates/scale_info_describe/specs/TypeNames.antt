@@ -84,7 +84,7 @@ module _ (name : ℕ → List ℕ) where
   definition_name (def.Map d) =
       codes "BTreeMap<" ++ name d.key.id ++ codes ", " ++ name d.value.id ++ codes ">"
 
-  -- the name by the last segment of the path, which has the arguments after it; a type without a
+  -- the name by the last segment of the path, which has the arguments behind it; a type without a
   -- path is written out
   abbrev pub named_by : Option Text → Description → List ℕ
   named_by None d = definition_name d.type_def

@@ -102,7 +102,7 @@ fn append_declaration(
     }
 }
 
-/// Appends lines of documentation, each after these blanks.
+/// Appends lines of documentation, each behind these blanks.
 fn append_documentation(out: &mut String, blanks: &str, docs: &[Text]) -> Result<(), AllocError>
     ensures { Appends result out.old out.new (documentation blanks.now docs.now) }
 {
@@ -186,7 +186,7 @@ fn append_variant(
     out.push_str(",\n")
 }
 
-/// Appends fields: on one line, if none has a name or documentation, and else one a line, after
+/// Appends fields: on one line, if none has a name or documentation, and else one a line, behind
 /// the inner blanks.
 fn append_fields(
     out: &mut String,

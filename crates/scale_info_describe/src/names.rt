@@ -22,7 +22,7 @@ pub const NAME_DEPTH: u8 = 8;
 
 /// The name of the type with this id, as Rust writes the type of a field.
 ///
-/// A type with a path has its last segment, and the arguments for its parameters after it; a
+/// A type with a path has its last segment, and the arguments for its parameters behind it; a
 /// parameter without a type stands by its own name. Other types are written out, at most
 /// [`NAME_DEPTH`] types deep. An id that is no index of the table is `#` and the id.
 ///
@@ -206,7 +206,7 @@ fn append_map(
     out.push_str(">")
 }
 
-/// Appends a tuple of these types. As in Rust, a comma comes after the one member of a tuple.
+/// Appends a tuple of these types. As in Rust, a comma is behind the one member of a tuple.
 #[cycle(name)]
 fn append_tuple(
     out: &mut String,
