@@ -1,0 +1,53 @@
+//! Where a table is read from.
+
+use scale_info_collections::text::Text;
+use std::fs::File;
+use std::io;
+use std::io::{ErrorKind, Read, Stdin};
+use type_reader_io::command::command_of;
+
+/// Where a table is read from.
+#[derive(Drop)]
+pub enum Source {
+    /// A file.
+    File(File),
+    /// The standard input.
+    Stdin(Stdin),
+    /// Nothing: the file can't be opened, or there is none to open. Each read fails.
+    Missing,
+}
+
+impl Source {
+    /// The table that the second argument names: the standard input for `-`, and else a file. No
+    /// file is opened where the arguments are no command.
+    pub fn of_arguments(rt: &HostRuntime, arguments: &[Text]) -> Source {
+        match arguments {
+            [_, table, ..] if command_of(arguments).is_some() => Source::of_name(
+                rt,
+                table.as_str(),
+            ),
+            _ => Source::Missing,
+        }
+    }
+
+    /// The standard input for `-`, and else the file with this name.
+    fn of_name(rt: &HostRuntime, name: &str) -> Source {
+        if name == "-" {
+            return Source::Stdin(rt.stdin());
+        }
+        match File::open(rt, name) {
+            Ok(file) => Source::File(file),
+            Err(_) => Source::Missing,
+        }
+    }
+}
+
+impl Read for Source {
+    fn read(&mut self, buf: &mut [u8]) -> io::Result<usize> {
+        match self {
+            Source::File(file) => file.read(buf),
+            Source::Stdin(stdin) => stdin.read(buf),
+            Source::Missing => Err(io::Error::from(ErrorKind::NotFound)),
+        }
+    }
+}

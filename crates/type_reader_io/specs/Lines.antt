@@ -1,0 +1,41 @@
+-- The lines for errors.
+use Rattle.std.specs.Prelude.{ℕ, ◌≤◌, List, [], ◌++◌, codes, None, Some, decimal}
+use Rattle.std.specs.declared.option.Option.{Option}
+use Rattle.type_reader_io.specs.declared.error.ReaderError.{ReaderError}
+use Rattle.type_reader_io.specs.declared.error.ReaderError.TheVariants as errors
+use Rattle.type_reader_io.specs.declared.message.Message.{Message}
+use Rattle.type_reader_io.specs.declared.message.Message.TheVariants.{Usage, Refused, Notes}
+
+-- the line of arguments that are not a command
+abbrev pub usage_line : List ℕ
+usage_line =
+    codes
+    "usage: type_reader table TABLE | strip TABLE | list TABLE [TYPE ..] | find TABLE PATTERN | prune TABLE TYPE ..\n"
+
+-- a line that ends with a text
+abbrev pub line_with : List ℕ → List ℕ → List ℕ
+line_with text end = text ++ (end ++ codes "\n")
+
+-- the line that reports an error; a number is in decimal digits
+abbrev pub line_of : ReaderError → List ℕ
+line_of errors.Malformed = codes "type_reader: malformed\n"
+line_of errors.TrailingBytes = codes "type_reader: trailing bytes\n"
+line_of (errors.Version version) =
+    line_with (codes "type_reader: metadata of version ") (decimal version)
+line_of (errors.NoSuchType id) = line_with (codes "type_reader: no such type ") (decimal id)
+line_of (errors.NoSuchPath path) = line_with (codes "type_reader: no such path ") path
+line_of (errors.Dangling id) = line_with (codes "type_reader: dangling id ") (decimal id)
+line_of errors.Memory = codes "type_reader: out of memory\n"
+line_of errors.Input = codes "type_reader: input failed\n"
+line_of errors.Output = codes "type_reader: output failed\n"
+
+-- the text of a message
+abbrev pub message_text : Message → List ℕ
+message_text Usage = usage_line
+message_text (Refused error) = line_of error
+message_text (Notes notes) = notes.items
+
+-- the text of a message that was kept; nothing, where there was none
+abbrev pub kept_text : Option Message → List ℕ
+kept_text None = []
+kept_text (Some message) = message_text message

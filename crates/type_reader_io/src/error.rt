@@ -1,0 +1,55 @@
+//! Why a command is refused.
+ghost use Rattle.std.specs.Prelude.{◌≡◌};
+ghost use Rattle.type_reader_io.specs.declared.error.ReaderError.TheVariants as error;
+
+use scale_info_collections::text::Text;
+use std::alloc::{AllocError, AllocFailed};
+use thiserror::Error;
+
+/// Why a command is refused. It is displayed as in its line, without the program's name.
+#[derive(Debug, Drop, PartialEq, Eq, Error)]
+pub enum ReaderError {
+    /// There is no table in the input.
+    #[error("malformed")]
+    Malformed,
+    /// The input is no metadata, and bytes come after its table.
+    #[error("trailing bytes")]
+    TrailingBytes,
+    /// The input is metadata of this version, of which no table is read.
+    #[error("metadata of version {0}")]
+    Version(u8),
+    /// This id is no index of the table.
+    #[error("no such type {0}")]
+    NoSuchType(u32),
+    /// No type of the table has this path.
+    #[error("no such path {0}")]
+    NoSuchPath(Text),
+    /// This id is reached from the given types, and is no index of the table.
+    #[error("dangling id {0}")]
+    Dangling(u32),
+    /// An allocation failed.
+    #[error("out of memory")]
+    Memory,
+    /// The input could not be read to its end.
+    #[error("input failed")]
+    Input,
+    /// The output could not be written whole.
+    #[error("output failed")]
+    Output,
+}
+
+impl From<AllocError> for ReaderError {
+    ghost from_gives = { λ _ e. e ≡ error.Memory };
+
+    fn from(_e: AllocError) -> ReaderError {
+        ReaderError::Memory
+    }
+}
+
+impl<T: Drop> From<AllocFailed<T>> for ReaderError {
+    ghost from_gives = { λ _ e. e ≡ error.Memory };
+
+    fn from(_e: AllocFailed<T>) -> ReaderError {
+        ReaderError::Memory
+    }
+}

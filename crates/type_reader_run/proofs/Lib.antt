@@ -1,0 +1,4 @@
+pub mod Known
+pub mod Refusals
+pub mod Selections
+pub mod Tables

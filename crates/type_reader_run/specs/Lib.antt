@@ -1,0 +1,10 @@
+pub mod Listings
+pub mod Outputs
+pub mod Refusals
+pub mod Reports
+pub mod Selections
+pub mod Tables
+pub use Rattle.scale_info_grammar.specs.Ty
+pub use Rattle.scale_info_metadata.specs.TablesFound
+pub use Rattle.type_reader_io.specs.Commands
+pub use Rattle.type_reader_io.specs.Lines

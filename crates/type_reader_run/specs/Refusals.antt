@@ -1,0 +1,96 @@
+-- Why a command is refused, and what is reported of it.
+use Rattle.std.specs.Prelude.{◌≡◌, ◌⊎◌, ℕ, List, IfSome}
+use Rattle.std.specs.declared.option.Option.{Option}
+use Rattle.std.specs.Io.KnownBytes.{Keeps}
+use Rattle.scale_info_grammar.specs.Ty.{EncodesTypes}
+use Rattle.scale_info_prune.specs.Prunes.{HasDangling}
+use Rattle.scale_info_types.specs.declared.ty.PortableType.{PortableType}
+use Rattle.type_reader_io.specs.declared.command.Command.{Command}
+use Rattle.type_reader_io.specs.declared.command.Command.TheVariants as commands
+use Rattle.type_reader_io.specs.declared.error.ReaderError.{ReaderError}
+use Rattle.type_reader_io.specs.declared.error.ReaderError.TheVariants as errors
+use Rattle.type_reader_run.specs.Outputs.{WritesPrefix}
+use Rattle.type_reader_run.specs.Selections.{AreSelected, IsSelectionError}
+use Rattle.type_reader_run.specs.Tables.{HasTable, IsFoundError, bytes_behind}
+
+-- the texts give no types of the table, for this error
+pub record HasSelectionError (table : List ℕ) (texts : List (List ℕ)) (error : ReaderError)
+    : Type 0 where
+  pub types : List PortableType
+  pub encodes : EncodesTypes types table
+  pub cause : IsSelectionError types texts error
+
+-- the types that the texts give reach this id, which is no index of the table
+pub record ReachesOutside (table : List ℕ) (texts : List (List ℕ)) (id : ℕ) : Type 0 where
+  pub types : List PortableType
+  pub encodes : EncodesTypes types table
+  pub ids : List ℕ
+  pub selected : AreSelected types texts ids
+  pub dangling : HasDangling table ids id
+
+-- why a table is not pruned to the ids, which are all indices of it
+abbrev pub IsReachingError : List ℕ → List ℕ → ReaderError → Type 0
+IsReachingError table ids errors.Malformed = ⊥
+IsReachingError table ids errors.TrailingBytes = ⊥
+IsReachingError table ids (errors.Version version) = ⊥
+IsReachingError table ids (errors.NoSuchType id) = ⊥
+IsReachingError table ids (errors.NoSuchPath path) = ⊥
+IsReachingError table ids (errors.Dangling id) = HasDangling table ids id
+IsReachingError table ids errors.Memory = Unit {0}
+IsReachingError table ids errors.Input = ⊥
+IsReachingError table ids errors.Output = ⊥
+
+-- why a table is not pruned to the types that the texts give
+abbrev pub IsPruningError : List ℕ → List (List ℕ) → ReaderError → Type 0
+IsPruningError table texts errors.Malformed = ⊥
+IsPruningError table texts errors.TrailingBytes = ⊥
+IsPruningError table texts (errors.Version version) = ⊥
+IsPruningError table texts (errors.NoSuchType id) =
+    HasSelectionError table texts (errors.NoSuchType id)
+IsPruningError table texts (errors.NoSuchPath path) =
+    HasSelectionError table texts (errors.NoSuchPath path)
+IsPruningError table texts (errors.Dangling id) = ReachesOutside table texts id
+IsPruningError table texts errors.Memory = Unit {0}
+IsPruningError table texts errors.Input = ⊥
+IsPruningError table texts errors.Output = ⊥
+
+-- why the command has no output for the table
+abbrev pub IsOutputError : Command → List ℕ → ReaderError → Type 0
+IsOutputError commands.Table table e = e ≡ errors.Memory
+IsOutputError commands.Strip table e = e ≡ errors.Memory
+IsOutputError (commands.List texts) table e = HasSelectionError table texts.now e
+IsOutputError (commands.Find pattern) table e = e ≡ errors.Memory
+IsOutputError (commands.Prune texts) table e = IsPruningError table texts.now e
+
+-- the input has a table, for which the command has no output, for this error
+pub record HasOutputError (command : Command) (input : List ℕ) (error : ReaderError)
+    : Type 0 where
+  pub table : List ℕ
+  pub has_table : HasTable input table
+  pub cause : IsOutputError command table error
+
+-- why the command has no output for the input: no table is found in it, or the command has none for
+-- its table
+abbrev pub IsCommandError : Command → List ℕ → ReaderError → Type 0
+IsCommandError command input error =
+    IsFoundError (bytes_behind input) error ⊎ HasOutputError command input error
+
+-- what an error of a command says of the known input, and of the output's known bytes before and
+-- after
+abbrev pub Explains : Command → (input old new : Option (List ℕ)) → ReaderError → Type 0
+Explains command input old new errors.Input = Keeps old new
+Explains command input old new errors.Output = IfSome input (WritesPrefix command old new)
+Explains command input old new error =
+    IfSome input (λ bytes. IsCommandError command bytes error) × Keeps old new
+
+-- why the input could not be read
+abbrev pub IsReadError : ReaderError → Type 0
+IsReadError errors.Malformed = ⊥
+IsReadError errors.TrailingBytes = ⊥
+IsReadError (errors.Version version) = ⊥
+IsReadError (errors.NoSuchType id) = ⊥
+IsReadError (errors.NoSuchPath path) = ⊥
+IsReadError (errors.Dangling id) = ⊥
+IsReadError errors.Memory = Unit {0}
+IsReadError errors.Input = Unit {0}
+IsReadError errors.Output = ⊥

@@ -1,0 +1,99 @@
+//! Types as lines of text.
+ghost use Rattle.std.specs.Prelude.{◌≡◌, IfOk, length, take};
+ghost use Rattle.std.specs.List.{flat_map, range_with_len};
+ghost use Rattle.scale_info_describe.specs.TypeNames.{Appends};
+ghost use Rattle.type_reader_run.specs.Listings.{listed_type, path_text, title_line};
+
+use itoa::Buffer;
+use scale_info_collections::text::Text;
+use scale_info_describe::describe::append_description;
+use scale_info_tables::portable::PortableRegistry;
+use std::alloc::{AllocError, Global};
+
+/// Appends a blank and the path of these segments; nothing, where there is none.
+fn append_path(out: &mut String, segments: &[Text]) -> Result<(), AllocError>
+    ensures { Appends result out.old out.new (path_text segments.now) }
+{
+    let Some((first, others)) = segments.split_first() else {
+        return Ok(());
+    };
+    out.push_str(" ")?;
+    out.push_str(first.as_str())?;
+    for segment in others {
+        out.push_str("::")?;
+        out.push_str(segment.as_str())?;
+    }
+    Ok(())
+}
+
+/// Appends the line of an id and the path of its type.
+fn append_title(out: &mut String, table: &PortableRegistry, id: u32) -> Result<(), AllocError>
+    ensures { Appends result out.old out.new (title_line table.now id) }
+{
+    let mut buffer = Buffer::new();
+    out.push_str(buffer.format(id))?;
+    if let Some(ty) = table.resolve(id) {
+        append_path(out, ty.path.segments.as_slice())?;
+    }
+    out.push_str("\n")
+}
+
+/// Appends a type: `//` and its title, and then its declaration.
+fn append_type(
+    alloc: Global,
+    out: &mut String,
+    table: &PortableRegistry,
+    id: u32,
+) -> Result<(), AllocError>
+    ensures { Appends result out.old out.new (listed_type table.now id) }
+{
+    out.push_str("// ")?;
+    append_title(out, table, id)?;
+    append_description(alloc, table, id, out)?;
+    out.push_str("\n")
+}
+
+/// The lines of these types, as Rust declares them.
+///
+/// Errors: an allocation failed.
+pub fn list_of(alloc: Global, table: &PortableRegistry, ids: &[u32]) -> Result<Vec<u8>, AllocError>
+    ensures { IfOk result (λ lines. lines.items ≡ flat_map (listed_type table.now) ids.now) }
+{
+    let mut out = String::new(alloc);
+    for id in ids {
+        append_type(alloc, &mut out, table, *id)?;
+    }
+    Ok(out.into_bytes())
+}
+
+/// A line for each of these types, with its id and its path.
+///
+/// Errors: an allocation failed.
+pub fn titles_of(
+    alloc: Global,
+    table: &PortableRegistry,
+    ids: &[u32],
+) -> Result<Vec<u8>, AllocError>
+    ensures { IfOk result (λ lines. lines.items ≡ flat_map (title_line table.now) ids.now) }
+{
+    let mut out = String::new(alloc);
+    for id in ids {
+        append_title(&mut out, table, *id)?;
+    }
+    Ok(out.into_bytes())
+}
+
+/// The ids of all types of a table, ascending.
+///
+/// Errors: an allocation failed.
+pub fn all_ids(alloc: Global, table: &PortableRegistry) -> Result<Vec<u32>, AllocError>
+    ensures { IfOk result (λ ids. ids.items
+        ≡ range_with_len 0 (length (take 4294967296 table.now.types))) }
+{
+    let count = table.len().min(4294967296);
+    let mut ids = Vec::with_capacity(alloc, count)?;
+    for index in 0..count {
+        ids.push(index as u32)?;
+    }
+    Ok(ids)
+}

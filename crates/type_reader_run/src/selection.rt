@@ -1,0 +1,71 @@
+//! Types that are given by their ids or their paths.
+ghost use Rattle.std.specs.Prelude.{◌≡◌, [], ◌∷◌, IfOk, IfErr};
+ghost use Rattle.type_reader_run.specs.Selections.{AreNamed, AreSelected, AreWithPath};
+ghost use Rattle.type_reader_run.specs.Selections.{IsNamingError, IsSelectionError};
+
+use scale_info_collections::text::Text;
+use scale_info_describe::search::find_by_path;
+use scale_info_tables::portable::PortableRegistry;
+use std::alloc::{AllocError, Global};
+use type_reader_io::error::ReaderError;
+use type_table_io::id::id_of;
+
+/// The list of one id.
+fn only(alloc: Global, id: u32) -> Result<Vec<u32>, AllocError>
+    ensures { IfOk result (λ ids. ids.items ≡ id ∷ []) }
+{
+    let mut ids = Vec::new(alloc);
+    ids.push(id)?;
+    Ok(ids)
+}
+
+/// The error that no type has this path.
+fn no_such_path(alloc: Global, path: &Text) -> ReaderError
+    ensures { (types : _) → AreWithPath types path.now [] → IsNamingError types path.now result }
+{
+    match Text::from_str(alloc, path.as_str()) {
+        Ok(path) => ReaderError::NoSuchPath(path),
+        Err(_) => ReaderError::Memory,
+    }
+}
+
+/// The ids of the types that a text gives: the id that it is, or the ids of the types with this
+/// path.
+///
+/// Errors: `NoSuchType`, where it is an id, and no index of the table; `NoSuchPath`, where it is no
+/// id, and no type has this path; `Memory`, if an allocation failed.
+pub fn named(alloc: Global, table: &PortableRegistry, text: &Text) -> Result<Vec<u32>, ReaderError>
+    ensures ok { IfOk result (λ ids. AreNamed table.now.types text.now ids.items) }
+    ensures err { IfErr result (IsNamingError table.now.types text.now) }
+{
+    if let Some(id) = id_of(text) {
+        if id as usize >= table.len() {
+            return Err(ReaderError::NoSuchType(id));
+        }
+        return Ok(only(alloc, id)?);
+    }
+    let ids = find_by_path(alloc, table, text.as_str())?;
+    if ids.is_empty() {
+        return Err(no_such_path(alloc, text));
+    }
+    Ok(ids)
+}
+
+/// The ids of the types that the texts give, in their order.
+///
+/// Errors: that of the first text that gives none, as [`named`].
+pub fn selected(
+    alloc: Global,
+    table: &PortableRegistry,
+    texts: &[Text],
+) -> Result<Vec<u32>, ReaderError>
+    ensures ok { IfOk result (λ ids. AreSelected table.now.types texts.now ids.items) }
+    ensures err { IfErr result (IsSelectionError table.now.types texts.now) }
+{
+    let mut ids = Vec::new(alloc);
+    for text in texts {
+        let more = named(alloc, table, text)?;
+        ids.extend_from_slice(&more)?;
+    }
+    Ok(ids)
+}
