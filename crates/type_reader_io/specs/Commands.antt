@@ -12,6 +12,8 @@ word_of words.Strip = codes "strip"
 word_of words.List = codes "list"
 word_of words.Find = codes "find"
 word_of words.Prune = codes "prune"
+word_of words.Value = codes "value"
+word_of words.Encode = codes "encode"
 
 -- the command has this word, and these arguments after the table: of types to prune to there is one
 abbrev pub IsOfWord : Word → List (List ℕ) → Command → Type 0
@@ -21,6 +23,10 @@ IsOfWord word more (commands.List texts) = (word ≡ words.List) × (more ≡ te
 IsOfWord word more (commands.Find pattern) = (word ≡ words.Find) × (more ≡ pattern.now ∷ [])
 IsOfWord word more (commands.Prune texts) =
     (word ≡ words.Prune) × (more ≡ texts.now) × (texts.now ≢ [])
+IsOfWord word more (commands.Value ty digits) =
+    (word ≡ words.Value) × (more ≡ ty.now ∷ digits.now ∷ [])
+IsOfWord word more (commands.Encode ty json) =
+    (word ≡ words.Encode) × (more ≡ ty.now ∷ json.now ∷ [])
 
 -- the arguments name the command: its word, a table, and the arguments after it
 pub record Names (arguments : List (List ℕ)) (command : Command) : Type 0 where

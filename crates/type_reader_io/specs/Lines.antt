@@ -3,6 +3,8 @@ use Rattle.std.specs.Prelude.{ℕ, ◌≤◌, List, [], ◌++◌, codes, None, S
 use Rattle.std.specs.declared.option.Option.{Option}
 use Rattle.type_reader_io.specs.declared.error.ReaderError.{ReaderError}
 use Rattle.type_reader_io.specs.declared.error.ReaderError.TheVariants as errors
+use Rattle.type_reader_io.specs.declared.error.ValueFault.{ValueFault}
+use Rattle.type_reader_io.specs.declared.error.ValueFault.TheVariants as faults
 use Rattle.type_reader_io.specs.declared.message.Message.{Message}
 use Rattle.type_reader_io.specs.declared.message.Message.TheVariants.{Usage, Refused, Notes}
 
@@ -10,11 +12,22 @@ use Rattle.type_reader_io.specs.declared.message.Message.TheVariants.{Usage, Ref
 abbrev pub usage_line : List ℕ
 usage_line =
     codes
-    "usage: type_reader table TABLE | strip TABLE | list TABLE [TYPE ..] | find TABLE PATTERN | prune TABLE TYPE ..\n"
+    "usage: type_reader table TABLE | strip TABLE | list TABLE [TYPE ..] | find TABLE PATTERN | prune TABLE TYPE .. | value TABLE TYPE HEX | encode TABLE TYPE JSON\n"
 
 -- a line that ends with a text
 abbrev pub line_with : List ℕ → List ℕ → List ℕ
 line_with text end = text ++ (end ++ codes "\n")
+
+-- why a text gives no value, in words
+abbrev pub fault_text : ValueFault → List ℕ
+fault_text faults.NoDigits = codes "no hexadecimal digits"
+fault_text faults.NoJson = codes "no JSON"
+fault_text faults.NoSuchType = codes "no such type"
+fault_text faults.Unsupported = codes "unsupported"
+fault_text faults.TooDeep = codes "too deep"
+fault_text faults.Malformed = codes "malformed"
+fault_text faults.TrailingBytes = codes "trailing bytes"
+fault_text faults.Mismatch = codes "mismatch"
 
 -- the line that reports an error; a number is in decimal digits
 abbrev pub line_of : ReaderError → List ℕ
@@ -24,6 +37,9 @@ line_of (errors.Version version) =
     line_with (codes "type_reader: metadata of version ") (decimal version)
 line_of (errors.NoSuchType id) = line_with (codes "type_reader: no such type ") (decimal id)
 line_of (errors.NoSuchPath path) = line_with (codes "type_reader: no such path ") path
+line_of (errors.SharedPath path) =
+    line_with (codes "type_reader: several types with path ") path
+line_of (errors.NoValue fault) = line_with (codes "type_reader: no value: ") (fault_text fault)
 line_of (errors.Dangling id) = line_with (codes "type_reader: dangling id ") (decimal id)
 line_of errors.Memory = codes "type_reader: out of memory\n"
 line_of errors.Input = codes "type_reader: input failed\n"

@@ -20,6 +20,12 @@ pub enum Command<'a> {
     Find(&'a Text),
     /// Write the table of what these types reach. Each is given by its id or its path.
     Prune(&'a [Text]),
+    /// Write the JSON text of the value of a type, which is given by its id or its path, that
+    /// hexadecimal digits write.
+    Value(&'a Text, &'a Text),
+    /// Write the hexadecimal digits of the encoding of the value of a type, which is given by its
+    /// id or its path, that a JSON text gives.
+    Encode(&'a Text, &'a Text),
 }
 
 /// The first argument of a command.
@@ -35,6 +41,10 @@ enum Word {
     Find,
     /// `prune`
     Prune,
+    /// `value`
+    Value,
+    /// `encode`
+    Encode,
 }
 
 /// The word that the text is; None where it is none.
@@ -52,6 +62,10 @@ fn word_of(text: &str) -> Option<Word>
         Some(Word::Find)
     } else if text == "prune" {
         Some(Word::Prune)
+    } else if text == "value" {
+        Some(Word::Value)
+    } else if text == "encode" {
+        Some(Word::Encode)
     } else {
         None
     }
@@ -68,6 +82,8 @@ fn command_by(word: Word, more: &[Text]) -> Option<Command<'_>>
         (Word::List, _) => Some(Command::List(more)),
         (Word::Find, [pattern]) => Some(Command::Find(pattern)),
         (Word::Prune, [_, ..]) => Some(Command::Prune(more)),
+        (Word::Value, [ty, digits]) => Some(Command::Value(ty, digits)),
+        (Word::Encode, [ty, json]) => Some(Command::Encode(ty, json)),
         _ => None,
     }
 }

@@ -6,6 +6,35 @@ use scale_info_collections::text::Text;
 use std::alloc::{AllocError, AllocFailed};
 use thiserror::Error;
 
+/// Why a text gives no value of a type.
+#[derive(Clone, Copy, Debug, PartialEq, Eq, Error)]
+pub enum ValueFault {
+    /// The text is no even number of hexadecimal digits.
+    #[error("no hexadecimal digits")]
+    NoDigits,
+    /// The text is no JSON.
+    #[error("no JSON")]
+    NoJson,
+    /// An id is no index of the table.
+    #[error("no such type")]
+    NoSuchType,
+    /// A type whose values are neither read nor written.
+    #[error("unsupported")]
+    Unsupported,
+    /// A value more than 128 deep.
+    #[error("too deep")]
+    TooDeep,
+    /// The bytes do not begin with a value of the type.
+    #[error("malformed")]
+    Malformed,
+    /// Bytes come after the value.
+    #[error("trailing bytes")]
+    TrailingBytes,
+    /// The JSON is no value of the type.
+    #[error("mismatch")]
+    Mismatch,
+}
+
 /// Why a command is refused. It is displayed as in its line, without the program's name.
 #[derive(Debug, Drop, PartialEq, Eq, Error)]
 pub enum ReaderError {
@@ -24,6 +53,12 @@ pub enum ReaderError {
     /// No type of the table has this path.
     #[error("no such path {0}")]
     NoSuchPath(Text),
+    /// Several types of the table have this path, where one is to be given.
+    #[error("several types with path {0}")]
+    SharedPath(Text),
+    /// The given text gives no value of the given type.
+    #[error("no value: {0}")]
+    NoValue(ValueFault),
     /// This id is reached from the given types, and is no index of the table.
     #[error("dangling id {0}")]
     Dangling(u32),

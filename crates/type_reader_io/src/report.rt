@@ -1,10 +1,10 @@
 //! Messages on the writer for errors.
 ghost use Rattle.std.specs.Io.KnownBytes.{Appends};
 ghost use Rattle.std.specs.Prelude.{◌≡◌, OnOk, decimal};
-ghost use Rattle.type_reader_io.specs.Lines.{line_of, line_with, message_text};
+ghost use Rattle.type_reader_io.specs.Lines.{fault_text, line_of, line_with, message_text};
 ghost use Rattle.type_table_io.specs.Reports.{AppendsPrefix};
 
-use crate::error::ReaderError;
+use crate::error::{ReaderError, ValueFault};
 use crate::message::Message;
 use crate::reporter::Reporter;
 use itoa::Buffer;
@@ -13,7 +13,7 @@ use std::io::Write;
 use type_table_io::writing::write_all;
 
 const USAGE: &str =
-    "usage: type_reader table TABLE | strip TABLE | list TABLE [TYPE ..] | find TABLE PATTERN | prune TABLE TYPE ..\n";
+    "usage: type_reader table TABLE | strip TABLE | list TABLE [TYPE ..] | find TABLE PATTERN | prune TABLE TYPE .. | value TABLE TYPE HEX | encode TABLE TYPE JSON\n";
 
 /// The writer for errors as a reporter: the text of a message is written to it.
 #[derive(Drop)]
@@ -83,10 +83,36 @@ fn report_error<F: Write>(errors: &mut F, error: &ReaderError) -> io::Result<()>
         ReaderError::NoSuchPath(path) => {
             report_line(errors, "type_reader: no such path ", path.as_str())
         }
+        ReaderError::SharedPath(path) => {
+            report_line(
+                errors,
+                "type_reader: several types with path ",
+                path.as_str(),
+            )
+        }
+        ReaderError::NoValue(fault) => {
+            report_line(errors, "type_reader: no value: ", fault_text(*fault))
+        }
         ReaderError::Dangling(id) => report_number(errors, "type_reader: dangling id ", *id),
         ReaderError::Memory => report(errors, b"type_reader: out of memory\n"),
         ReaderError::Input => report(errors, b"type_reader: input failed\n"),
         ReaderError::Output => report(errors, b"type_reader: output failed\n"),
+    }
+}
+
+/// Why a text gives no value, in words.
+fn fault_text(fault: ValueFault) -> &'static str
+    ensures { result.now ≡ fault_text fault }
+{
+    match fault {
+        ValueFault::NoDigits => "no hexadecimal digits",
+        ValueFault::NoJson => "no JSON",
+        ValueFault::NoSuchType => "no such type",
+        ValueFault::Unsupported => "unsupported",
+        ValueFault::TooDeep => "too deep",
+        ValueFault::Malformed => "malformed",
+        ValueFault::TrailingBytes => "trailing bytes",
+        ValueFault::Mismatch => "mismatch",
     }
 }
 

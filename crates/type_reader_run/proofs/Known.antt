@@ -65,6 +65,10 @@ module _ (command : Command) (old new : Option (List ℕ)) (input : List ℕ) wh
       (cause known (errors.NoSuchType id) is h, keeps)
   explained known (errors.NoSuchPath path) is h keeps =
       (cause known (errors.NoSuchPath path) is h, keeps)
+  explained known (errors.SharedPath path) is h keeps =
+      (cause known (errors.SharedPath path) is h, keeps)
+  explained known (errors.NoValue fault) is h keeps =
+      (cause known (errors.NoValue fault) is h, keeps)
   explained known (errors.Dangling id) is h keeps = (cause known (errors.Dangling id) is h, keeps)
   explained known errors.Memory is h keeps = (cause known errors.Memory is h, keeps)
   explained known errors.Input is h keeps = keeps
@@ -83,6 +87,8 @@ module _ (command : Command) (old new : Option (List ℕ)) (input : List ℕ) wh
   explained_read known (errors.Version version) h keeps = absurd h
   explained_read known (errors.NoSuchType id) h keeps = absurd h
   explained_read known (errors.NoSuchPath path) h keeps = absurd h
+  explained_read known (errors.SharedPath path) h keeps = absurd h
+  explained_read known (errors.NoValue fault) h keeps = absurd h
   explained_read known (errors.Dangling id) h keeps = absurd h
   explained_read known errors.Memory h keeps = (memory known, keeps)
   explained_read known errors.Input h keeps = keeps

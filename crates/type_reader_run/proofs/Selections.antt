@@ -1,12 +1,32 @@
 -- Types that texts give, text by text.
-use Rattle.std.proofs.Common.{◌≡◌, ◌<◌, ◌+◌, ◌++◌, ◌∙◌, ℕ, List, [], ◌∷◌, length, take, drop, get_or}
-use Rattle.std.proofs.Common.{refl, sym, ap, subst, append_assoc, append-nil, take-append-drop}
+use Rattle.std.proofs.Common.{◌≡◌, ◌<◌, ◌≤◌, ◌+◌, ◌++◌, ◌∙◌, ℕ, List, [], ◌∷◌, length, take, drop, get_or}
+use Rattle.std.proofs.Common.{arith, refl, sym, ap, subst, append_assoc, append-nil, take-append-drop}
 use Rattle.std.proofs.lemmas.List.{drop_more, take_more}
 use Rattle.scale_info_types.specs.declared.ty.PortableType.{PortableType}
 use Rattle.type_reader_io.specs.declared.error.ReaderError.{ReaderError}
 use Rattle.type_reader_io.specs.declared.error.ReaderError.TheVariants as errors
-use Rattle.type_reader_run.specs.Selections.{AreNamed, AreSelected, HasFirstError, IsNamingError}
-use Rattle.type_reader_run.specs.Selections.{IsSelectionError}
+use Rattle.type_reader_run.specs.Selections.{AreNamed, AreSelected, HasFirstError, by_id, by_path}
+use Rattle.type_reader_run.specs.Selections.{IsNamingError, IsSelectionError}
+
+nonempty : (ids : List ℕ) → (ids ≡ [] → ⊥) → 1 ≤ length ids
+nonempty [] some = absurd (some refl)
+nonempty (id ∷ ids) some = omega arith
+
+-- a text that gives types gives one at least
+pub one_at_least :
+    (types : List PortableType) (text ids : List ℕ) → AreNamed types text ids → 1 ≤ length ids
+one_at_least types text ids (by_id is within same) = let long = ap length same in omega arith
+one_at_least types text ids (by_path found some) = nonempty ids some
+
+-- where it gives no more than one, it gives the first
+pub only_one :
+    (types : List PortableType) (text ids : List ℕ) (id : ℕ)
+    → AreNamed types text ids → length ids ≤ 1 → id ≡ get_or ids 0 id
+    → AreNamed types text (id ∷ [])
+only_one types text [] id named few is = absurd (omega (arith, one_at_least types text [] named))
+only_one types text (first ∷ []) id named few is =
+    subst (λ i. AreNamed types text (i ∷ [])) (sym is) named
+only_one types text (first ∷ second ∷ more) id named few is = absurd (omega (arith, few))
 
 -- one text more, at the end
 selected_last :
@@ -65,6 +85,8 @@ selection_error types texts errors.TrailingBytes h = h.cause
 selection_error types texts (errors.Version version) h = h.cause
 selection_error types texts (errors.NoSuchType id) h = h
 selection_error types texts (errors.NoSuchPath path) h = h
+selection_error types texts (errors.SharedPath path) h = h.cause
+selection_error types texts (errors.NoValue fault) h = h.cause
 selection_error types texts (errors.Dangling id) h = h.cause
 selection_error types texts errors.Memory h = tt
 selection_error types texts errors.Input h = h.cause

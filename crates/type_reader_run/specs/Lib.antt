@@ -1,9 +1,11 @@
+pub mod Encodings
 pub mod Listings
 pub mod Outputs
 pub mod Refusals
 pub mod Reports
 pub mod Selections
 pub mod Tables
+pub mod Values
 pub use Rattle.scale_info_grammar.specs.Ty
 pub use Rattle.scale_info_metadata.specs.TablesFound
 pub use Rattle.type_reader_io.specs.Commands

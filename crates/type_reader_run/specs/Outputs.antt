@@ -1,5 +1,5 @@
 -- What each command writes for its input.
-use Rattle.std.specs.Prelude.{◌≡◌, ◌++◌, ℕ, List, [], codes, decimal, map}
+use Rattle.std.specs.Prelude.{◌≡◌, ◌++◌, ℕ, List, [], ◌∷◌, codes, decimal, map}
 use Rattle.std.specs.declared.option.Option.{Option}
 use Rattle.std.specs.BTreeMap.{BTreeMap}
 use Rattle.std.specs.Io.KnownBytes.{Appends}
@@ -12,9 +12,11 @@ use Rattle.scale_info_tables.specs.declared.portable.PortableRegistry.{PortableR
 use Rattle.scale_info_types.specs.declared.ty.PortableType.{PortableType}
 use Rattle.type_reader_io.specs.declared.command.Command.{Command}
 use Rattle.type_reader_io.specs.declared.command.Command.TheVariants as commands
+use Rattle.type_reader_run.specs.Encodings.{IsEncodedLine}
 use Rattle.type_reader_run.specs.Listings.{AreListed, listed_type, title_line}
-use Rattle.type_reader_run.specs.Selections.{AreSelected}
+use Rattle.type_reader_run.specs.Selections.{AreNamed, AreSelected}
 use Rattle.type_reader_run.specs.Tables.{HasTable}
+use Rattle.type_reader_run.specs.Values.{IsValueLine}
 use Rattle.type_table_io.specs.Reports.{AppendsPrefix}
 
 -- the output encodes the table without docs
@@ -62,6 +64,24 @@ pub record IsPruning (table : List ℕ) (texts : List (List ℕ)) (output notes 
   pub selected : AreSelected types texts ids
   pub pruned : IsPruned table ids output notes
 
+-- the digits write a value of the one type that the text gives, and the output is its JSON text and a
+-- line feed
+pub record IsValueOutput (table text digits output : List ℕ) : Type 0 where
+  pub registry : PortableRegistry
+  pub encodes : EncodesTypes registry.types table
+  pub id : ℕ
+  pub named : AreNamed registry.types text (id ∷ [])
+  pub line : IsValueLine registry id digits output
+
+-- the JSON text gives a value of the one type that the text gives, and the output is a line of the
+-- hexadecimal digits of its encoding
+pub record IsEncodeOutput (table text json output : List ℕ) : Type 0 where
+  pub registry : PortableRegistry
+  pub encodes : EncodesTypes registry.types table
+  pub id : ℕ
+  pub named : AreNamed registry.types text (id ∷ [])
+  pub line : IsEncodedLine registry id json output
+
 -- for the table the command has this output and these notes
 abbrev pub OutputsOf : Command → (table output notes : List ℕ) → Type 0
 OutputsOf commands.Table table output notes = (output ≡ table) × (notes ≡ [])
@@ -71,6 +91,10 @@ OutputsOf (commands.List texts) table output notes =
 OutputsOf (commands.Find pattern) table output notes =
     IsFinding table pattern.now output × (notes ≡ [])
 OutputsOf (commands.Prune texts) table output notes = IsPruning table texts.now output notes
+OutputsOf (commands.Value text digits) table output notes =
+    IsValueOutput table text.now digits.now output × (notes ≡ [])
+OutputsOf (commands.Encode text json) table output notes =
+    IsEncodeOutput table text.now json.now output × (notes ≡ [])
 
 -- for the whole input the command has this output and these notes
 pub record HasOutput (command : Command) (input output notes : List ℕ) : Type 0 where

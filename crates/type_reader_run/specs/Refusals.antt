@@ -1,17 +1,21 @@
 -- Why a command is refused, and what is reported of it.
-use Rattle.std.specs.Prelude.{◌≡◌, ◌⊎◌, ℕ, List, IfSome}
+use Rattle.std.specs.Prelude.{◌≡◌, ◌⊎◌, ℕ, List, [], ◌∷◌, IfSome}
 use Rattle.std.specs.declared.option.Option.{Option}
 use Rattle.std.specs.Io.KnownBytes.{Keeps}
 use Rattle.scale_info_grammar.specs.Ty.{EncodesTypes}
 use Rattle.scale_info_prune.specs.Prunes.{HasDangling}
+use Rattle.scale_info_tables.specs.declared.portable.PortableRegistry.{PortableRegistry}
 use Rattle.scale_info_types.specs.declared.ty.PortableType.{PortableType}
 use Rattle.type_reader_io.specs.declared.command.Command.{Command}
 use Rattle.type_reader_io.specs.declared.command.Command.TheVariants as commands
 use Rattle.type_reader_io.specs.declared.error.ReaderError.{ReaderError}
 use Rattle.type_reader_io.specs.declared.error.ReaderError.TheVariants as errors
+use Rattle.type_reader_run.specs.Encodings.{IsEncodingError}
 use Rattle.type_reader_run.specs.Outputs.{WritesPrefix}
-use Rattle.type_reader_run.specs.Selections.{AreSelected, IsSelectionError}
+use Rattle.type_reader_run.specs.Selections.{AreNamed, AreSelected, IsChoiceError}
+use Rattle.type_reader_run.specs.Selections.{IsSelectionError}
 use Rattle.type_reader_run.specs.Tables.{HasTable, IsFoundError, bytes_behind}
+use Rattle.type_reader_run.specs.Values.{IsValueError}
 
 -- the texts give no types of the table, for this error
 pub record HasSelectionError (table : List ℕ) (texts : List (List ℕ)) (error : ReaderError)
@@ -35,6 +39,8 @@ IsReachingError table ids errors.TrailingBytes = ⊥
 IsReachingError table ids (errors.Version version) = ⊥
 IsReachingError table ids (errors.NoSuchType id) = ⊥
 IsReachingError table ids (errors.NoSuchPath path) = ⊥
+IsReachingError table ids (errors.SharedPath path) = ⊥
+IsReachingError table ids (errors.NoValue fault) = ⊥
 IsReachingError table ids (errors.Dangling id) = HasDangling table ids id
 IsReachingError table ids errors.Memory = Unit {0}
 IsReachingError table ids errors.Input = ⊥
@@ -49,10 +55,40 @@ IsPruningError table texts (errors.NoSuchType id) =
     HasSelectionError table texts (errors.NoSuchType id)
 IsPruningError table texts (errors.NoSuchPath path) =
     HasSelectionError table texts (errors.NoSuchPath path)
+IsPruningError table texts (errors.SharedPath path) = ⊥
+IsPruningError table texts (errors.NoValue fault) = ⊥
 IsPruningError table texts (errors.Dangling id) = ReachesOutside table texts id
 IsPruningError table texts errors.Memory = Unit {0}
 IsPruningError table texts errors.Input = ⊥
 IsPruningError table texts errors.Output = ⊥
+
+-- the text gives one type, of which the digits write no value, for this error
+pub record HasNoValue (registry : PortableRegistry) (text digits : List ℕ) (error : ReaderError)
+    : Type 0 where
+  pub id : ℕ
+  pub named : AreNamed registry.types text (id ∷ [])
+  pub cause : IsValueError registry id digits error
+
+-- why there is no value: the text gives no type or several, or the digits write no value of its type
+pub record HasValueError (table text digits : List ℕ) (error : ReaderError) : Type 0 where
+  pub types : List PortableType
+  pub encodes : EncodesTypes types table
+  pub cause :
+      IsChoiceError types text error ⊎ HasNoValue (record { types = types }) text digits error
+
+-- the text gives one type, of which the JSON text gives no value, for this error
+pub record HasNoEncoding (registry : PortableRegistry) (text json : List ℕ) (error : ReaderError)
+    : Type 0 where
+  pub id : ℕ
+  pub named : AreNamed registry.types text (id ∷ [])
+  pub cause : IsEncodingError registry id json error
+
+-- why there is no encoding: the text gives no type or several, or the JSON text no value of its type
+pub record HasEncodingError (table text json : List ℕ) (error : ReaderError) : Type 0 where
+  pub types : List PortableType
+  pub encodes : EncodesTypes types table
+  pub cause :
+      IsChoiceError types text error ⊎ HasNoEncoding (record { types = types }) text json error
 
 -- why the command has no output for the table
 abbrev pub IsOutputError : Command → List ℕ → ReaderError → Type 0
@@ -61,6 +97,8 @@ IsOutputError commands.Strip table e = e ≡ errors.Memory
 IsOutputError (commands.List texts) table e = HasSelectionError table texts.now e
 IsOutputError (commands.Find pattern) table e = e ≡ errors.Memory
 IsOutputError (commands.Prune texts) table e = IsPruningError table texts.now e
+IsOutputError (commands.Value text digits) table e = HasValueError table text.now digits.now e
+IsOutputError (commands.Encode text json) table e = HasEncodingError table text.now json.now e
 
 -- the input has a table, for which the command has no output, for this error
 pub record HasOutputError (command : Command) (input : List ℕ) (error : ReaderError)
@@ -90,6 +128,8 @@ IsReadError errors.TrailingBytes = ⊥
 IsReadError (errors.Version version) = ⊥
 IsReadError (errors.NoSuchType id) = ⊥
 IsReadError (errors.NoSuchPath path) = ⊥
+IsReadError (errors.SharedPath path) = ⊥
+IsReadError (errors.NoValue fault) = ⊥
 IsReadError (errors.Dangling id) = ⊥
 IsReadError errors.Memory = Unit {0}
 IsReadError errors.Input = Unit {0}

@@ -34,10 +34,23 @@ IsNamingError types text (errors.Version version) = ⊥
 IsNamingError types text (errors.NoSuchType id) =
     IsIdText text × (id ≡ id_in text) × (length types ≤ id)
 IsNamingError types text (errors.NoSuchPath path) = (path ≡ text) × AreWithPath types text []
+IsNamingError types text (errors.SharedPath path) = ⊥
+IsNamingError types text (errors.NoValue fault) = ⊥
 IsNamingError types text (errors.Dangling id) = ⊥
 IsNamingError types text errors.Memory = Unit {0}
 IsNamingError types text errors.Input = ⊥
 IsNamingError types text errors.Output = ⊥
+
+-- the text gives several types
+pub record AreSeveral (types : List PortableType) (text : List ℕ) : Type 0 where
+  pub ids : List ℕ
+  pub named : AreNamed types text ids
+  pub several : 2 ≤ length ids
+
+-- why a text does not give one type
+abbrev pub IsChoiceError : List PortableType → List ℕ → ReaderError → Type 0
+IsChoiceError types text (errors.SharedPath path) = (path ≡ text) × AreSeveral types text
+IsChoiceError types text error = IsNamingError types text error
 
 -- the first of the texts that gives no type does so for this error
 pub record HasFirstError (types : List PortableType) (texts : List (List ℕ)) (error : ReaderError)
@@ -59,6 +72,8 @@ IsSelectionError types texts (errors.NoSuchType id) =
     HasFirstError types texts (errors.NoSuchType id)
 IsSelectionError types texts (errors.NoSuchPath path) =
     HasFirstError types texts (errors.NoSuchPath path)
+IsSelectionError types texts (errors.SharedPath path) = ⊥
+IsSelectionError types texts (errors.NoValue fault) = ⊥
 IsSelectionError types texts (errors.Dangling id) = ⊥
 IsSelectionError types texts errors.Memory = Unit {0}
 IsSelectionError types texts errors.Input = ⊥

@@ -1,6 +1,7 @@
 //! The program `type_reader` over any reader and any writers.
 #![tactic(auto)]
 
+mod encode;
 mod listing;
 mod output;
 mod program;
@@ -8,6 +9,7 @@ mod pruning;
 mod selection;
 mod strip;
 mod table;
+mod value;
 
 pub use output::{Output, output_of};
 pub use program::{run, run_with};

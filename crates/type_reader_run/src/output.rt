@@ -2,18 +2,20 @@
 ghost use Rattle.std.specs.Prelude.{◌≡◌, [], IfOk, IfErr};
 ghost use Rattle.type_reader_run.specs.Listings.{AreListed};
 ghost use Rattle.type_reader_run.specs.Outputs.{HasOutput, IsFinding, IsListing, IsPruning};
-ghost use Rattle.type_reader_run.specs.Outputs.{OutputsOf};
+ghost use Rattle.type_reader_run.specs.Outputs.{IsEncodeOutput, IsValueOutput, OutputsOf};
 ghost use Rattle.type_reader_run.specs.Refusals.{HasSelectionError, IsCommandError, IsOutputError};
-ghost use Rattle.type_reader_run.specs.Refusals.{IsPruningError};
+ghost use Rattle.type_reader_run.specs.Refusals.{HasEncodingError, HasValueError, IsPruningError};
 ghost use Rattle.type_reader_run.specs.Selections.{IsSelectionError};
 ghost use Rattle.type_reader_run.specs.Tables.{IsOneTable};
 ghost use Rattle.type_reader_io.specs.declared.error.ReaderError.TheVariants as reader_error;
 
+use crate::encode::encoded_line;
 use crate::listing::{all_ids, list_of, titles_of};
 use crate::pruning::pruned;
-use crate::selection::selected;
+use crate::selection::{one_named, selected};
 use crate::strip::stripped;
 use crate::table::{bytes_behind, find_table, registry_of};
+use crate::value::value_line;
 use scale_info_collections::text::Text;
 use scale_info_describe::search::find_containing;
 use scale_info_tables::portable::PortableRegistry;
@@ -106,6 +108,37 @@ fn pruned_to(alloc: Global, table: &[u8], texts: &[Text]) -> Result<Output, Read
     pruned(alloc, table, &ids)
 }
 
+/// The JSON text of the value of the one type that the text gives, and a line feed.
+///
+/// Errors: as [`one_named`] and [`value_line`].
+fn value_of(alloc: Global, table: &[u8], text: &Text, digits: &Text) -> Result<Vec<u8>, ReaderError>
+    requires { IsOneTable table.now }
+    ensures ok { IfOk result (λ line. IsValueOutput table.now text.now digits.now line.items) }
+    ensures err { IfErr result (HasValueError table.now text.now digits.now) }
+{
+    let registry = registry_of(alloc, table)?;
+    let id = one_named(alloc, &registry, text)?;
+    value_line(alloc, &registry, id, digits)
+}
+
+/// The encoding of the value of the one type that the text gives, as a line of hexadecimal digits.
+///
+/// Errors: as [`one_named`] and [`encoded_line`].
+fn encoding_of(
+    alloc: Global,
+    table: &[u8],
+    text: &Text,
+    json: &Text,
+) -> Result<Vec<u8>, ReaderError>
+    requires { IsOneTable table.now }
+    ensures ok { IfOk result (λ line. IsEncodeOutput table.now text.now json.now line.items) }
+    ensures err { IfErr result (HasEncodingError table.now text.now json.now) }
+{
+    let registry = registry_of(alloc, table)?;
+    let id = one_named(alloc, &registry, text)?;
+    encoded_line(alloc, &registry, id, json)
+}
+
 /// The output of a command for a table.
 fn output_for(alloc: Global, command: &Command, table: &[u8]) -> Result<Output, ReaderError>
     requires { IsOneTable table.now }
@@ -118,6 +151,8 @@ fn output_for(alloc: Global, command: &Command, table: &[u8]) -> Result<Output, 
         Command::Strip => stripped(alloc, table)?,
         Command::List(texts) => listed(alloc, table, texts)?,
         Command::Find(pattern) => found(alloc, table, pattern)?,
+        Command::Value(text, digits) => value_of(alloc, table, text, digits)?,
+        Command::Encode(text, json) => encoding_of(alloc, table, text, json)?,
         Command::Prune(texts) => return pruned_to(alloc, table, texts),
     };
     Ok(without_notes(alloc, bytes))
@@ -131,7 +166,9 @@ fn output_for(alloc: Global, command: &Command, table: &[u8]) -> Result<Output, 
 /// Errors: `Malformed`, where there is no table in the input; `TrailingBytes`, where it is no
 /// metadata and more comes after its table; `Version`, where it is metadata of a version that is
 /// not read; `NoSuchType` and `NoSuchPath`, where a given type is none of the table; `Dangling`,
-/// where a given type reaches an id that is no index; `Memory`, if an allocation failed.
+/// where a given type reaches an id that is no index; `SharedPath`, where one type is to be given,
+/// and several have its path; `NoValue`, where a text gives no value; `Memory`, if an allocation
+/// failed.
 pub fn output_of(alloc: Global, command: &Command, input: Vec<u8>) -> Result<Output, ReaderError>
     ensures ok { IfOk result (λ output. HasOutput command.now input.items output.bytes.items
         output.notes.items) }

@@ -147,6 +147,10 @@ pub fn run_with<R: Read, W: Write, T: Reporter>(
 ///   the segments of the pattern, its pieces around `::`, stand in a row.
 /// - `prune TABLE TYPE ..`: the table of what the types reach is written, and a line of each old id
 ///   that is kept and its new one to `errors`.
+/// - `value TABLE TYPE HEX`: the JSON text of the value of the type that the hexadecimal digits
+///   write, and a line feed, are written.
+/// - `encode TABLE TYPE JSON`: the hexadecimal digits of the encoding of the value of the type that
+///   the JSON text gives, after `0x`, and a line feed, are written.
 ///
 /// A type is given by its id, which is one ASCII digit or more, of a number up to 4294967295, or
 /// else by its path, which gives each type that has it.
@@ -160,6 +164,10 @@ pub fn run_with<R: Read, W: Write, T: Reporter>(
 /// - `type_reader: metadata of version N`: N is none of 14, 15 and 16.
 /// - `type_reader: no such type N`: N is a given id, and no index of the table.
 /// - `type_reader: no such path PATH`: no type has this path.
+/// - `type_reader: several types with path PATH`: one type is to be given.
+/// - `type_reader: no value: no hexadecimal digits`, or `no JSON`, `no such type`, `unsupported`,
+///   `too deep`, `malformed`, `trailing bytes` or `mismatch` in their place: the last argument gives
+///   no value of the type.
 /// - `type_reader: dangling id N`: N is reached from the given types, and is no index of the
 ///   table.
 /// - `type_reader: out of memory`: an allocation failed.

@@ -1,7 +1,8 @@
 //! Types that are given by their ids or their paths.
 ghost use Rattle.std.specs.Prelude.{◌≡◌, [], ◌∷◌, IfOk, IfErr};
 ghost use Rattle.type_reader_run.specs.Selections.{AreNamed, AreSelected, AreWithPath};
-ghost use Rattle.type_reader_run.specs.Selections.{IsNamingError, IsSelectionError};
+ghost use Rattle.type_reader_run.specs.Selections.{AreSeveral, IsChoiceError, IsNamingError};
+ghost use Rattle.type_reader_run.specs.Selections.{IsSelectionError};
 
 use scale_info_collections::text::Text;
 use scale_info_describe::search::find_by_path;
@@ -49,6 +50,30 @@ pub fn named(alloc: Global, table: &PortableRegistry, text: &Text) -> Result<Vec
         return Err(no_such_path(alloc, text));
     }
     Ok(ids)
+}
+
+/// The error that several types have this path.
+fn shared_path(alloc: Global, path: &Text) -> ReaderError
+    ensures { (types : _) → AreSeveral types path.now → IsChoiceError types path.now result }
+{
+    match Text::from_str(alloc, path.as_str()) {
+        Ok(path) => ReaderError::SharedPath(path),
+        Err(_) => ReaderError::Memory,
+    }
+}
+
+/// The id of the one type that a text gives.
+///
+/// Errors: as [`named`]; `SharedPath`, where it is a path that several types have.
+pub fn one_named(alloc: Global, table: &PortableRegistry, text: &Text) -> Result<u32, ReaderError>
+    ensures ok { IfOk result (λ id. AreNamed table.now.types text.now (id ∷ [])) }
+    ensures err { IfErr result (IsChoiceError table.now.types text.now) }
+{
+    let ids = named(alloc, table, text)?;
+    if ids.len() > 1 {
+        return Err(shared_path(alloc, text));
+    }
+    Ok(ids[0])
 }
 
 /// The ids of the types that the texts give, in their order.

@@ -1,0 +1,61 @@
+-- Values that hexadecimal digits write, and their JSON text.
+use Rattle.std.specs.Prelude.{◌≡◌, ◌⊎◌, ◌++◌, ℕ, List, Option, Some, None, codes}
+use Rattle.std.specs.Result.{result_ok}
+use Rattle.hex.specs.Hex.{decode_of}
+use Rattle.scale_info_metadata.specs.HexTexts.{without_mark}
+use Rattle.scale_info_tables.specs.declared.portable.PortableRegistry.{PortableRegistry}
+use Rattle.scale_info_value.specs.Outcomes.{Outcome, failed, no_such_type, unsupported, too_deep}
+use Rattle.scale_info_value.specs.Outcomes.{malformed}
+use Rattle.scale_info_value.specs.Readings.{reading}
+use Rattle.scale_info_value.specs.declared.value.Dyn.{Dyn}
+use Rattle.scale_info_value_text.specs.ValueTexts.{HasBytesLeft, IsTextOf}
+use Rattle.type_reader_io.specs.declared.error.ReaderError.{ReaderError}
+use Rattle.type_reader_io.specs.declared.error.ReaderError.TheVariants as errors
+use Rattle.type_reader_io.specs.declared.error.ValueFault.{ValueFault}
+use Rattle.type_reader_io.specs.declared.error.ValueFault.TheVariants as faults
+
+-- the bytes that an even number of hexadecimal digits writes, with `0x` before them or without it
+abbrev pub bytes_by_digits : List ℕ → Option (List ℕ)
+bytes_by_digits text = result_ok (decode_of (without_mark text))
+
+-- the digits write one value of the type, with nothing after it, and the line is its JSON text and a
+-- line feed
+pub record IsValueLine (table : PortableRegistry) (id : ℕ) (digits line : List ℕ) : Type 0 where
+  pub bytes : List ℕ
+  pub written_by : bytes_by_digits digits ≡ Some bytes
+  pub text : List ℕ
+  pub is_text : IsTextOf table id (reading table id 1 bytes) text
+  pub parts : line ≡ text ++ codes "\n"
+
+-- why bytes are not one value, by what comes of decoding them
+abbrev pub IsReadingFault : Outcome Dyn → ValueFault → Type 0
+IsReadingFault outcome faults.NoDigits = ⊥
+IsReadingFault outcome faults.NoJson = ⊥
+IsReadingFault outcome faults.NoSuchType = outcome ≡ failed no_such_type
+IsReadingFault outcome faults.Unsupported = outcome ≡ failed unsupported
+IsReadingFault outcome faults.TooDeep = outcome ≡ failed too_deep
+IsReadingFault outcome faults.Malformed = outcome ≡ failed malformed
+IsReadingFault outcome faults.TrailingBytes = HasBytesLeft outcome
+IsReadingFault outcome faults.Mismatch = ⊥
+
+-- the same of an error; an allocation may fail
+abbrev pub IsReadingError : Outcome Dyn → ReaderError → Type 0
+IsReadingError outcome (errors.NoValue fault) = IsReadingFault outcome fault
+IsReadingError outcome error = error ≡ errors.Memory
+
+-- the digits write bytes that are not one value of the type, for this error
+pub record HasReadingError (table : PortableRegistry) (id : ℕ) (digits : List ℕ)
+    (error : ReaderError) : Type 0 where
+  pub bytes : List ℕ
+  pub written_by : bytes_by_digits digits ≡ Some bytes
+  pub cause : IsReadingError (reading table id 1 bytes) error
+
+-- the text is no even number of digits
+abbrev pub IsNoDigits : List ℕ → ReaderError → Type 0
+IsNoDigits digits error =
+    (error ≡ errors.NoValue faults.NoDigits) × (bytes_by_digits digits ≡ None)
+
+-- why there is no line for the digits; an allocation may fail
+abbrev pub IsValueError : PortableRegistry → ℕ → List ℕ → ReaderError → Type 0
+IsValueError table id digits error =
+    (error ≡ errors.Memory) ⊎ (IsNoDigits digits error ⊎ HasReadingError table id digits error)

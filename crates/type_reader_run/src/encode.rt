@@ -1,0 +1,106 @@
+//! Values from JSON text, as lines of hexadecimal digits.
+ghost use Rattle.std.specs.Prelude.{◌≡◌, ◌++◌, IfOk, IfErr, Some, codes};
+ghost use Rattle.hex.specs.Hex.{encode_lower};
+ghost use Rattle.serde_json.specs.Read.{read as read_text};
+ghost use Rattle.serde_json.specs.View.{view};
+ghost use Rattle.scale_info_encode.specs.Writers.{written};
+ghost use Rattle.scale_info_encode.specs.Writings.{writing};
+ghost use Rattle.scale_info_value.specs.declared.value.Dyn.{Dyn as DynValue};
+ghost use Rattle.scale_info_value_json.specs.Takers.{IsErrorOf, Taken};
+ghost use Rattle.type_reader_io.specs.declared.error.ReaderError.TheVariants as reader_error;
+ghost use Rattle.type_reader_run.specs.Encodings.{IsEncodedLine, IsEncodingError};
+ghost use Rattle.type_reader_run.specs.Encodings.{IsTakingError, IsTreeError};
+
+use scale_info_collections::text::Text;
+use scale_info_encode::encode::encode_value;
+use scale_info_tables::portable::PortableRegistry;
+use scale_info_value::value::Dyn;
+use scale_info_value_json::error::ValueJsonError;
+use scale_info_value_json::take::from_json;
+use serde_json::Value;
+use std::alloc::{AllocError, Global};
+use type_reader_io::error::{ReaderError, ValueFault};
+
+/// The tree of a JSON text.
+///
+/// Errors: `NoValue(NoJson)`, where the text is no JSON; `Memory`, if an allocation failed.
+fn tree_of(alloc: Global, json: &str) -> Result<Value, ReaderError>
+    ensures ok { IfOk result (λ tree. read_text json.now ≡ Some (view tree)) }
+    ensures err { IfErr result (IsTreeError json.now) }
+{
+    match Value::from_str(alloc, json) {
+        Ok(tree) => Ok(tree),
+        Err(error) if error.is_memory() => Err(ReaderError::Memory),
+        Err(_) => Err(ReaderError::NoValue(ValueFault::NoJson)),
+    }
+}
+
+/// The program's error for one of taking a value from a tree.
+fn error_of(error: ValueJsonError) -> ReaderError
+    ensures { (outcome : Taken DynValue) → IsErrorOf outcome error
+        → IsTakingError outcome result }
+{
+    let fault = match error {
+        ValueJsonError::Memory => return ReaderError::Memory,
+        ValueJsonError::NoSuchType => ValueFault::NoSuchType,
+        ValueJsonError::Unsupported => ValueFault::Unsupported,
+        ValueJsonError::TooDeep => ValueFault::TooDeep,
+        ValueJsonError::Mismatch => ValueFault::Mismatch,
+    };
+    ReaderError::NoValue(fault)
+}
+
+/// The encoding of a value that was taken from a tree.
+///
+/// Errors: `Memory`, if an allocation failed. Those that never come, as such a value has an
+/// encoding, are as that of an allocation.
+fn encoding_of(
+    alloc: Global,
+    table: &PortableRegistry,
+    id: u32,
+    value: &Dyn,
+) -> Result<Vec<u8>, ReaderError>
+    ensures ok { IfOk result (λ bytes. writing table.now id 1 value.now ≡ written bytes.items) }
+    ensures err { IfErr result (λ e. e ≡ reader_error.Memory) }
+{
+    let mut bytes = Vec::new(alloc);
+    match encode_value(table, id, value, &mut bytes) {
+        Ok(()) => Ok(bytes),
+        Err(_) => Err(ReaderError::Memory),
+    }
+}
+
+/// `0x`, the bytes in hexadecimal digits, and a line feed.
+fn digits_line(alloc: Global, bytes: &[u8]) -> Result<Vec<u8>, AllocError>
+    ensures { IfOk result
+        (λ line. line.items ≡ codes "0x" ++ encode_lower bytes.now ++ codes "\n") }
+{
+    let mut line = String::new(alloc);
+    line.push_str("0x")?;
+    line.push_str(&hex::encode(alloc, bytes)?)?;
+    line.push_str("\n")?;
+    Ok(line.into_bytes())
+}
+
+/// The encoding of the value of this type that the JSON text gives, as a line of hexadecimal digits.
+///
+/// Errors: `NoValue`, where the text is no JSON, or gives no value of the type; `Memory`, if an
+/// allocation failed.
+pub fn encoded_line(
+    alloc: Global,
+    table: &PortableRegistry,
+    id: u32,
+    json: &Text,
+) -> Result<Vec<u8>, ReaderError>
+    ensures ok { IfOk result (λ line. IsEncodedLine table.now id json.now line.items) }
+    ensures err { IfErr result (IsEncodingError table.now id json.now) }
+{
+    let tree = tree_of(alloc, json.as_str())?;
+    match from_json(alloc, table, id, &tree) {
+        Ok(value) => {
+            let bytes = encoding_of(alloc, table, id, &value)?;
+            Ok(digits_line(alloc, &bytes)?)
+        }
+        Err(error) => Err(error_of(error)),
+    }
+}
