@@ -1,5 +1,5 @@
 -- The lines for errors.
-use Rattle.std.specs.Prelude.{ℕ, ◌≤◌, List, [], ◌++◌, codes, None, Some, decimal}
+use Rattle.std.specs.Prelude.{ℕ, List, [], ◌++◌, codes, None, Some, decimal}
 use Rattle.std.specs.declared.option.Option.{Option}
 use Rattle.type_reader_io.specs.declared.error.ReaderError.{ReaderError}
 use Rattle.type_reader_io.specs.declared.error.ReaderError.TheVariants as errors

@@ -1,4 +1,3 @@
 pub mod Known
-pub mod Refusals
 pub mod Selections
 pub mod Tables

@@ -1,5 +1,5 @@
 -- Tables that are the whole input of a reader.
-use Rattle.std.proofs.Common.{◌≡◌, ℕ, List, [], ◌++◌, ◌∙◌, append-nil, subst, sym}
+use Rattle.std.proofs.Common.{ℕ, List, [], ◌∙◌, append-nil, subst, sym}
 use Rattle.scale_info_bytes.specs.Encodings.{HasPrefix, IsEncoding}
 use Rattle.scale_info_bytes.specs.PartLaws.{list_law}
 use Rattle.scale_info_grammar.specs.Ty.{EncodesTypes}

@@ -1,7 +1,7 @@
 //! The table of an input.
 ghost use Rattle.std.specs.Prelude.{◌≡◌, IfOk, IfErr};
 ghost use Rattle.scale_info_grammar.specs.Ty.{EncodesTypes};
-ghost use Rattle.scale_info_metadata.specs.TablesFound.{IsErrorOf, IsTableOf};
+ghost use Rattle.scale_info_metadata.specs.TablesFound.{IsTableOf};
 ghost use Rattle.type_reader_io.specs.declared.error.ReaderError.TheVariants as reader_error;
 ghost use Rattle.type_reader_run.specs.Tables.{IsOneTable, IsFoundError, bytes_behind, error_of};
 

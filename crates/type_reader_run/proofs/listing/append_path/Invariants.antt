@@ -1,4 +1,4 @@
-use Rattle.std.proofs.Common.{◌≡◌, ◌++◌, codes, drop, string_bytes}
+use Rattle.std.proofs.Common.{◌≡◌, ◌++◌, drop, string_bytes}
 use Rattle.std.specs.List.{flat_map}
 use Rattle.scale_info_segments.specs.TypePaths.{separator}
 use Rattle.type_reader_run.specs.Listings.{path_text}

@@ -1,5 +1,5 @@
 use Rattle.std.proofs.Common.{rules}
-use Rattle.type_reader_run.proofs.Known.{explained, explained_read, written, written_in_part}
+use Rattle.type_reader_run.proofs.Known.{written_in_part}
 use Rattle.type_reader_run.proofs.program.perform.Goals as goal
 
 pub returns-in_err-write_output-clause-err : goal.returns-in_err-write_output-clause-err

@@ -1,7 +1,7 @@
-use Rattle.std.proofs.Common.{◌≡◌, ◌<◌, ◌∷◌, ◌∙◌, ℕ, List, [], ap, arith, length, subst}
+use Rattle.std.proofs.Common.{◌<◌, ◌∷◌, ◌∙◌, [], ap, arith, length, subst}
 use Rattle.std.proofs.lemmas.Bool.Decides.{nat_tests}
 use Rattle.scale_info_describe.specs.PathSearches.{AreIdsBy, is_path}
-use Rattle.type_reader_run.specs.Selections.{AreNamed, by_id, by_path}
+use Rattle.type_reader_run.specs.Selections.{by_id, by_path}
 use Rattle.type_reader_run.proofs.selection.named.Goals as goal
 
 pub returns-in-Some-clause-ok : goal.returns-in-Some-clause-ok
