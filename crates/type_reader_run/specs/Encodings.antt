@@ -15,8 +15,8 @@ use Rattle.type_reader_io.specs.declared.error.ReaderError.TheVariants as errors
 use Rattle.type_reader_io.specs.declared.error.ValueFault.{ValueFault}
 use Rattle.type_reader_io.specs.declared.error.ValueFault.TheVariants as faults
 
--- the JSON text gives a value of the type, and the line is its encoding in hexadecimal digits, after
--- `0x`, and a line feed
+-- the JSON text gives a value of the type, and the line is its encoding in hexadecimal digits,
+-- after `0x`, and a line feed
 pub record IsEncodedLine (table : PortableRegistry) (id : ℕ) (json line : List ℕ) : Type 0 where
   pub tree : Data
   pub read : read_text json ≡ Some tree

@@ -64,8 +64,8 @@ pub record IsPruning (table : List ℕ) (texts : List (List ℕ)) (output notes 
   pub selected : AreSelected types texts ids
   pub pruned : IsPruned table ids output notes
 
--- the digits write a value of the one type that the text gives, and the output is its JSON text and a
--- line feed
+-- the digits write a value of the one type that the text gives, and the output is its JSON text
+-- and a line feed
 pub record IsValueOutput (table text digits output : List ℕ) : Type 0 where
   pub registry : PortableRegistry
   pub encodes : EncodesTypes registry.types table

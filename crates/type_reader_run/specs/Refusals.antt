@@ -69,7 +69,8 @@ pub record HasNoValue (registry : PortableRegistry) (text digits : List ℕ) (er
   pub named : AreNamed registry.types text (id ∷ [])
   pub cause : IsValueError registry id digits error
 
--- why there is no value: the text gives no type or several, or the digits write no value of its type
+-- why there is no value: the text gives no type or several, or the digits write no value of its
+-- type
 pub record HasValueError (table text digits : List ℕ) (error : ReaderError) : Type 0 where
   pub types : List PortableType
   pub encodes : EncodesTypes types table
@@ -83,7 +84,8 @@ pub record HasNoEncoding (registry : PortableRegistry) (text json : List ℕ) (e
   pub named : AreNamed registry.types text (id ∷ [])
   pub cause : IsEncodingError registry id json error
 
--- why there is no encoding: the text gives no type or several, or the JSON text no value of its type
+-- why there is no encoding: the text gives no type or several, or the JSON text no value of its
+-- type
 pub record HasEncodingError (table text json : List ℕ) (error : ReaderError) : Type 0 where
   pub types : List PortableType
   pub encodes : EncodesTypes types table

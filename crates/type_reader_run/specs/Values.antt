@@ -18,8 +18,8 @@ use Rattle.type_reader_io.specs.declared.error.ValueFault.TheVariants as faults
 abbrev pub bytes_by_digits : List ℕ → Option (List ℕ)
 bytes_by_digits text = result_ok (decode_of (without_mark text))
 
--- the digits write one value of the type, with nothing after it, and the line is its JSON text and a
--- line feed
+-- the digits write one value of the type, with nothing after it, and the line is its JSON text and
+-- a line feed
 pub record IsValueLine (table : PortableRegistry) (id : ℕ) (digits line : List ℕ) : Type 0 where
   pub bytes : List ℕ
   pub written_by : bytes_by_digits digits ≡ Some bytes

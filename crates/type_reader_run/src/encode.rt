@@ -82,7 +82,8 @@ fn digits_line(alloc: Global, bytes: &[u8]) -> Result<Vec<u8>, AllocError>
     Ok(line.into_bytes())
 }
 
-/// The encoding of the value of this type that the JSON text gives, as a line of hexadecimal digits.
+/// The encoding of the value of this type that the JSON text gives, as a line of hexadecimal
+/// digits.
 ///
 /// Errors: `NoValue`, where the text is no JSON, or gives no value of the type; `Memory`, if an
 /// allocation failed.

@@ -166,8 +166,8 @@ pub fn run_with<R: Read, W: Write, T: Reporter>(
 /// - `type_reader: no such path PATH`: no type has this path.
 /// - `type_reader: several types with path PATH`: one type is to be given.
 /// - `type_reader: no value: no hexadecimal digits`, or `no JSON`, `no such type`, `unsupported`,
-///   `too deep`, `malformed`, `trailing bytes` or `mismatch` in their place: the last argument gives
-///   no value of the type.
+///   `too deep`, `malformed`, `trailing bytes` or `mismatch` in their place: the last argument
+///   gives no value of the type.
 /// - `type_reader: dangling id N`: N is reached from the given types, and is no index of the
 ///   table.
 /// - `type_reader: out of memory`: an allocation failed.
