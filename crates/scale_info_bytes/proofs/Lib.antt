@@ -5,5 +5,6 @@ pub mod Errors
 pub mod Index
 pub mod Lists
 pub mod Options
+pub mod Results
 pub mod Steps
 pub mod StringAt

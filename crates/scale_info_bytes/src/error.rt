@@ -3,7 +3,7 @@ ghost use Rattle.std.specs.Prelude.{◌≡◌, OnOk, OnErr, take};
 ghost use Rattle.scale_info_bytes.specs.declared.error.EncodeError.TheVariants as encode;
 ghost use Rattle.scale_info_bytes.specs.declared.error.DecodeError.TheVariants as decode;
 
-use std::alloc::{AllocError, AllocFailed};
+use scale_info_collections::failure::AllocationFailure;
 use thiserror::Error;
 
 /// Why a value could not be encoded.
@@ -28,34 +28,18 @@ pub enum DecodeError {
     Memory,
 }
 
-impl From<AllocError> for EncodeError {
+impl<F: AllocationFailure> From<F> for EncodeError {
     ghost from_gives = { λ _ e. e ≡ encode.Memory };
 
-    fn from(_e: AllocError) -> EncodeError {
+    fn from(_failure: F) -> EncodeError {
         EncodeError::Memory
     }
 }
 
-impl<T: Drop> From<AllocFailed<T>> for EncodeError {
-    ghost from_gives = { λ _ e. e ≡ encode.Memory };
-
-    fn from(_e: AllocFailed<T>) -> EncodeError {
-        EncodeError::Memory
-    }
-}
-
-impl From<AllocError> for DecodeError {
+impl<F: AllocationFailure> From<F> for DecodeError {
     ghost from_gives = { λ _ e. e ≡ decode.Memory };
 
-    fn from(_e: AllocError) -> DecodeError {
-        DecodeError::Memory
-    }
-}
-
-impl<T: Drop> From<AllocFailed<T>> for DecodeError {
-    ghost from_gives = { λ _ e. e ≡ decode.Memory };
-
-    fn from(_e: AllocFailed<T>) -> DecodeError {
+    fn from(_failure: F) -> DecodeError {
         DecodeError::Memory
     }
 }

@@ -13,13 +13,14 @@ ghost use Rattle.scale_info_catalogue.specs.declared.discovery.RegisterError.The
 
 use crate::catalogue::Catalogue;
 use crate::number_cache::NumberCache;
+use scale_info_collections::failure::AllocationFailure;
 use scale_info_collections::try_clone::TryClone;
 use scale_info_identities::type_id::TypeId;
 use scale_info_interner::interner::{InternError, Interner};
 use scale_info_references::references::references_of;
 use scale_info_types::meta_type::MetaType;
 use scale_info_types::ty::Type;
-use std::alloc::{AllocError, AllocFailed, Global};
+use std::alloc::Global;
 use thiserror::Error;
 
 /// Why a registration failed. It is displayed as the name of the variant alone.
@@ -36,18 +37,10 @@ pub enum RegisterError {
     Memory,
 }
 
-impl From<AllocError> for RegisterError {
+impl<F: AllocationFailure> From<F> for RegisterError {
     ghost from_gives = { λ _ e. e ≡ error.Memory };
 
-    fn from(_e: AllocError) -> RegisterError {
-        RegisterError::Memory
-    }
-}
-
-impl<T: Drop> From<AllocFailed<T>> for RegisterError {
-    ghost from_gives = { λ _ e. e ≡ error.Memory };
-
-    fn from(_e: AllocFailed<T>) -> RegisterError {
+    fn from(_failure: F) -> RegisterError {
         RegisterError::Memory
     }
 }

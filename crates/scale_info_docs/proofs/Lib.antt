@@ -1,3 +1,2 @@
 mod Changes
 mod Definitions
-mod Results

@@ -8,7 +8,7 @@ use Rattle.scale_info_bytes.specs.Encodings.{IsPrefix}
 use Rattle.scale_info_encode.specs.declared.error.EncodeValueError.{EncodeValueError}
 use Rattle.scale_info_encode.specs.declared.error.EncodeValueError.TheVariants as error
 use Rattle.scale_info_encode.specs.declared.path.Step.{Step}
-use Rattle.scale_info_encode.specs.declared.failure.Failure.{Failure}
+use Rattle.scale_info_encode.specs.declared.failure.PartError.{PartError}
 use Rattle.scale_info_encode.specs.Writers.{Written, written, refused, followed_by, of_part, Appends, IsErrorOf}
 use Rattle.scale_info_encode.specs.Failures.{Fails, error_of}
 
@@ -112,12 +112,12 @@ done {P = P} r x e h = subst (λ q. OnOk q P) (sym e) h
 
 -- a failure that is passed on
 pub passed :
-    {X : Type 0} (r : Result X Failure) (why : Failure) (whole : Written) (steps : List Step) → IsErrAnd r (λ d. d ≡ why)
+    {X : Type 0} (r : Result X PartError) (why : PartError) (whole : Written) (steps : List Step) → IsErrAnd r (λ d. d ≡ why)
     → Fails whole steps why → IfErr r (Fails whole steps)
 passed (Ok x) why whole steps h p = tt
 passed (Err d) why whole steps h p = subst (Fails whole steps) (sym h) p
 
-module _ {X : Type 0} (r : Result X Failure) (whole first second : Written) (old mid new : List ℕ)
+module _ {X : Type 0} (r : Result X PartError) (whole first second : Written) (old mid new : List ℕ)
     (e : whole ≡ followed_by first second) (a : Appends first old mid) where
   -- where the first was appended, the second is left
   second_left : SoFar whole second old mid
@@ -127,7 +127,7 @@ module _ {X : Type 0} (r : Result X Failure) (whole first second : Written) (old
   pub both_ok : OnOk r (Appends second mid new) → OnOk r (Appends whole old new)
   both_ok h = on_ok r (λ b. ends whole second old mid new second_left b) h
     where
-      on_ok : {P Q : Type 0} (r : Result X Failure) → (P → Q) → OnOk r P → OnOk r Q
+      on_ok : {P Q : Type 0} (r : Result X PartError) → (P → Q) → OnOk r P → OnOk r Q
       on_ok (Ok x) f h = f h
       on_ok (Err d) f h = tt
 
@@ -136,7 +136,7 @@ module _ {X : Type 0} (r : Result X Failure) (whole first second : Written) (old
   both_err steps h = if_err r (λ d p. fails whole second old mid (error_of steps d) second_left p) h
     where
       if_err :
-          {P Q : Failure → Type 0} (r : Result X Failure) → ((d : Failure) → P d → Q d)
+          {P Q : PartError → Type 0} (r : Result X PartError) → ((d : PartError) → P d → Q d)
           → IfErr r P → IfErr r Q
       if_err (Ok x) f h = tt
       if_err (Err d) f h = f d h
@@ -145,6 +145,6 @@ module _ {X : Type 0} (r : Result X Failure) (whole first second : Written) (old
   pub both_kept : OnErr r (IsPrefix mid new) → OnErr r (IsPrefix old new)
   both_kept h = err_map r (λ p. keeps whole second old mid new second_left p) h
     where
-      err_map : {P Q : Type 0} (r : Result X Failure) → (P → Q) → OnErr r P → OnErr r Q
+      err_map : {P Q : Type 0} (r : Result X PartError) → (P → Q) → OnErr r P → OnErr r Q
       err_map (Ok x) f h = tt
       err_map (Err d) f h = f h

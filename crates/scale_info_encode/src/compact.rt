@@ -7,7 +7,7 @@ ghost use Rattle.scale_info_encode.specs.DefinitionWriters.{held, unsigned_in, c
 ghost use Rattle.scale_info_encode.specs.Writings.{compact_within, compact_definition_within};
 
 use crate::definition::definition_of;
-use crate::failure::Failure;
+use crate::failure::PartError;
 use crate::integer::compact;
 use scale_info_tables::portable::PortableRegistry;
 use scale_info_types::form::PortableForm;
@@ -15,7 +15,7 @@ use scale_info_types::ty::{TypeDef, TypeDefPrimitive};
 use scale_info_value::value::Dyn;
 
 /// Appends a compact integer that is at most this one.
-fn compact_up_to(most: u128, value: &Dyn, out: &mut Vec<u8>) -> Result<(), Failure>
+fn compact_up_to(most: u128, value: &Dyn, out: &mut Vec<u8>) -> Result<(), PartError>
     ensures ok { OnOk result
         (Appends (held unsigned_in (compact_below (most + 1)) value.now)
         out.old.items out.new.items) }
@@ -24,12 +24,16 @@ fn compact_up_to(most: u128, value: &Dyn, out: &mut Vec<u8>) -> Result<(), Failu
 {
     match value {
         Dyn::Unsigned(n) if *n <= most => compact(*n, out),
-        _ => Err(Failure::Mismatch),
+        _ => Err(PartError::Mismatch),
     }
 }
 
 /// Appends a compact integer that fits a primitive type.
-fn compact_primitive(kind: &TypeDefPrimitive, value: &Dyn, out: &mut Vec<u8>) -> Result<(), Failure>
+fn compact_primitive(
+    kind: &TypeDefPrimitive,
+    value: &Dyn,
+    out: &mut Vec<u8>,
+) -> Result<(), PartError>
     ensures ok { OnOk result
         (Appends (compact_primitive kind.now value.now) out.old.items out.new.items) }
     ensures err { IfErr result (Fails (compact_primitive kind.now value.now) []) }
@@ -43,7 +47,7 @@ fn compact_primitive(kind: &TypeDefPrimitive, value: &Dyn, out: &mut Vec<u8>) ->
         TypeDefPrimitive::U128 => {
             compact_up_to(340282366920938463463374607431768211455, value, out)
         }
-        _ => Err(Failure::Unsupported),
+        _ => Err(PartError::Unsupported),
     }
 }
 
@@ -55,7 +59,7 @@ pub fn compact_within(
     left: u8,
     value: &Dyn,
     out: &mut Vec<u8>,
-) -> Result<(), Failure>
+) -> Result<(), PartError>
     ensures ok { OnOk result
         (Appends (compact_within left table.now id value.now) out.old.items out.new.items) }
     ensures err { IfErr result (Fails (compact_within left table.now id value.now) []) }
@@ -73,7 +77,7 @@ fn compact_by(
     left: u8,
     value: &Dyn,
     out: &mut Vec<u8>,
-) -> Result<(), Failure>
+) -> Result<(), PartError>
     requires { 1 ≤ left }
     ensures ok { OnOk result
         (Appends (compact_definition_within left table.now definition.now value.now)
@@ -85,9 +89,9 @@ fn compact_by(
     match definition {
         TypeDef::Composite(composite) => match composite.fields.as_slice() {
             [field] => compact_within(table, field.ty.id, left - 1, value, out),
-            _ => Err(Failure::Unsupported),
+            _ => Err(PartError::Unsupported),
         },
         TypeDef::Primitive(kind) => compact_primitive(kind, value, out),
-        _ => Err(Failure::Unsupported),
+        _ => Err(PartError::Unsupported),
     }
 }

@@ -1,13 +1,13 @@
 //! The definitions that ids stand for.
 ghost use Rattle.std.specs.Prelude.{◌≡◌, ◌≢◌, ◌≤◌, IfOk, IfErr, List};
 ghost use Rattle.scale_info_value.specs.declared.value.Dyn.{Dyn};
-ghost use Rattle.scale_info_encode.specs.declared.failure.Failure.TheVariants as failure;
+ghost use Rattle.scale_info_encode.specs.declared.failure.PartError.TheVariants as failure;
 ghost use Rattle.scale_info_encode.specs.declared.path.Step.{Step};
 ghost use Rattle.scale_info_encode.specs.Failures.{Fails};
 ghost use Rattle.scale_info_encode.specs.Writings.{value_within, compact_within};
 ghost use Rattle.scale_info_encode.specs.Writings.{definition_within, compact_definition_within};
 
-use crate::failure::Failure;
+use crate::failure::PartError;
 use scale_info_tables::portable::PortableRegistry;
 use scale_info_types::form::PortableForm;
 use scale_info_types::ty::TypeDef;
@@ -20,7 +20,7 @@ pub fn definition_of(
     table: &PortableRegistry,
     id: u32,
     left: u8,
-) -> Result<&TypeDef<PortableForm>, Failure>
+) -> Result<&TypeDef<PortableForm>, PartError>
     ensures level { IfOk result (λ _. 1 ≤ left) }
     ensures known { IfOk result (λ found. (value : Dyn)
         → (value_within left table.now id value
@@ -33,10 +33,10 @@ pub fn definition_of(
     ensures not_memory { IfErr result (λ why. why ≢ failure.Memory) }
 {
     if left == 0 {
-        return Err(Failure::TooDeep);
+        return Err(PartError::TooDeep);
     }
     match table.resolve(id) {
-        None => Err(Failure::NoSuchType),
+        None => Err(PartError::NoSuchType),
         Some(ty) => Ok(&ty.type_def),
     }
 }

@@ -11,7 +11,7 @@ ghost use Rattle.scale_info_encode.specs.Writings.{pairs_within, writing};
 use crate::compact::compact_within;
 use crate::definition::definition_of;
 use crate::error::EncodeValueError;
-use crate::failure::{Failure, mismatch, without_parts};
+use crate::failure::{PartError, mismatch, without_parts};
 use crate::integer::count;
 use crate::path::Step;
 use crate::primitive::primitive;
@@ -83,7 +83,7 @@ fn value_within(
     value: &Dyn,
     out: &mut Vec<u8>,
     steps: &mut Vec<Step>,
-) -> Result<(), Failure>
+) -> Result<(), PartError>
     ensures ok { OnOk result
         (Appends (value_within left table.now id value.now) out.old.items out.new.items) }
     ensures err { IfErr result (Fails (value_within left table.now id value.now) steps.new.items) }
@@ -106,7 +106,7 @@ fn value_by(
     value: &Dyn,
     out: &mut Vec<u8>,
     steps: &mut Vec<Step>,
-) -> Result<(), Failure>
+) -> Result<(), PartError>
     requires { 1 ≤ left }
     ensures ok { OnOk result
         (Appends (definition_within left table.now definition.now value.now)
@@ -126,7 +126,7 @@ fn value_by(
             let written = compact_within(table, compact.type_param.id, left, value, out);
             without_parts(written, steps)
         }
-        TypeDef::BitSequence(_) => Err(Failure::Unsupported),
+        TypeDef::BitSequence(_) => Err(PartError::Unsupported),
         TypeDef::Map(map) => map_value(table, map, left, value, out, steps),
     }
 }
@@ -141,7 +141,7 @@ fn composite_value(
     value: &Dyn,
     out: &mut Vec<u8>,
     steps: &mut Vec<Step>,
-) -> Result<(), Failure>
+) -> Result<(), PartError>
     requires { 1 ≤ left }
     ensures ok { OnOk result
         (Appends (definition_within left table.now (def.Composite composite.now) value.now)
@@ -176,7 +176,7 @@ fn variant_value(
     value: &Dyn,
     out: &mut Vec<u8>,
     steps: &mut Vec<Step>,
-) -> Result<(), Failure>
+) -> Result<(), PartError>
     requires { 1 ≤ left }
     ensures ok { OnOk result
         (Appends (definition_within left table.now (def.Variant choice.now) value.now)
@@ -221,7 +221,7 @@ fn sequence_value(
     value: &Dyn,
     out: &mut Vec<u8>,
     steps: &mut Vec<Step>,
-) -> Result<(), Failure>
+) -> Result<(), PartError>
     requires { 1 ≤ left }
     ensures ok { OnOk result
         (Appends (definition_within left table.now (def.Sequence sequence.now) value.now)
@@ -259,7 +259,7 @@ fn array_value(
     value: &Dyn,
     out: &mut Vec<u8>,
     steps: &mut Vec<Step>,
-) -> Result<(), Failure>
+) -> Result<(), PartError>
     requires { 1 ≤ left }
     ensures ok { OnOk result
         (Appends (definition_within left table.now (def.Array array.now) value.now)
@@ -297,7 +297,7 @@ fn items(
     values: &[Dyn],
     out: &mut Vec<u8>,
     steps: &mut Vec<Step>,
-) -> Result<(), Failure>
+) -> Result<(), PartError>
     requires { 1 ≤ left }
     ensures ok { OnOk result
         (Appends (items_within left table.now ty.now count values.now)
@@ -330,7 +330,7 @@ fn items_by(
     values: &[Dyn],
     out: &mut Vec<u8>,
     steps: &mut Vec<Step>,
-) -> Result<(), Failure>
+) -> Result<(), PartError>
     requires { 1 ≤ left }
     ensures ok { OnOk result (Appends
         (in_turn 0 (replicate count (item (definition_within left table.now definition.now)))
@@ -367,7 +367,7 @@ fn tuple_value(
     value: &Dyn,
     out: &mut Vec<u8>,
     steps: &mut Vec<Step>,
-) -> Result<(), Failure>
+) -> Result<(), PartError>
     requires { 1 ≤ left }
     ensures ok { OnOk result
         (Appends (definition_within left table.now (def.Tuple tuple.now) value.now)
@@ -402,7 +402,7 @@ fn members(
     values: &[Dyn],
     out: &mut Vec<u8>,
     steps: &mut Vec<Step>,
-) -> Result<(), Failure>
+) -> Result<(), PartError>
     requires { 1 ≤ left }
     ensures ok { OnOk result
         (Appends (members_within left table.now types.now values.now)
@@ -437,7 +437,7 @@ fn fields(
     values: &[(Option<Text>, Dyn)],
     out: &mut Vec<u8>,
     steps: &mut Vec<Step>,
-) -> Result<(), Failure>
+) -> Result<(), PartError>
     requires { 1 ≤ left }
     ensures ok { OnOk result
         (Appends (fields_within left table.now all.now values.now) out.old.items out.new.items) }
@@ -475,7 +475,7 @@ fn map_value(
     value: &Dyn,
     out: &mut Vec<u8>,
     steps: &mut Vec<Step>,
-) -> Result<(), Failure>
+) -> Result<(), PartError>
     requires { 1 ≤ left }
     ensures ok { OnOk result
         (Appends (definition_within left table.now (def.Map map.now) value.now)
@@ -506,7 +506,7 @@ fn pairs(
     entries: &[Dyn],
     out: &mut Vec<u8>,
     steps: &mut Vec<Step>,
-) -> Result<(), Failure>
+) -> Result<(), PartError>
     requires { 1 ≤ left }
     ensures ok { OnOk result (Appends
         (pairs_within left table.now key.now value.now (length entries.now) entries.now)
@@ -534,7 +534,7 @@ fn pair(
     entry: &Dyn,
     out: &mut Vec<u8>,
     steps: &mut Vec<Step>,
-) -> Result<(), Failure>
+) -> Result<(), PartError>
     requires { 1 ≤ left }
     ensures ok { OnOk result
         (Appends (pair_within left table.now key.now value.now entry.now)

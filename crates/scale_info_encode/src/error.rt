@@ -3,7 +3,7 @@ ghost use Rattle.std.specs.Prelude.{◌≡◌};
 ghost use Rattle.scale_info_encode.specs.declared.error.EncodeValueError.TheVariants as error;
 
 use crate::path::ValuePath;
-use std::alloc::{AllocError, AllocFailed};
+use scale_info_collections::failure::AllocationFailure;
 use thiserror::Error;
 
 /// Why a value could not be encoded.
@@ -30,18 +30,10 @@ pub enum EncodeValueError {
     Memory,
 }
 
-impl From<AllocError> for EncodeValueError {
+impl<F: AllocationFailure> From<F> for EncodeValueError {
     ghost from_gives = { λ _ e. e ≡ error.Memory };
 
-    fn from(_e: AllocError) -> EncodeValueError {
-        EncodeValueError::Memory
-    }
-}
-
-impl<T: Drop> From<AllocFailed<T>> for EncodeValueError {
-    ghost from_gives = { λ _ e. e ≡ error.Memory };
-
-    fn from(_e: AllocFailed<T>) -> EncodeValueError {
+    fn from(_failure: F) -> EncodeValueError {
         EncodeValueError::Memory
     }
 }

@@ -1,22 +1,23 @@
 //! Why the parts of a value could not be encoded.
 ghost use Rattle.std.specs.Prelude.{◌≡◌, ◌∷◌, [], IfErr, OnOk};
-ghost use Rattle.scale_info_encode.specs.declared.failure.Failure.TheVariants as failure;
+ghost use Rattle.scale_info_encode.specs.declared.failure.PartError.TheVariants as failure;
 ghost use Rattle.scale_info_encode.specs.Failures.{Fails, error_of};
 ghost use Rattle.scale_info_encode.specs.Writers.{Written, mismatch, of_part, refused, step_to};
 
 use crate::error::EncodeValueError;
 use crate::path::{Step, ValuePath};
+use scale_info_collections::failure::AllocationFailure;
 use scale_info_collections::items::Items;
 use scale_info_collections::text::Text;
 use scale_info_collections::try_clone::TryClone;
-use std::alloc::{AllocError, AllocFailed};
+use std::alloc::AllocError;
 
 /// Why a value could not be encoded, without the path of a mismatch.
 ///
 /// The steps of that path stand in a vector beside it, so that what each level of a value returns
 /// is a byte or two.
 #[derive(Clone, Copy)]
-pub enum Failure {
+pub enum PartError {
     /// As [`EncodeValueError::NoSuchType`].
     NoSuchType,
     /// As [`EncodeValueError::Unsupported`].
@@ -29,19 +30,19 @@ pub enum Failure {
     Memory,
 }
 
-impl Failure {
+impl PartError {
     /// The error, where these steps lead to the part that is none of its type.
     pub fn with_steps(self, steps: Vec<Step>) -> EncodeValueError
         ensures { result ≡ error_of steps.items self }
     {
         match self {
-            Failure::NoSuchType => EncodeValueError::NoSuchType,
-            Failure::Unsupported => EncodeValueError::Unsupported,
-            Failure::TooDeep => EncodeValueError::TooDeep,
-            Failure::Mismatch => EncodeValueError::Mismatch(ValuePath {
+            PartError::NoSuchType => EncodeValueError::NoSuchType,
+            PartError::Unsupported => EncodeValueError::Unsupported,
+            PartError::TooDeep => EncodeValueError::TooDeep,
+            PartError::Mismatch => EncodeValueError::Mismatch(ValuePath {
                 steps: Items::from(steps),
             }),
-            Failure::Memory => EncodeValueError::Memory,
+            PartError::Memory => EncodeValueError::Memory,
         }
     }
 
@@ -49,14 +50,14 @@ impl Failure {
     /// it has one.
     #[cold]
     #[inline(never)]
-    pub fn of_whole(self, name: &Option<Text>, index: usize, steps: &mut Vec<Step>) -> Failure
+    pub fn of_whole(self, name: &Option<Text>, index: usize, steps: &mut Vec<Step>) -> PartError
         ensures { (outcome : Written) → Fails outcome steps.old.items self
             → Fails (of_part (step_to index name.now) outcome) steps.new.items result }
     {
         match self {
-            Failure::Mismatch => match put_first(name, index, steps) {
-                Ok(()) => Failure::Mismatch,
-                Err(_) => Failure::Memory,
+            PartError::Mismatch => match put_first(name, index, steps) {
+                Ok(()) => PartError::Mismatch,
+                Err(_) => PartError::Memory,
             },
             other => other,
         }
@@ -79,16 +80,16 @@ fn put_first(name: &Option<Text>, index: usize, steps: &mut Vec<Step>) -> Result
 /// The failure of a value that is itself none of its type: no step leads to it.
 #[cold]
 #[inline(never)]
-pub fn mismatch(steps: &mut Vec<Step>) -> Failure
+pub fn mismatch(steps: &mut Vec<Step>) -> PartError
     ensures { Fails (refused mismatch) steps.new.items result }
 {
     steps.clear();
-    Failure::Mismatch
+    PartError::Mismatch
 }
 
 /// What came of a value without parts: where it is none of its type, no step leads to it.
 #[inline(always)]
-pub fn without_parts(written: Result<(), Failure>, steps: &mut Vec<Step>) -> Result<(), Failure>
+pub fn without_parts(written: Result<(), PartError>, steps: &mut Vec<Step>) -> Result<(), PartError>
     ensures same { result ≡ written }
     ensures err { (outcome : Written) → IfErr written (Fails outcome [])
         → IfErr result (Fails outcome steps.new.items) }
@@ -99,18 +100,10 @@ pub fn without_parts(written: Result<(), Failure>, steps: &mut Vec<Step>) -> Res
     written
 }
 
-impl From<AllocError> for Failure {
+impl<F: AllocationFailure> From<F> for PartError {
     ghost from_gives = { λ _ e. e ≡ failure.Memory };
 
-    fn from(_e: AllocError) -> Failure {
-        Failure::Memory
-    }
-}
-
-impl<T: Drop> From<AllocFailed<T>> for Failure {
-    ghost from_gives = { λ _ e. e ≡ failure.Memory };
-
-    fn from(_e: AllocFailed<T>) -> Failure {
-        Failure::Memory
+    fn from(_failure: F) -> PartError {
+        PartError::Memory
     }
 }

@@ -8,7 +8,7 @@ ghost use Rattle.scale_info_encode.specs.IntegerWriters.{first_width, many_bytes
 ghost use Rattle.scale_info_encode.specs.IntegerWriters.{count};
 ghost use Rattle.scale_info_encode.specs.DefinitionWriters.{unsigned, signed};
 
-use crate::failure::Failure;
+use crate::failure::PartError;
 use scale_info_bytes::integer::encode_compact;
 use scale_info_value::integer::{IntegerWidth, little_endian, with_sign};
 use std::alloc::AllocError;
@@ -29,14 +29,14 @@ fn most_in(width: IntegerWidth) -> u128
 
 /// Appends the integer in so many bytes, the lowest first. Errors: `Mismatch`, where it does not
 /// fit them; `Memory`, where an allocation failed.
-pub fn unsigned(width: IntegerWidth, n: u128, out: &mut Vec<u8>) -> Result<(), Failure>
+pub fn unsigned(width: IntegerWidth, n: u128, out: &mut Vec<u8>) -> Result<(), PartError>
     ensures ok { OnOk result
         (Appends (unsigned (width_of width) n) out.old.items out.new.items) }
     ensures err { IfErr result (Fails (unsigned (width_of width) n) []) }
     ensures same { OnErr result (out.new.items ≡ out.old.items) }
 {
     if n > most_in(width) {
-        return Err(Failure::Mismatch);
+        return Err(PartError::Mismatch);
     }
     if let IntegerWidth::One = width {
         return Ok(out.push(n as u8)?);
@@ -48,7 +48,7 @@ pub fn unsigned(width: IntegerWidth, n: u128, out: &mut Vec<u8>) -> Result<(), F
 
 /// Appends the integer in so many bytes, the lowest first, in two's complement. Errors: `Mismatch`,
 /// where it does not fit them; `Memory`, where an allocation failed.
-pub fn signed(width: IntegerWidth, n: i128, out: &mut Vec<u8>) -> Result<(), Failure>
+pub fn signed(width: IntegerWidth, n: i128, out: &mut Vec<u8>) -> Result<(), PartError>
     ensures ok { OnOk result (Appends (signed (width_of width) n) out.old.items out.new.items) }
     ensures err { IfErr result (Fails (signed (width_of width) n) []) }
     ensures same { OnErr result (out.new.items ≡ out.old.items) }
@@ -56,7 +56,7 @@ pub fn signed(width: IntegerWidth, n: i128, out: &mut Vec<u8>) -> Result<(), Fai
     let all = n.to_le_bytes();
     let (low, _) = all.split_at(width.bytes());
     if with_sign(width, little_endian(low)) != n {
-        return Err(Failure::Mismatch);
+        return Err(PartError::Mismatch);
     }
     Ok(out.extend_from_slice(low)?)
 }
@@ -75,7 +75,7 @@ fn width_from_four(n: u128) -> usize
 }
 
 /// Appends the integer after a byte that says how many bytes it takes.
-fn many_bytes(n: u128, out: &mut Vec<u8>) -> Result<(), Failure>
+fn many_bytes(n: u128, out: &mut Vec<u8>) -> Result<(), PartError>
     ensures ok { OnOk result
         (Appends (written (many_bytes (first_width 12 4 n) n)) out.old.items out.new.items) }
     ensures err { IfErr result (Fails (written (many_bytes (first_width 12 4 n) n)) []) }
@@ -94,7 +94,7 @@ fn many_bytes(n: u128, out: &mut Vec<u8>) -> Result<(), Failure>
 }
 
 /// Appends the compact integer, in its shortest form. Error: `Memory`, where an allocation failed.
-pub fn compact(n: u128, out: &mut Vec<u8>) -> Result<(), Failure>
+pub fn compact(n: u128, out: &mut Vec<u8>) -> Result<(), PartError>
     ensures ok { OnOk result (Appends (written (compact_bytes n)) out.old.items out.new.items) }
     ensures err { IfErr result (Fails (written (compact_bytes n)) []) }
     ensures same { OnErr result (out.new.items ≡ out.old.items) }
@@ -107,13 +107,13 @@ pub fn compact(n: u128, out: &mut Vec<u8>) -> Result<(), Failure>
 
 /// Appends how many items follow. Errors: `Mismatch`, where they are more than 4294967295;
 /// `Memory`, where an allocation failed.
-pub fn count(items: usize, out: &mut Vec<u8>) -> Result<(), Failure>
+pub fn count(items: usize, out: &mut Vec<u8>) -> Result<(), PartError>
     ensures ok { OnOk result (Appends (count items) out.old.items out.new.items) }
     ensures err { IfErr result (Fails (count items) []) }
     ensures same { OnErr result (out.new.items ≡ out.old.items) }
 {
     if items > 4294967295 {
-        return Err(Failure::Mismatch);
+        return Err(PartError::Mismatch);
     }
     Ok(encode_compact(out, items as u32)?)
 }

@@ -7,7 +7,7 @@ ghost use Rattle.scale_info_encode.specs.DefinitionWriters.{unsigned_in, signed_
 ghost use Rattle.scale_info_encode.specs.DefinitionWriters.{text_in, held, unsigned, signed, truth};
 ghost use Rattle.scale_info_encode.specs.DefinitionWriters.{text, primitive};
 
-use crate::failure::Failure;
+use crate::failure::PartError;
 use crate::integer::{signed, unsigned};
 use scale_info_bytes::error::EncodeError;
 use scale_info_bytes::text::encode_text;
@@ -16,7 +16,7 @@ use scale_info_value::integer::IntegerWidth;
 use scale_info_value::value::Dyn;
 
 /// Appends a truth value.
-fn truth(value: &Dyn, out: &mut Vec<u8>) -> Result<(), Failure>
+fn truth(value: &Dyn, out: &mut Vec<u8>) -> Result<(), PartError>
     ensures ok { OnOk result
         (Appends (held truth_in truth value.now) out.old.items out.new.items) }
     ensures err { IfErr result (Fails (held truth_in truth value.now) []) }
@@ -24,12 +24,12 @@ fn truth(value: &Dyn, out: &mut Vec<u8>) -> Result<(), Failure>
 {
     match value {
         Dyn::Bool(truth) => Ok(out.push(*truth as u8)?),
-        _ => Err(Failure::Mismatch),
+        _ => Err(PartError::Mismatch),
     }
 }
 
 /// Appends an integer of an unsigned type.
-fn unsigned_value(width: IntegerWidth, value: &Dyn, out: &mut Vec<u8>) -> Result<(), Failure>
+fn unsigned_value(width: IntegerWidth, value: &Dyn, out: &mut Vec<u8>) -> Result<(), PartError>
     ensures ok { OnOk result
         (Appends (held unsigned_in (unsigned (width_of width)) value.now)
         out.old.items out.new.items) }
@@ -39,12 +39,12 @@ fn unsigned_value(width: IntegerWidth, value: &Dyn, out: &mut Vec<u8>) -> Result
 {
     match value {
         Dyn::Unsigned(n) => unsigned(width, *n, out),
-        _ => Err(Failure::Mismatch),
+        _ => Err(PartError::Mismatch),
     }
 }
 
 /// Appends an integer of a signed type.
-fn signed_value(width: IntegerWidth, value: &Dyn, out: &mut Vec<u8>) -> Result<(), Failure>
+fn signed_value(width: IntegerWidth, value: &Dyn, out: &mut Vec<u8>) -> Result<(), PartError>
     ensures ok { OnOk result
         (Appends (held signed_in (signed (width_of width)) value.now)
         out.old.items out.new.items) }
@@ -53,12 +53,12 @@ fn signed_value(width: IntegerWidth, value: &Dyn, out: &mut Vec<u8>) -> Result<(
 {
     match value {
         Dyn::Signed(n) => signed(width, *n, out),
-        _ => Err(Failure::Mismatch),
+        _ => Err(PartError::Mismatch),
     }
 }
 
 /// Appends a text.
-fn text(value: &Dyn, out: &mut Vec<u8>) -> Result<(), Failure>
+fn text(value: &Dyn, out: &mut Vec<u8>) -> Result<(), PartError>
     ensures ok { OnOk result (Appends (held text_in text value.now) out.old.items out.new.items) }
     ensures err { IfErr result (Fails (held text_in text value.now) []) }
     ensures same { OnErr result (out.new.items ≡ out.old.items) }
@@ -66,15 +66,15 @@ fn text(value: &Dyn, out: &mut Vec<u8>) -> Result<(), Failure>
     match value {
         Dyn::Text(chars) => match encode_text(out, chars.as_str()) {
             Ok(()) => Ok(()),
-            Err(EncodeError::TooLong) => Err(Failure::Mismatch),
-            Err(EncodeError::Memory) => Err(Failure::Memory),
+            Err(EncodeError::TooLong) => Err(PartError::Mismatch),
+            Err(EncodeError::Memory) => Err(PartError::Memory),
         },
-        _ => Err(Failure::Mismatch),
+        _ => Err(PartError::Mismatch),
     }
 }
 
 /// Appends a value of a primitive type.
-pub fn primitive(kind: &TypeDefPrimitive, value: &Dyn, out: &mut Vec<u8>) -> Result<(), Failure>
+pub fn primitive(kind: &TypeDefPrimitive, value: &Dyn, out: &mut Vec<u8>) -> Result<(), PartError>
     ensures ok { OnOk result
         (Appends (primitive kind.now value.now) out.old.items out.new.items) }
     ensures err { IfErr result (Fails (primitive kind.now value.now) []) }
@@ -94,7 +94,7 @@ pub fn primitive(kind: &TypeDefPrimitive, value: &Dyn, out: &mut Vec<u8>) -> Res
         TypeDefPrimitive::I64 => signed_value(IntegerWidth::Eight, value, out),
         TypeDefPrimitive::I128 => signed_value(IntegerWidth::Sixteen, value, out),
         TypeDefPrimitive::Char | TypeDefPrimitive::U256 | TypeDefPrimitive::I256 => {
-            Err(Failure::Unsupported)
+            Err(PartError::Unsupported)
         }
     }
 }

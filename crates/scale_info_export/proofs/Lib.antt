@@ -1,3 +1,4 @@
 pub mod Exported
 pub mod Headline
+pub mod LentEntries
 pub mod NumberedEntries

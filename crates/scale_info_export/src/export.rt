@@ -1,24 +1,20 @@
 //! Types of the program in, bytes of a table out.
-ghost use Rattle.std.specs.Prelude.{◌≡◌, IfErr, IfOk, map, OnErr, OnOk};
+ghost use Rattle.std.specs.Prelude.{◌≡◌, IfErr, IfOk, OnErr, OnOk};
 ghost use Rattle.scale_info_bytes.specs.Encodings.{AppendsEncoding};
-ghost use Rattle.scale_info_export.specs.Exports.{IsExportError, IsExported, IsNotRegistered};
-ghost use Rattle.scale_info_export.specs.Exports.{IsRegisteredTable, of_encode, of_register};
+ghost use Rattle.scale_info_export.specs.Exports.{IsExportError, IsExported};
+ghost use Rattle.scale_info_export.specs.Exports.{of_encode, of_register};
 ghost use Rattle.scale_info_export.specs.Exports.{of_retain};
 ghost use Rattle.scale_info_export.specs.declared.export.ExportError.TheVariants as export_error;
 ghost use Rattle.scale_info_catalogue.specs.CatalogueSystems.{catalogue_system};
-ghost use Rattle.scale_info_identities.specs.declared.symbol.UntrackedSymbol as tracked;
-ghost use Rattle.scale_info_identities.specs.declared.type_id.TypeId.{TypeId};
 ghost use Rattle.scale_info_catalogue.specs.Discoveries.{roots_of};
 ghost use Rattle.scale_info_tables.specs.TableEncoding.{EncodesRegistry};
 ghost use Rattle.scale_info_tables.specs.declared.portable.PortableRegistry as tables;
 
 use crate::laws::registered_tables;
+use crate::lent::{LentEntries, encode_kept, number_kept};
 use scale_info_bytes::error::EncodeError;
 use scale_info_catalogue::catalogue::Catalogue;
-use scale_info_identities::symbol::UntrackedSymbol;
-use scale_info_identities::type_id::TypeId;
-use scale_info_registry::registry::{RegisterError, Registry};
-use scale_info_tables::portable::PortableRegistry;
+use scale_info_registry::registry::{RegisterError, lend_types};
 use scale_info_types::meta_type::MetaType;
 use scale_info_walk::walk::RetainError;
 use std::alloc::{AllocError, AllocFailed, Global};
@@ -139,42 +135,36 @@ pub fn export<F: FnMut(u32) -> bool>(
     ensures cause { IfErr result
         (IsExportError (catalogue_system catalogue.now) (roots_of types.now) F.step filter) }
 {
-    let (mut table, ids) = registered_table(alloc, types, catalogue)?;
-    let map = table.retain(alloc, filter)?;
-    table.encode(out)?;
-    Ok(Exported { ids, map })
+    export_lent(alloc, catalogue, types, filter, out)
 }
 
-/// The table of these types and of all that they reach, and the id of each.
-fn registered_table(
+/// The same, where the catalogue and the types are lent for one time.
+fn export_lent<'c, F: FnMut(u32) -> bool>(
     alloc: Global,
-    types: &[MetaType],
-    catalogue: &Catalogue,
-) -> Result<(PortableRegistry, Vec<u32>), ExportError>
-    ensures ok { IfOk result (λ made. IsRegisteredTable (catalogue_system catalogue.now)
-        (roots_of types.now) made.1.items made.0) }
+    catalogue: &'c Catalogue,
+    types: &'c [MetaType],
+    filter: F,
+    out: &mut Vec<u8>,
+) -> Result<Exported, ExportError>
+    requires { F.IsAlwaysCallable filter }
+    ensures ok { IfOk result (λ exported. (table : tables.PortableRegistry)
+        × IsExported (catalogue_system catalogue.now) (roots_of types.now) F.step filter
+        exported.ids.items exported.map table
+        × AppendsEncoding (EncodesRegistry table) out.old.items out.new.items) }
+    ensures err { OnErr result (out.new.items ≡ out.old.items) }
     ensures cause { IfErr result
-        (IsNotRegistered (catalogue_system catalogue.now) (roots_of types.now)) }
+        (IsExportError (catalogue_system catalogue.now) (roots_of types.now) F.step filter) }
 {
     registered_tables();
-    let mut registry = Registry::new(alloc);
-    let symbols = registry.register_all(types, catalogue)?;
-    let table = PortableRegistry::from_finished(alloc, registry)?;
-    Ok((table, ids_of_symbols(alloc, &symbols)?))
-}
-
-/// The ids of these symbols.
-fn ids_of_symbols(
-    alloc: Global,
-    symbols: &[UntrackedSymbol<TypeId>],
-) -> Result<Vec<u32>, ExportError>
-    ensures ok { IfOk result (λ ids. ids.items
-        ≡ map (λ (symbol : tracked.UntrackedSymbol TypeId). symbol.id) symbols.now) }
-    ensures memory { IfErr result (λ e. e ≡ export_error.Memory) }
-{
-    let mut ids = Vec::with_capacity(alloc, symbols.len())?;
-    for symbol in symbols {
-        ids.push(symbol.id)?;
-    }
-    Ok(ids)
+    let found = lend_types(alloc, types, catalogue)?;
+    let lent = LentEntries {
+        numbers: found.numbers,
+        descriptions: found.descriptions,
+    };
+    let kept = number_kept(alloc, &lent, filter)?;
+    encode_kept(&lent, &kept.order, &kept.numbers, out)?;
+    Ok(Exported {
+        ids: found.ids,
+        map: kept.map,
+    })
 }

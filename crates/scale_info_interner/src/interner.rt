@@ -11,9 +11,10 @@ ghost use Rattle.scale_info_interner.specs.declared.interner.InternError.TheVari
 
 use crate::order::{Place, find, insert, locate, merge_small, remove, split_full};
 use crate::rooms::{narrow, widen};
+use scale_info_collections::failure::AllocationFailure;
 use scale_info_collections::try_clone::TryClone;
 pub use scale_info_identities::symbol::UntrackedSymbol;
-use std::alloc::{AllocError, AllocFailed, Global};
+use std::alloc::{AllocError, Global};
 use std::marker::{Model, PhantomData};
 use thiserror::Error;
 
@@ -57,18 +58,10 @@ pub enum InternError {
     Memory,
 }
 
-impl From<AllocError> for InternError {
+impl<F: AllocationFailure> From<F> for InternError {
     ghost from_gives = { λ _ e. e ≡ error.Memory };
 
-    fn from(_e: AllocError) -> InternError {
-        InternError::Memory
-    }
-}
-
-impl<T: Drop> From<AllocFailed<T>> for InternError {
-    ghost from_gives = { λ _ e. e ≡ error.Memory };
-
-    fn from(_e: AllocFailed<T>) -> InternError {
+    fn from(_failure: F) -> InternError {
         InternError::Memory
     }
 }

@@ -2,7 +2,7 @@
 ghost use Rattle.std.specs.Prelude.{◌≡◌};
 ghost use Rattle.scale_info_json.specs.declared.error.JsonError.TheVariants as error;
 
-use std::alloc::{AllocError, AllocFailed};
+use scale_info_collections::failure::AllocationFailure;
 use thiserror::Error;
 
 /// Why no value is read from a tree.
@@ -16,18 +16,10 @@ pub enum JsonError {
     Memory,
 }
 
-impl From<AllocError> for JsonError {
+impl<F: AllocationFailure> From<F> for JsonError {
     ghost from_gives = { λ _ e. e ≡ error.Memory };
 
-    fn from(_e: AllocError) -> JsonError {
-        JsonError::Memory
-    }
-}
-
-impl<T: Drop> From<AllocFailed<T>> for JsonError {
-    ghost from_gives = { λ _ e. e ≡ error.Memory };
-
-    fn from(_e: AllocFailed<T>) -> JsonError {
+    fn from(_failure: F) -> JsonError {
         JsonError::Memory
     }
 }

@@ -10,10 +10,11 @@ use crate::byte_references::ByteReferences;
 use crate::roots::{RootsError, roots_of};
 use crate::table_index::{append_kept, index_table};
 use scale_info_bytes::error::{DecodeError, EncodeError};
+use scale_info_collections::failure::AllocationFailure;
 use scale_info_passes::entries::EntryIndex;
 use scale_info_walk::numbers::map_of_numbers;
 use scale_info_walk::walk::{Renumbering, RetainError, number_references};
-use std::alloc::{AllocError, Global};
+use std::alloc::Global;
 use std::collections::BTreeMap;
 use thiserror::Error;
 
@@ -40,10 +41,10 @@ pub enum PruneError {
     Memory,
 }
 
-impl From<AllocError> for PruneError {
+impl<F: AllocationFailure> From<F> for PruneError {
     ghost from_gives = { λ _ e. e ≡ prune_error.Memory };
 
-    fn from(_e: AllocError) -> PruneError {
+    fn from(_failure: F) -> PruneError {
         PruneError::Memory
     }
 }

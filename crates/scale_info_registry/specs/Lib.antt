@@ -1,3 +1,4 @@
 pub mod RegistryParts
 pub mod Registrations
 pub mod RegistryLaws
+pub mod LentTypes

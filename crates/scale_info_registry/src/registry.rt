@@ -71,9 +71,11 @@ mod closed;
 mod conversion;
 mod equality;
 mod into_portable;
+mod lent;
 mod registry_types;
 
 pub use into_portable::IntoPortable;
+pub use lent::{LentTypes, TypeNumbers, lend_types};
 pub use registry_types::RegistryTypes;
 pub use scale_info_catalogue::discovery::RegisterError;
 

@@ -9,7 +9,8 @@ ghost use Rattle.scale_info_segments.specs.TypePaths.{text_pairs, texts};
 ghost use Rattle.scale_info_segments.specs.declared.segments.PathError.TheVariants as error;
 
 use crate::utils::is_rust_identifier;
-use std::alloc::{AllocError, AllocFailed, Global};
+use scale_info_collections::failure::AllocationFailure;
+use std::alloc::{AllocError, Global};
 use thiserror::Error;
 
 /// Why no path could be made. It is displayed as the name of the variant alone.
@@ -34,18 +35,10 @@ pub enum PathError {
     Memory,
 }
 
-impl From<AllocError> for PathError {
+impl<F: AllocationFailure> From<F> for PathError {
     ghost from_gives = { λ _ e. e ≡ error.Memory };
 
-    fn from(_e: AllocError) -> PathError {
-        PathError::Memory
-    }
-}
-
-impl<T: Drop> From<AllocFailed<T>> for PathError {
-    ghost from_gives = { λ _ e. e ≡ error.Memory };
-
-    fn from(_e: AllocFailed<T>) -> PathError {
+    fn from(_failure: F) -> PathError {
         PathError::Memory
     }
 }

@@ -1,7 +1,6 @@
 //! Tables that keep what some of their entries reach.
-ghost use Rattle.std.specs.Prelude.{◌≡◌, ◌≢◌, ◌<◌, ◌≤◌, ◌+◌, ◌++◌, ◌∷◌, ◌↔◌, ℕ, Bool, List, []};
-ghost use Rattle.std.specs.Prelude.{Some, All, IfOk, IfErr, OnErr, OnOk, cond, length, slice_get};
-ghost use Rattle.std.specs.Prelude.{vec_capacity, vec_len};
+ghost use Rattle.std.specs.Prelude.{◌≡◌, ◌≢◌, ◌<◌, ◌≤◌, ◌↔◌, ℕ, List, [], Some, All, IfOk, IfErr};
+ghost use Rattle.std.specs.Prelude.{OnErr, OnOk, length, slice_get, vec_capacity};
 ghost use Rattle.std.specs.BTreeMap.{get};
 ghost use Rattle.std.specs.Ordering.{nat_cmp};
 ghost use Rattle.scale_info_numberings.specs.Numberings.{AreDistinct};
@@ -9,6 +8,7 @@ ghost use Rattle.scale_info_references.specs.Conversions.{number_of};
 ghost use Rattle.scale_info_walk.specs.Kept.{AreKept};
 ghost use Rattle.scale_info_tables.specs.Pruned.{IsChosen, IsPruned, IsRetainError};
 
+use crate::chosen::chosen_ids;
 use crate::renumbering::renumbered;
 use scale_info_collections::items::Items;
 use scale_info_types::ty::{PortableType, Type, TypeDef, TypeDefPrimitive};
@@ -46,38 +46,6 @@ pub(crate) fn retain_types<F: FnMut(u32) -> bool>(
     let new_ids = map_of_numbers(alloc, &found.numbers)?;
     keep_entries(alloc, types, &found.order, &found.numbers)?;
     Ok(new_ids)
-}
-
-/// The ids below `count` for which the filter returns true. It is asked once for each, from 0 up,
-/// after all memory is there: so on an Err it was not asked.
-fn chosen_ids<F: FnMut(u32) -> bool>(
-    alloc: Global,
-    count: u32,
-    mut filter: F,
-) -> Result<Vec<u32>, AllocError>
-    requires { F.IsAlwaysCallable filter }
-    ensures { IfOk result (λ chosen. (last : F) × IsChosen F.step filter count chosen.items last) }
-{
-    let mut chosen = Vec::with_capacity(alloc, count as usize)?;
-    for id in 0..count {
-        choose(&mut filter, id, &mut chosen);
-    }
-    Ok(chosen)
-}
-
-/// Asks the filter for an id, and adds the id to the chosen ones where it returns true.
-fn choose<F: FnMut(u32) -> bool>(filter: &mut F, id: u32, chosen: &mut Vec<u32>)
-    requires callable { F.IsAlwaysCallable filter.old }
-    requires room { vec_len chosen.old < vec_capacity chosen.old }
-    ensures callable { F.IsAlwaysCallable filter.new }
-    ensures asked { (answer : Bool) × F.step filter.old id answer filter.new
-        × (chosen.new.items ≡ cond answer (chosen.old.items ++ id ∷ []) chosen.old.items) }
-    ensures room { vec_capacity chosen.new ≡ vec_capacity chosen.old }
-    ensures few { vec_len chosen.new ≤ vec_len chosen.old + 1 }
-{
-    if filter(id) {
-        chosen.push_reserved(id);
-    }
 }
 
 /// Keeps the entries at these indices in turn, with ids from 0 up and new numbers for their

@@ -1,6 +1,5 @@
 mod Objects
 mod Parts
-mod Results
 mod Skips
 mod Tables
 mod Tokens

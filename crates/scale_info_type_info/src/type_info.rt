@@ -3,9 +3,10 @@ ghost use Rattle.std.specs.Prelude.{◌≡◌, Option, Some, None, IfOk, IsErrOf
 ghost use Rattle.scale_info_types.specs.MetaDescriptions.{MetaContent, meta_content};
 ghost use Rattle.scale_info_type_info.specs.declared.type_info.InfoError.TheVariants as info_error;
 
+use scale_info_collections::failure::AllocationFailure;
 use scale_info_type_ids::identified::HasIdentity;
 use scale_info_types::ty::Type;
-use std::alloc::{AllocError, AllocFailed, Global};
+use std::alloc::Global;
 use thiserror::Error;
 
 /// Why a type could not be described. It is displayed as the name of the variant alone.
@@ -19,18 +20,10 @@ pub enum InfoError {
     Memory,
 }
 
-impl From<AllocError> for InfoError {
+impl<F: AllocationFailure> From<F> for InfoError {
     ghost from_gives = { λ _ e. e ≡ info_error.Memory };
 
-    fn from(_e: AllocError) -> InfoError {
-        InfoError::Memory
-    }
-}
-
-impl<T: Drop> From<AllocFailed<T>> for InfoError {
-    ghost from_gives = { λ _ e. e ≡ info_error.Memory };
-
-    fn from(_e: AllocFailed<T>) -> InfoError {
+    fn from(_failure: F) -> InfoError {
         InfoError::Memory
     }
 }

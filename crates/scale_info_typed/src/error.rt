@@ -4,9 +4,9 @@ ghost use Rattle.scale_info_value.specs.declared.value.ValueError.TheVariants as
 ghost use Rattle.scale_info_typed.specs.declared.error.ConvertError.TheVariants as convert;
 ghost use Rattle.scale_info_typed.specs.declared.error.DecodeAsError.TheVariants as error;
 
+use scale_info_collections::failure::AllocationFailure;
 use scale_info_encode::error::EncodeValueError;
 use scale_info_value::value::ValueError;
-use std::alloc::{AllocError, AllocFailed};
 use thiserror::Error;
 
 /// Why a value is not converted.
@@ -20,18 +20,10 @@ pub enum ConvertError {
     Memory,
 }
 
-impl From<AllocError> for ConvertError {
+impl<F: AllocationFailure> From<F> for ConvertError {
     ghost from_gives = { λ _ e. e ≡ convert.Memory };
 
-    fn from(_e: AllocError) -> ConvertError {
-        ConvertError::Memory
-    }
-}
-
-impl<T: Drop> From<AllocFailed<T>> for ConvertError {
-    ghost from_gives = { λ _ e. e ≡ convert.Memory };
-
-    fn from(_e: AllocFailed<T>) -> ConvertError {
+    fn from(_failure: F) -> ConvertError {
         ConvertError::Memory
     }
 }

@@ -534,8 +534,9 @@ impl<T: Form> TypeDefBitSequence<T> {
 }
 
 impl<T: Form> TypeDefBitSequence<T> {
-    /// The bit sequence with this store and order, in any form.
-    pub(crate) fn of_types(bit_store_type: T::Ty, bit_order_type: T::Ty) -> TypeDefBitSequence<T>
+    /// The bit sequence with this store and order, in any form. The crate `scale-info` makes one in
+    /// the forms that it has alone, by `new` and `new_portable`.
+    pub fn of_types(bit_store_type: T::Ty, bit_order_type: T::Ty) -> TypeDefBitSequence<T>
         ensures store { result.bit_store_type ≡ bit_store_type }
         ensures order { result.bit_order_type ≡ bit_order_type }
     {

@@ -4,9 +4,9 @@ ghost use Rattle.scale_info_value.specs.declared.value.ValueError.TheVariants as
 ghost use Rattle.scale_info_value.specs.Outcomes.{error_of};
 
 pub use crate::decode::{decode_value, decode_value_by};
+use scale_info_collections::failure::AllocationFailure;
 use scale_info_collections::items::Items;
 use scale_info_collections::text::Text;
-use std::alloc::{AllocError, AllocFailed};
 use thiserror::Error;
 
 /// A value of some type, without the type.
@@ -88,18 +88,10 @@ impl From<Failure> for ValueError {
     }
 }
 
-impl From<AllocError> for ValueError {
+impl<F: AllocationFailure> From<F> for ValueError {
     ghost from_gives = { λ _ e. e ≡ error.Memory };
 
-    fn from(_e: AllocError) -> ValueError {
-        ValueError::Memory
-    }
-}
-
-impl<T: Drop> From<AllocFailed<T>> for ValueError {
-    ghost from_gives = { λ _ e. e ≡ error.Memory };
-
-    fn from(_e: AllocFailed<T>) -> ValueError {
+    fn from(_failure: F) -> ValueError {
         ValueError::Memory
     }
 }

@@ -3,7 +3,7 @@ ghost use Rattle.std.specs.Prelude.{◌≡◌};
 ghost use Rattle.scale_info_value_json.specs.declared.error.ValueJsonError.TheVariants as error;
 ghost use Rattle.scale_info_value_json.specs.Takers.{error_of};
 
-use std::alloc::{AllocError, AllocFailed};
+use scale_info_collections::failure::AllocationFailure;
 use thiserror::Error;
 
 /// Why a tree is no value of a type.
@@ -58,18 +58,10 @@ impl From<TreeRefusal> for ValueJsonError {
     }
 }
 
-impl From<AllocError> for ValueJsonError {
+impl<F: AllocationFailure> From<F> for ValueJsonError {
     ghost from_gives = { λ _ e. e ≡ error.Memory };
 
-    fn from(_e: AllocError) -> ValueJsonError {
-        ValueJsonError::Memory
-    }
-}
-
-impl<T: Drop> From<AllocFailed<T>> for ValueJsonError {
-    ghost from_gives = { λ _ e. e ≡ error.Memory };
-
-    fn from(_e: AllocFailed<T>) -> ValueJsonError {
+    fn from(_failure: F) -> ValueJsonError {
         ValueJsonError::Memory
     }
 }

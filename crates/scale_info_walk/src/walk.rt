@@ -13,8 +13,9 @@ ghost use Rattle.scale_info_walk.specs.declared.walk.RetainError.TheVariants as 
 
 use crate::graph::{References, TypeReferences};
 use crate::refs::Refs;
+use scale_info_collections::failure::AllocationFailure;
 use scale_info_types::ty::PortableType;
-use std::alloc::{AllocError, AllocFailed, Global};
+use std::alloc::Global;
 use thiserror::Error;
 
 /// The number of an index that has none: no order is so long.
@@ -37,18 +38,10 @@ pub enum RetainError {
     Memory,
 }
 
-impl From<AllocError> for RetainError {
+impl<F: AllocationFailure> From<F> for RetainError {
     ghost from_gives = { λ _ e. e ≡ retain.Memory };
 
-    fn from(_e: AllocError) -> RetainError {
-        RetainError::Memory
-    }
-}
-
-impl<T: Drop> From<AllocFailed<T>> for RetainError {
-    ghost from_gives = { λ _ e. e ≡ retain.Memory };
-
-    fn from(_e: AllocFailed<T>) -> RetainError {
+    fn from(_failure: F) -> RetainError {
         RetainError::Memory
     }
 }

@@ -2,8 +2,8 @@
 ghost use Rattle.std.specs.Prelude.{◌≡◌};
 ghost use Rattle.type_reader_io.specs.declared.error.ReaderError.TheVariants as error;
 
+use scale_info_collections::failure::AllocationFailure;
 use scale_info_collections::text::Text;
-use std::alloc::{AllocError, AllocFailed};
 use thiserror::Error;
 
 /// Why a text gives no value of a type.
@@ -73,18 +73,10 @@ pub enum ReaderError {
     Output,
 }
 
-impl From<AllocError> for ReaderError {
+impl<F: AllocationFailure> From<F> for ReaderError {
     ghost from_gives = { λ _ e. e ≡ error.Memory };
 
-    fn from(_e: AllocError) -> ReaderError {
-        ReaderError::Memory
-    }
-}
-
-impl<T: Drop> From<AllocFailed<T>> for ReaderError {
-    ghost from_gives = { λ _ e. e ≡ error.Memory };
-
-    fn from(_e: AllocFailed<T>) -> ReaderError {
+    fn from(_failure: F) -> ReaderError {
         ReaderError::Memory
     }
 }

@@ -2,7 +2,7 @@ use Rattle.std.proofs.Common.{arith}
 use Rattle.scale_info_bytes.proofs.Errors.{passed_malformed}
 use Rattle.scale_info_bytes.proofs.Steps.{no_next}
 use Rattle.scale_info_docs.proofs.Changes.{kept_after, next_item, no_items}
-use Rattle.scale_info_docs.proofs.Results.{err_is}
+use Rattle.scale_info_bytes.proofs.Results.{err_is}
 use Rattle.scale_info_docs.proofs.list.append_items.Goals as goal
 
 pub loop-init : goal.loop-init

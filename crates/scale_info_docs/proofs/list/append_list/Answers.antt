@@ -1,6 +1,6 @@
 use Rattle.scale_info_bytes.proofs.Lists.{no_count, no_items_after}
 use Rattle.scale_info_docs.proofs.Changes.{whole_list}
-use Rattle.scale_info_docs.proofs.Results.{ok_on, malformed_in}
+use Rattle.scale_info_bytes.proofs.Results.{ok_on, malformed_in}
 use Rattle.scale_info_docs.proofs.list.append_list.Goals as goal
 
 pub returns-in_ok-encode_compact-in-Some-clause-ok :

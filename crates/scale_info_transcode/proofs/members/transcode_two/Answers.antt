@@ -1,7 +1,7 @@
 use Rattle.scale_info_bytes.proofs.Errors.{passed_malformed}
 use Rattle.scale_info_bytes.proofs.Steps.{no_prefix_first, no_prefix_second, prefix_pair}
 use Rattle.scale_info_transcode.proofs.Objects.{two_rows}
-use Rattle.scale_info_transcode.proofs.Results.{malformed_in, ok_on}
+use Rattle.scale_info_bytes.proofs.Results.{malformed_in, ok_on}
 use Rattle.scale_info_transcode.proofs.members.transcode_two.Goals as goal
 
 pub returns-in_err-between-clause-malformed : goal.returns-in_err-between-clause-malformed

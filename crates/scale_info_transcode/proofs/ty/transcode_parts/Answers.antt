@@ -8,7 +8,7 @@ use Rattle.scale_info_bytes.proofs.Steps.{no_prefix_through}
 use Rattle.scale_info_grammar.specs.TyLaws.{tuple_of}
 use Rattle.scale_info_types.specs.declared.ty.TypeDef.TheVariants as def
 use Rattle.scale_info_transcode.proofs.Objects.{row_into}
-use Rattle.scale_info_transcode.proofs.Results.{malformed_in, ok_on}
+use Rattle.scale_info_bytes.proofs.Results.{malformed_in, ok_on}
 use Rattle.scale_info_transcode.proofs.ty.transcode_parts.Goals as goal
 
 pub returns-in-0 : goal.returns-in-0

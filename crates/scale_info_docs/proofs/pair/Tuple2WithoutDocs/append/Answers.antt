@@ -1,7 +1,7 @@
 use Rattle.scale_info_bytes.proofs.Errors.{passed_malformed}
 use Rattle.scale_info_bytes.proofs.Steps.{no_prefix_first, no_prefix_second}
 use Rattle.scale_info_docs.proofs.Changes.{both}
-use Rattle.scale_info_docs.proofs.Results.{ok_on, malformed_in}
+use Rattle.scale_info_bytes.proofs.Results.{ok_on, malformed_in}
 use Rattle.scale_info_docs.proofs.pair.Tuple2WithoutDocs.append.Goals as goal
 
 pub returns-in_err-rest-clause-malformed : goal.returns-in_err-rest-clause-malformed

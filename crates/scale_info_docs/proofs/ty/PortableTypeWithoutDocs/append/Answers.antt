@@ -3,7 +3,7 @@ use Rattle.scale_info_bytes.proofs.Steps.{no_prefix_through}
 use Rattle.scale_info_grammar.specs.Ty.{portable_type_parts}
 use Rattle.scale_info_grammar.specs.TyLaws.{entry_of}
 use Rattle.scale_info_docs.proofs.Changes.{made}
-use Rattle.scale_info_docs.proofs.Results.{ok_on, malformed_in}
+use Rattle.scale_info_bytes.proofs.Results.{ok_on, malformed_in}
 use Rattle.scale_info_docs.proofs.ty.PortableTypeWithoutDocs.append.Goals as goal
 
 pub returns-clause-ok : goal.returns-clause-ok

@@ -6,7 +6,7 @@ use Rattle.scale_info_grammar.proofs.Definitions.{no_prefix_definition}
 use Rattle.scale_info_grammar.specs.Ty.{composite, variant}
 use Rattle.scale_info_types.specs.declared.ty.TypeDef.TheVariants as def
 use Rattle.scale_info_docs.proofs.Definitions.{with_index}
-use Rattle.scale_info_docs.proofs.Results.{ok_on, malformed_in}
+use Rattle.scale_info_bytes.proofs.Results.{ok_on, malformed_in}
 use Rattle.scale_info_docs.proofs.ty.TypeDefPortableFormWithoutDocs.append.Goals as goal
 
 pub returns-in_ok-push-in-0-clause-ok : goal.returns-in_ok-push-in-0-clause-ok

@@ -2,7 +2,7 @@ use Rattle.std.proofs.Common.{refl}
 use Rattle.scale_info_bytes.proofs.Steps.{no_prefix_through}
 use Rattle.scale_info_grammar.specs.Ty.{variant_parts}
 use Rattle.scale_info_docs.proofs.Changes.{made}
-use Rattle.scale_info_docs.proofs.Results.{ok_on, malformed_in}
+use Rattle.scale_info_bytes.proofs.Results.{ok_on, malformed_in}
 use Rattle.scale_info_docs.proofs.ty.VariantPortableFormWithoutDocs.append.Goals as goal
 
 pub returns-clause-ok : goal.returns-clause-ok

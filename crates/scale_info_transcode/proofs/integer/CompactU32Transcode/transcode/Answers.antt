@@ -3,7 +3,7 @@ use Rattle.std.specs.Prelude.{IfErr}
 use Rattle.scale_info_bytes.proofs.Steps.{no_prefix_through}
 use Rattle.scale_info_bytes.specs.Encodings.{HasNoPrefix, HasPrefix, IfMalformed}
 use Rattle.scale_info_bytes.specs.Integers.{EncodesCompact}
-use Rattle.scale_info_transcode.proofs.Results.{malformed_in}
+use Rattle.scale_info_bytes.proofs.Results.{malformed_in}
 use Rattle.scale_info_transcode.proofs.integer.CompactU32Transcode.transcode.Goals as goal
 
 pub returns-in_err-value-clause-malformed : goal.returns-in_err-value-clause-malformed

@@ -1,4 +1,4 @@
-use Rattle.scale_info_transcode.proofs.Results.{ok_on}
+use Rattle.scale_info_bytes.proofs.Results.{ok_on}
 use Rattle.scale_info_transcode.proofs.list.ItemsTranscode.transcode.Goals as goal
 
 pub returns-clause-ok : goal.returns-clause-ok

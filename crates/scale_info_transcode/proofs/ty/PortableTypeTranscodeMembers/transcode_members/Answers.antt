@@ -3,7 +3,7 @@ use Rattle.scale_info_bytes.proofs.Steps.{no_prefix_through}
 use Rattle.scale_info_grammar.specs.Ty.{portable_type_parts}
 use Rattle.scale_info_grammar.specs.TyLaws.{entry_of}
 use Rattle.scale_info_transcode.proofs.Objects.{rows_into}
-use Rattle.scale_info_transcode.proofs.Results.{malformed_in, ok_on}
+use Rattle.scale_info_bytes.proofs.Results.{malformed_in, ok_on}
 use Rattle.scale_info_transcode.proofs.ty.PortableTypeTranscodeMembers.transcode_members.Goals as goal
 
 pub returns : goal.returns

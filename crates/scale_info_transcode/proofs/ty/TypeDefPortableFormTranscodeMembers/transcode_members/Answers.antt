@@ -2,7 +2,7 @@ use Rattle.std.proofs.Common.{arith, refl}
 use Rattle.scale_info_bytes.proofs.Index.{begins}
 use Rattle.scale_info_grammar.proofs.Definitions.{prefix_definition, no_prefix_definition}
 use Rattle.scale_info_transcode.proofs.Objects.{one_row}
-use Rattle.scale_info_transcode.proofs.Results.{malformed_in, ok_on}
+use Rattle.scale_info_bytes.proofs.Results.{malformed_in, ok_on}
 use Rattle.scale_info_transcode.proofs.ty.TypeDefPortableFormTranscodeMembers.transcode_members.Goals as goal
 
 pub returns-in-len1-up-clause-ok : goal.returns-in-len1-up-clause-ok

@@ -2,7 +2,7 @@ use Rattle.std.proofs.Common.{refl}
 use Rattle.scale_info_bytes.proofs.Steps.{no_prefix_through}
 use Rattle.scale_info_grammar.specs.TyLaws.{sequence_of}
 use Rattle.scale_info_transcode.proofs.Objects.{row_alone}
-use Rattle.scale_info_transcode.proofs.Results.{malformed_in, ok_on}
+use Rattle.scale_info_bytes.proofs.Results.{malformed_in, ok_on}
 use Rattle.scale_info_transcode.proofs.ty.TypeDefSequencePortableFormTranscodeMembers.transcode_members.Goals as goal
 
 pub returns : goal.returns

@@ -1,0 +1,10 @@
+use Rattle.std.proofs.Common.{map, take}
+use Rattle.scale_info_bytes.specs.Encodings.{AppendsEncoding}
+use Rattle.scale_info_bytes.specs.Parts.{EncodesItems}
+use Rattle.scale_info_meta_codec.proofs.list.encode_items.Given as goal
+
+abbrev pub invariant-loop-item : goal.invariant-loop-item
+invariant-loop-item g l =
+    AppendsEncoding
+    (EncodesItems g.T.EncodeWithIds.encodes (map (g.T.EncodeWithIds.portable l.ids) (take l.item-index l.items)))
+    l.fn.out.items l.out.items
