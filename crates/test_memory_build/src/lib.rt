@@ -2,7 +2,6 @@
 //! between marks.
 #![tactic(auto)]
 
-pub mod calls;
 pub mod constructors;
 pub mod descriptions;
 pub mod fields;

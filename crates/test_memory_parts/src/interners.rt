@@ -8,6 +8,7 @@ use test_common::held::Held;
 use test_common::parts::text;
 use test_common::rows::parted;
 use test_memory_common::answers::{printed, shown};
+use test_memory_common::marked;
 use test_memory_common::marks::{begin, end};
 use test_memory_common::outcomes::Outcome;
 use test_memory_common::texts::bracketed;
@@ -54,9 +55,7 @@ pub fn intern_or_get(rt: &HostRuntime, chars: &str) -> Result<Outcome, Fail> {
     let mut texts = Held(interner(rt.alloc(), FOUR)?);
     let value = text(rt.alloc(), chars)?;
     let before = state(rt.alloc(), &texts.0);
-    begin(rt);
-    let returned = texts.0.intern_or_get(value);
-    end(rt);
+    let returned = marked!(rt; texts.0.intern_or_get(value));
     let after = state(rt.alloc(), &texts.0);
     Outcome::lending(before, after, shown(rt.alloc(), numbered(returned)))
 }
@@ -64,9 +63,7 @@ pub fn intern_or_get(rt: &HostRuntime, chars: &str) -> Result<Outcome, Fail> {
 /// Interns texts, each of which is new or has a number.
 pub fn intern(rt: &HostRuntime, row: &str) -> Result<Outcome, Fail> {
     let mut texts = Held(Interner::new(rt.alloc()));
-    begin(rt);
-    let returned = intern_all(rt.alloc(), &mut texts.0, row);
-    end(rt);
+    let returned = marked!(rt; intern_all(rt.alloc(), &mut texts.0, row));
     Outcome::of(printed(rt.alloc(), returned))
 }
 

@@ -2,7 +2,6 @@
 #![tactic(auto)]
 
 pub mod asked;
-pub mod calls;
 pub mod copies;
 pub mod interners;
 pub mod lists;

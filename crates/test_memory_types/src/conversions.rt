@@ -12,28 +12,22 @@ use test_common::lists::{list_of, with};
 use test_common::rows::parted;
 use test_memory_common::answers::encoded;
 use test_memory_common::by_name::{Known, for_known_type, found};
-use test_memory_common::marks::{begin, end};
+use test_memory_common::marked;
 use test_memory_common::outcomes::Outcome;
 use test_memory_common::types::{description_named, type_named};
 
 /// Converts a value.
 fn convert<T: IntoPortable + Drop>(
     rt: &HostRuntime,
-    given: Given,
+    (mut registry, known): Given,
     value: Result<T, AllocError>,
 ) -> Result<Outcome, Fail>
 where
     T::Output: Scale,
 {
-    let Given {
-        mut registry,
-        known,
-    } = given;
     let value = value?;
     let before = state(rt.alloc(), &registry.0);
-    begin(rt);
-    let returned = value.into_portable(rt.alloc(), &mut registry.0, &known.0);
-    end(rt);
+    let returned = marked!(rt; value.into_portable(rt.alloc(), &mut registry.0, &known.0));
     let after = state(rt.alloc(), &registry.0);
     Outcome::lending(before, after, encoded(rt.alloc(), returned))
 }

@@ -1,0 +1,65 @@
+//! Values as JSON: their texts, and the values that are taken from trees.
+use crate::values::{Given, parts_of};
+use scale_info::PortableRegistry;
+use scale_info::value::{Dyn, encode_value, from_json};
+use scale_info::value_text::{ValueTextError, append_value_json, value_json};
+use serde_json::Value;
+use std::alloc::{AllocError, Global};
+use std::test::Fail;
+use test_common::held::Held;
+use test_memory_common::answers::{done, failed, shown};
+use test_memory_common::inputs::{output, table_of};
+use test_memory_common::marked;
+use test_memory_common::outcomes::Outcome;
+use test_memory_tables::json::appended;
+
+/// Appends the text of the value of a row to one byte.
+pub fn append(rt: &HostRuntime, row: &str) -> Result<Outcome, Fail> {
+    let given = Given::read(rt.alloc(), row)?;
+    let (table, id, input) = (&given.table.0, given.id, given.input.as_slice());
+    let mut out = output(rt.alloc())?;
+    let before = appended(rt.alloc(), &out)?;
+    let returned = marked!(rt; append_value_json(rt.alloc(), table, id, input, &mut out));
+    let after = appended(rt.alloc(), &out)?;
+    Outcome::lending(Ok(before), Ok(after), shown(rt.alloc(), returned))
+}
+
+/// The text of the bytes of a row as one value.
+pub fn text(rt: &HostRuntime, row: &str) -> Result<Outcome, Fail> {
+    let given = Given::read(rt.alloc(), row)?;
+    let table = &given.table.0;
+    let returned = marked!(rt; value_json(rt.alloc(), table, given.id, &given.input));
+    Outcome::of(match returned {
+        Ok(text) => done(Ok(text)),
+        Err(ValueTextError::Value(error)) => failed(rt.alloc(), &error),
+        Err(error) => failed(rt.alloc(), &error),
+    })
+}
+
+/// The encoding of a value in hexadecimal; of a value without an encoding the error.
+fn digits(
+    alloc: Global,
+    table: &PortableRegistry,
+    id: u32,
+    value: &Dyn,
+) -> Result<String, AllocError> {
+    let mut bytes = Vec::new(alloc);
+    match encode_value(table, id, value, &mut bytes) {
+        Ok(()) => hex::encode(alloc, bytes.as_slice()),
+        Err(error) => format!(in alloc; "{error:?}"),
+    }
+}
+
+/// Takes a value from the tree of a text, which a row has in the place of an input.
+pub fn take(rt: &HostRuntime, row: &str) -> Result<Outcome, Fail> {
+    let (id, table, text) = parts_of(row)?;
+    let id: u32 = id.parse()?;
+    let table = Held(table_of(rt.alloc(), table)?);
+    let tree = Held(Value::from_str(rt.alloc(), text)?);
+    let returned = marked!(rt; from_json(rt.alloc(), &table.0, id, &tree.0));
+    let answer = match returned {
+        Ok(value) => done(digits(rt.alloc(), &table.0, id, &value)),
+        Err(error) => failed(rt.alloc(), &error),
+    };
+    Outcome::of(answer)
+}

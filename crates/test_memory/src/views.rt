@@ -1,0 +1,151 @@
+//! Tables that stay bytes.
+use scale_info::form::PortableForm;
+use scale_info::view::TableView;
+use scale_info::{Items, Scale, Type};
+use std::alloc::{AllocError, Global};
+use std::test::Fail;
+use test_common::held::Held;
+use test_common::rows::{numbers, parted};
+use test_memory_common::answers::{Answer, digits, done, encoded, failed, shown};
+use test_memory_common::inputs::bytes_of;
+use test_memory_common::marked;
+use test_memory_common::marks::{begin, end};
+use test_memory_common::outcomes::Outcome;
+use test_memory_tables::bytes::with_rest;
+use test_memory_tables::prunings::walked;
+
+/// Makes the view of a table, and leaves out what comes after it.
+pub fn new(rt: &HostRuntime, row: &str) -> Result<Outcome, Fail> {
+    let bytes = bytes_of(rt.alloc(), row)?;
+    let answer = match marked!(rt; TableView::new(rt.alloc(), &bytes)) {
+        Ok(view) => done(hex::encode(rt.alloc(), view.as_bytes())),
+        Err(error) => failed(rt.alloc(), &error),
+    };
+    Outcome::of(answer)
+}
+
+/// Makes the view of a table, and returns what comes after it.
+pub fn decode(rt: &HostRuntime, row: &str) -> Result<Outcome, Fail> {
+    let bytes = bytes_of(rt.alloc(), row)?;
+    let answer = match marked!(rt; TableView::decode(rt.alloc(), &bytes)) {
+        Ok((view, rest)) => done(with_rest(hex::encode(rt.alloc(), view.as_bytes()), rest)),
+        Err(error) => failed(rt.alloc(), &error),
+    };
+    Outcome::of(answer)
+}
+
+/// Makes the table of a view.
+pub fn to_owned(rt: &HostRuntime, row: &str) -> Result<Outcome, Fail> {
+    let bytes = bytes_of(rt.alloc(), row)?;
+    let view = TableView::new(rt.alloc(), &bytes)?;
+    let returned = marked!(rt; view.try_to_owned(rt.alloc()));
+    Outcome::of(encoded(rt.alloc(), returned))
+}
+
+/// The index and the bytes of a row, with a colon between them.
+fn indexed(alloc: Global, row: &str) -> Result<(u32, Vec<u8>), Fail> {
+    let (index, input) = parted(row, ':')?;
+    Ok((index.parse()?, bytes_of(alloc, input.trim())?))
+}
+
+/// The answer of a part that may be there, which is shown by its encoding.
+fn found<T: Scale>(
+    alloc: Global,
+    returned: Result<Option<T>, AllocError>,
+) -> Result<Answer, AllocError> {
+    match returned {
+        Ok(Some(part)) => done(digits(alloc, &part)),
+        Ok(None) => done(String::from_str(alloc, "none")),
+        Err(error) => failed(alloc, &error),
+    }
+}
+
+/// Reads the description at an index.
+pub fn resolve(rt: &HostRuntime, row: &str) -> Result<Outcome, Fail> {
+    let (index, bytes) = indexed(rt.alloc(), row)?;
+    let view = TableView::new(rt.alloc(), &bytes)?;
+    let returned = marked!(rt; view.resolve(rt.alloc(), index));
+    Outcome::of(found(rt.alloc(), returned))
+}
+
+/// Reads the entry at an index.
+pub fn entry(rt: &HostRuntime, row: &str) -> Result<Outcome, Fail> {
+    let (index, bytes) = indexed(rt.alloc(), row)?;
+    let view = TableView::new(rt.alloc(), &bytes)?;
+    let returned = marked!(rt; view.entry(rt.alloc(), index as usize));
+    Outcome::of(found(rt.alloc(), returned))
+}
+
+/// Gathers the references of the entry at an index.
+pub fn references(rt: &HostRuntime, row: &str) -> Result<Outcome, Fail> {
+    let (index, bytes) = indexed(rt.alloc(), row)?;
+    let view = TableView::new(rt.alloc(), &bytes)?;
+    let returned = marked!(rt; view.references(rt.alloc(), index));
+    Outcome::of(shown(rt.alloc(), returned))
+}
+
+/// The descriptions of a view, up to the first error.
+fn descriptions(
+    alloc: Global,
+    view: &TableView<'_>,
+) -> Result<Items<Type<PortableForm>>, AllocError> {
+    let mut all = Held(Vec::new(alloc));
+    for entry in view.entries(alloc) {
+        let (_, ty) = entry?;
+        all.0.push(ty)?;
+    }
+    Ok(Items::from(all.into_inner()))
+}
+
+/// Lists the descriptions of a table.
+pub fn entries(rt: &HostRuntime, row: &str) -> Result<Outcome, Fail> {
+    let bytes = bytes_of(rt.alloc(), row)?;
+    let view = TableView::new(rt.alloc(), &bytes)?;
+    let returned = marked!(rt; descriptions(rt.alloc(), &view));
+    Outcome::of(encoded(rt.alloc(), returned))
+}
+
+/// The ids and the bytes of a row, with a colon between them.
+pub fn ids_and_bytes(alloc: Global, row: &str) -> Result<(Vec<u32>, Vec<u8>), Fail> {
+    let (ids, input) = parted(row, ':')?;
+    Ok((numbers(alloc, ids)?, bytes_of(alloc, input.trim())?))
+}
+
+/// Numbers what entries reach: before the colon stand the roots.
+pub fn number(rt: &HostRuntime, row: &str) -> Result<Outcome, Fail> {
+    let (roots, bytes) = ids_and_bytes(rt.alloc(), row)?;
+    let view = TableView::new(rt.alloc(), &bytes)?;
+    let returned = marked!(rt; view.number(rt.alloc(), &roots));
+    walked(rt.alloc(), returned)
+}
+
+/// The words of a text, in order.
+fn words(alloc: Global, text: &str) -> Result<Vec<&str>, AllocError> {
+    let mut all = Vec::new(alloc);
+    for word in text.split_whitespace() {
+        all.push(word)?;
+    }
+    Ok(all)
+}
+
+/// Finds the first entry of a path, whose segments stand before the colon.
+pub fn find_by_path(rt: &HostRuntime, row: &str) -> Result<Outcome, Fail> {
+    let (path, input) = parted(row, ':')?;
+    let (path, bytes) = (
+        words(rt.alloc(), path)?,
+        bytes_of(rt.alloc(), input.trim())?,
+    );
+    let view = TableView::new(rt.alloc(), &bytes)?;
+    let found = marked!(rt; view.find_by_path(&path));
+    Outcome::of(done(format!(in rt.alloc(); "{found:?}")))
+}
+
+/// Asks a view for what it has.
+pub fn look(rt: &HostRuntime, row: &str) -> Result<Outcome, Fail> {
+    let bytes = bytes_of(rt.alloc(), row)?;
+    let view = TableView::new(rt.alloc(), &bytes)?;
+    begin(rt);
+    let (len, is_empty, is_closed) = (view.len(), view.is_empty(), view.is_closed());
+    end(rt);
+    Outcome::of(done(format!(in rt.alloc(); "{len} {is_empty} {is_closed}")))
+}
