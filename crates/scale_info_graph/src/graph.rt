@@ -17,7 +17,7 @@ use std::alloc::{AllocError, Global};
 /// Graphviz draws.
 ///
 /// Each type that is reached has a node, whose name is the type's id and whose label is the id and
-/// the type's name, as `name_of` writes it. Behind the node come the type's edges, one for each of
+/// the type's name, as `name_of` writes it. After the node come the type's edges, one for each of
 /// its references, in order: a type that refers to another one twice has two edges to it. The types
 /// come in depth-first order of discovery from the chosen ids, in which each stands once. An id is
 /// an index of the table.

@@ -61,8 +61,8 @@ fn append_node(out: &mut String, digits: &str, name: &str) -> Result<(), AllocEr
     append_pieces(out, &["\"];\n"])
 }
 
-/// Appends the lines of the edges of a type, given the digits of its id. On an error a part may have
-/// been appended.
+/// Appends the lines of the edges of a type, given the digits of its id. On an error a part may
+/// have been appended.
 fn append_references(
     alloc: Global,
     out: &mut String,
@@ -88,7 +88,8 @@ fn append_edges(
     references: Vec<&UntrackedSymbol<TypeId>>,
 ) -> Result<(), AllocError>
     ensures ok { Appends result out.old out.new
-        (flat_map (λ reference. edge_line digits.now reference.id) (targets references.entry.items)) }
+        (flat_map (λ reference. edge_line digits.now reference.id)
+        (targets references.entry.items)) }
     ensures keeps { GoesOn (string_bytes out.old) (string_bytes out.new) }
 {
     for reference in references {
