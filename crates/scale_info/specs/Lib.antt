@@ -69,6 +69,7 @@ pub use Rattle.scale_info_tables.specs.IndexedEntries
 pub use Rattle.scale_info_describe.specs.TypeNames
 pub use Rattle.scale_info_describe.specs.TypeDeclarations
 pub use Rattle.scale_info_describe.specs.PathSearches
+pub use Rattle.scale_info_graph.specs.GraphTexts
 pub use Rattle.scale_info_view.specs.ViewEntries
 pub use Rattle.scale_info_view.specs.Views
 pub use Rattle.scale_info_tables.specs.TableExamples

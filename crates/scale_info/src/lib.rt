@@ -3,6 +3,7 @@
 
 pub mod describe;
 pub mod export;
+pub mod graph;
 pub mod impls;
 pub mod laws;
 pub mod macros;

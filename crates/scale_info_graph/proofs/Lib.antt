@@ -1,0 +1,4 @@
+pub mod Cuts
+pub mod Edges
+pub mod Inside
+pub mod Labels

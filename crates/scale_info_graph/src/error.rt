@@ -1,0 +1,31 @@
+//! Why a graph could not be written.
+ghost use Rattle.std.specs.Prelude.{◌≡◌};
+ghost use Rattle.scale_info_graph.specs.declared.error.GraphError.TheVariants as graph_error;
+
+use scale_info_collections::failure::AllocationFailure;
+use thiserror::Error;
+
+/// Why a graph could not be written. It is displayed as the name of the variant alone.
+#[derive(Debug, Drop, PartialEq, Eq, Error)]
+pub enum GraphError {
+    /// An id is reached that is no index of the table.
+    #[error("Dangling")]
+    Dangling {
+        /// The first such id that the walk came to.
+        id: u32,
+    },
+    /// The table has more than 4294967295 entries.
+    #[error("TooManyTypes")]
+    TooManyTypes,
+    /// An allocation failed.
+    #[error("Memory")]
+    Memory,
+}
+
+impl<F: AllocationFailure> From<F> for GraphError {
+    ghost from_gives = { λ _ e. e ≡ graph_error.Memory };
+
+    fn from(_failure: F) -> GraphError {
+        GraphError::Memory
+    }
+}
