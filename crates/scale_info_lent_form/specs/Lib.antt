@@ -1,0 +1,2 @@
+pub mod LentDescriptions
+pub mod LentTables
