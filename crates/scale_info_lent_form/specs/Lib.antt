@@ -1,2 +1,2 @@
-pub mod LentDescriptions
-pub mod LentTables
+pub mod OwnedDescriptions
+pub mod OwnedParts

@@ -1,12 +1,13 @@
-//! Descriptions whose strings stay in the bytes that they were read from.
+//! Descriptions whose strings stay in the bytes that they were decoded from.
 #![tactic(auto)]
 
+mod decode;
 pub mod form;
+mod integer;
+pub mod laws;
 mod list;
 mod option;
 mod pair;
-mod part;
-mod read;
 pub mod table;
 mod ty;
 

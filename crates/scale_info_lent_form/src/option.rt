@@ -3,29 +3,34 @@ ghost use Rattle.scale_info_bytes.specs.PartLaws.{option_law};
 ghost use Rattle.scale_info_bytes.specs.Parts.{EncodesOption};
 ghost use Rattle.std.specs.Prelude.{Option, option_map};
 
-use crate::read::Read;
+use crate::decode::{DecodeLent, Encoded};
 use scale_info_bytes::error::DecodeError;
 use std::alloc::Global;
 
-impl<'i, R: Read<'i>> Read<'i> for Option<R> {
-    type Value = Option<R::Value>;
+impl<T: Encoded> Encoded for Option<T> {
+    type Value = Option<T::Value>;
 
-    ghost Portable = { Option R.Portable };
+    ghost Owned = { Option T.Owned };
 
-    ghost portable = { option_map R.portable };
+    ghost owned = { option_map T.owned };
 
-    ghost encodes = { EncodesOption R.encodes };
+    ghost encodes = { EncodesOption T.encodes };
 
-    fn read(alloc: Global, input: &'i [u8]) -> Result<(Option<R::Value>, &'i [u8]), DecodeError> {
+    ghost law = { option_law T.law };
+}
+
+impl<'i, T: DecodeLent<'i>> DecodeLent<'i> for Option<T> {
+    fn decode_lent(
+        alloc: Global,
+        input: &'i [u8],
+    ) -> Result<(Option<T::Value>, &'i [u8]), DecodeError> {
         match input {
             [0, rest @ ..] => Ok((None, rest)),
             [1, rest @ ..] => {
-                let (value, rest) = R::read(alloc, rest)?;
+                let (value, rest) = T::decode_lent(alloc, rest)?;
                 Ok((Some(value), rest))
             }
             _ => Err(DecodeError::Malformed),
         }
     }
-
-    ghost law = { option_law R.law };
 }

@@ -1,94 +1,141 @@
-//! Tables whose strings stay in the bytes that they were read from.
+//! Tables whose strings stay in the bytes that they were decoded from.
 ghost use Rattle.scale_info_bytes.specs.Encodings.{HasNoPrefix, HasPrefix, IfMalformed};
 ghost use Rattle.scale_info_grammar.specs.Ty.{EncodesPortableType, EncodesTypes};
 ghost use Rattle.scale_info_grammar.specs.TyLaws.{portable_type_law};
-ghost use Rattle.scale_info_lent_form.specs.LentTables.{entry_of, entries_of};
+ghost use Rattle.scale_info_lent_form.specs.OwnedDescriptions.{owned_description, owned_entry};
 ghost use Rattle.scale_info_types.specs.declared.ty.PortableType as portable_types;
 ghost use Rattle.std.specs.Option.{option_copied};
-ghost use Rattle.std.specs.Prelude.{◌≡◌, IfErr, IfOk, length, option_map, slice_get};
+ghost use Rattle.std.specs.Prelude.{◌≡◌, ◌↔◌, ℕ, List, [], IfErr, IfOk, IsTrue, length, map};
+ghost use Rattle.std.specs.Prelude.{option_map, slice_get};
 
+use crate::decode::{DecodeLent, Encoded};
 use crate::form::LentForm;
-use crate::read::Read;
 use scale_info_bytes::error::DecodeError;
 use scale_info_collections::items::Items;
 use scale_info_type_ids::impls::Compact;
 use scale_info_types::ty::Type;
 use std::alloc::Global;
+use std::marker::Model;
 
-/// An entry of a table, whose strings stay in the bytes that it was read from.
+/// An entry of a table, whose strings stay in the bytes that it was decoded from.
 #[derive(Drop)]
 pub struct LentEntry<'i> {
-    /// The entry's id, as it was read. Nothing goes by it.
+    /// The entry's id, as it was read. Nothing goes by it: a reference goes by the index of the
+    /// entry.
     pub id: u32,
     /// The description.
     pub ty: Type<LentForm<'i>>,
 }
 
-/// A table whose strings stay in the bytes that it was read from.
+/// A table whose strings stay in the bytes that it was decoded from.
 ///
-/// It takes about half the time of a [`PortableRegistry`] to read, and no memory for strings.
+/// Contracts see it as the list of its entries, each with its strings owned: the entries of the
+/// table that `PortableRegistry::decode` returns.
 ///
 /// ```text
-/// let (table, rest) = LentTable::decode(alloc, &bytes)?;
-/// table.resolve(0)  // the first description
+/// let table = LentTable::new(alloc, &bytes)?;
+/// table.resolve(0)  // Some: the first description, whose strings stay in the bytes
 /// ```
 #[derive(Drop)]
 pub struct LentTable<'i> {
-    /// The entries, in order.
-    pub types: Items<LentEntry<'i>>,
+    types: Items<LentEntry<'i>>,
+}
+
+impl<'i> Model for LentTable<'i> {
+    ghost use Rattle.std.specs.Prelude.{List, map};
+    ghost use Rattle.scale_info_lent_form.specs.OwnedDescriptions.{owned_entry};
+    ghost use Rattle.scale_info_types.specs.declared.ty.PortableType.{PortableType};
+
+    ghost Value = { List PortableType };
+
+    ghost view = { λ table. map owned_entry table.types };
 }
 
 impl<'i> LentTable<'i> {
-    /// Decodes one table from the start of the input and returns the rest. The strings of the table
-    /// stay in the input.
+    /// The table at the start of the bytes; what comes after the table is left out.
     ///
-    /// It is the table that `PortableRegistry::decode` returns, and it fails where that does.
+    /// Errors: as those of [`decode`](LentTable::decode).
+    pub fn new(alloc: Global, bytes: &'i [u8]) -> Result<LentTable<'i>, DecodeError>
+        ensures ok { IfOk result
+            (λ table. (rest : List ℕ) × HasPrefix (EncodesTypes table) bytes.now rest) }
+        ensures malformed { IfErr result (IfMalformed (HasNoPrefix EncodesTypes bytes.now)) }
+    {
+        let (table, _) = LentTable::decode(alloc, bytes)?;
+        Ok(table)
+    }
+
+    /// Decodes one table from the start of the input and returns the rest. Strings stay in the
+    /// input.
+    ///
+    /// It decodes what `PortableRegistry::decode` decodes, and returns the same rest. References
+    /// aren't followed, and `id` fields aren't compared with indices. Allocates for items already
+    /// decoded, never for an announced count.
     ///
     /// Errors: `Malformed`, where no prefix of the input encodes a table; `Memory`, where an
     /// allocation failed.
     pub fn decode(alloc: Global, input: &'i [u8]) -> Result<(LentTable<'i>, &'i [u8]), DecodeError>
-        ensures ok { IfOk result (λ found.
-            HasPrefix (EncodesTypes (entries_of found.0.types)) input.now found.1.now) }
+        ensures ok { IfOk result (λ found. HasPrefix (EncodesTypes found.0) input.now found.1.now) }
         ensures malformed { IfErr result (IfMalformed (HasNoPrefix EncodesTypes input.now)) }
     {
-        let (types, rest) = Items::<LentEntry<'i>>::read(alloc, input)?;
+        let (types, rest) = Items::<LentEntry<'i>>::decode_lent(alloc, input)?;
         Ok((LentTable { types }, rest))
     }
 
     /// The description at index `id`, counted from 0; None past the end.
+    ///
+    /// An id is an index, not the `id` field of an entry, which may be any number.
     pub fn resolve(&self, id: u32) -> Option<&Type<LentForm<'i>>>
-        ensures { option_copied result
-            ≡ option_map (λ entry. entry.ty) (slice_get self.now.types id) }
+        ensures { option_map owned_description (option_copied result)
+            ≡ option_map (λ entry. entry.ty) (slice_get self.now id) }
     {
-        match self.types.get(id as usize) {
-            Some(entry) => Some(&entry.ty),
-            None => None,
-        }
+        self.types
+            .as_slice()
+            .get(id as usize)
+            .map(|entry| &entry.ty)
     }
 
     /// The number of entries.
     pub fn len(&self) -> usize
-        ensures { result ≡ length self.now.types }
+        ensures { result ≡ length self.now }
     {
         self.types.len()
     }
+
+    /// Whether there is no entry.
+    pub fn is_empty(&self) -> bool
+        ensures { IsTrue result ↔ (self.now ≡ []) }
+    {
+        self.types.is_empty()
+    }
+
+    /// The entries, in order.
+    pub fn types(&self) -> &[LentEntry<'i>]
+        ensures { map owned_entry result.now ≡ self.now }
+    {
+        self.types.as_slice()
+    }
 }
 
-impl<'i> Read<'i> for LentEntry<'i> {
+impl<'i> Encoded for LentEntry<'i> {
     type Value = LentEntry<'i>;
 
-    ghost Portable = { portable_types.PortableType };
+    ghost Owned = { portable_types.PortableType };
 
-    ghost portable = { entry_of };
+    ghost owned = { owned_entry };
 
     ghost encodes = { EncodesPortableType };
 
-    fn read(alloc: Global, input: &'i [u8]) -> Result<(LentEntry<'i>, &'i [u8]), DecodeError> {
-        let (integer, rest) = Compact::<u32>::read(alloc, input)?;
-        let (ty, rest) = Type::<LentForm<'i>>::read(alloc, rest)?;
+    ghost law = { portable_type_law };
+}
+
+impl<'i> DecodeLent<'i> for LentEntry<'i> {
+    fn decode_lent(
+        alloc: Global,
+        input: &'i [u8],
+    ) -> Result<(LentEntry<'i>, &'i [u8]), DecodeError> {
+        let (integer, rest) = Compact::<u32>::decode_lent(alloc, input)?;
+        let (ty, rest) = Type::<LentForm<'i>>::decode_lent(alloc, rest)?;
         let Compact(id) = integer;
         Ok((LentEntry { id, ty }, rest))
     }
-
-    ghost law = { portable_type_law };
 }
