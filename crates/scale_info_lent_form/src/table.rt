@@ -88,10 +88,10 @@ impl<'i> LentTable<'i> {
         ensures { option_map owned_description (option_copied result)
             ≡ option_map (λ entry. entry.ty) (slice_get self.now id) }
     {
-        self.types
-            .as_slice()
-            .get(id as usize)
-            .map(|entry| &entry.ty)
+        match self.types.get(id as usize) {
+            Some(entry) => Some(&entry.ty),
+            None => None,
+        }
     }
 
     /// The number of entries.
