@@ -1,7 +1,7 @@
 //! Descriptions whose strings stay in the bytes that they were decoded from.
 #![tactic(auto)]
 
-mod decode;
+pub mod decode;
 pub mod form;
 mod integer;
 pub mod laws;
@@ -11,6 +11,7 @@ mod pair;
 pub mod table;
 mod ty;
 
+pub use decode::decode_type;
 pub use form::LentForm;
 pub use scale_info_bytes::error::DecodeError;
 pub use table::{LentEntry, LentTable};

@@ -8,7 +8,7 @@ ghost use Rattle.std.specs.Option.{option_copied};
 ghost use Rattle.std.specs.Prelude.{◌≡◌, ◌↔◌, ℕ, List, [], IfErr, IfOk, IsTrue, length, map};
 ghost use Rattle.std.specs.Prelude.{option_map, slice_get};
 
-use crate::decode::{DecodeLent, Encoded};
+use crate::decode::{DecodeLent, Encoded, decode_type};
 use crate::form::LentForm;
 use scale_info_bytes::error::DecodeError;
 use scale_info_collections::items::Items;
@@ -134,7 +134,7 @@ impl<'i> DecodeLent<'i> for LentEntry<'i> {
         input: &'i [u8],
     ) -> Result<(LentEntry<'i>, &'i [u8]), DecodeError> {
         let (integer, rest) = Compact::<u32>::decode_lent(alloc, input)?;
-        let (ty, rest) = Type::<LentForm<'i>>::decode_lent(alloc, rest)?;
+        let (ty, rest) = decode_type(alloc, rest)?;
         let Compact(id) = integer;
         Ok((LentEntry { id, ty }, rest))
     }
