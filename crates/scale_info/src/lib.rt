@@ -5,6 +5,7 @@ pub mod describe;
 pub mod export;
 pub mod impls;
 pub mod laws;
+pub mod lent_form;
 pub mod macros;
 pub mod meta_type;
 pub mod metadata;
