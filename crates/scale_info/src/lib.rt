@@ -6,6 +6,7 @@ pub mod export;
 pub mod graph;
 pub mod impls;
 pub mod laws;
+pub mod lent_form;
 pub mod macros;
 pub mod meta_type;
 pub mod metadata;

@@ -1,0 +1,19 @@
+use Rattle.scale_info_bytes.proofs.Errors.{passed_malformed}
+use Rattle.scale_info_bytes.proofs.Steps.{no_prefix_first, no_prefix_second, prefix_pair}
+use Rattle.scale_info_lent_form.proofs.pair.Tuple2DecodeLent.decode_lent.Goals as goal
+
+pub returns-in_err-first-clause-malformed : goal.returns-in_err-first-clause-malformed
+returns-in_err-first-clause-malformed g c =
+    passed_malformed c.from_residual.result c.in_err-first.field-0.0 c.from_residual.ensures.1
+    (λ n. no_prefix_first n) c.in_err-first.ensures.malformed
+
+pub returns-in_err-second-clause-malformed : goal.returns-in_err-second-clause-malformed
+returns-in_err-second-clause-malformed g c =
+    passed_malformed c.from_residual-in_err-second.result c.in_err-second.field-0.0
+    c.from_residual-in_err-second.ensures.1
+    (λ n.
+    no_prefix_second g.A.Encoded.law c.in_ok-first.ensures.ok n)
+    c.in_err-second.ensures.malformed
+
+pub returns-clause-ok : goal.returns-clause-ok
+returns-clause-ok g c = prefix_pair c.in_ok-first.ensures.ok c.in_ok-second.ensures.ok

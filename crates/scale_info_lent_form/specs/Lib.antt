@@ -1,0 +1,2 @@
+pub mod OwnedDescriptions
+pub mod OwnedParts

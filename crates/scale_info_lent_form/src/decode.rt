@@ -1,0 +1,68 @@
+//! Decoding from bytes in which the strings stay.
+ghost use Rattle.scale_info_bytes.specs.Encodings.{HasNoPrefix, HasPrefix, IfMalformed};
+ghost use Rattle.scale_info_bytes.specs.Encodings.{IsEncoding};
+ghost use Rattle.scale_info_grammar.specs.Ty.{EncodesDescription};
+ghost use Rattle.scale_info_lent_form.specs.OwnedDescriptions.{owned_description};
+ghost use Rattle.std.specs.Prelude.{ℕ, List, IfErr, IfOk};
+
+use crate::form::LentForm;
+use scale_info_bytes::error::DecodeError;
+use scale_info_types::ty::Type;
+use std::alloc::Global;
+
+/// Decodes one description from the start of the input, and returns the rest. The strings of the
+/// description stay in the input.
+///
+/// It decodes what `Scale::decode_from` decodes of a description that owns its strings, and returns
+/// the same rest. Allocates for items already decoded, never for an announced count.
+///
+/// Errors: `Malformed`, if no prefix of the input encodes a description; `Memory`, if an allocation
+/// failed.
+///
+/// ```text
+/// let (ty, rest) = decode_type(alloc, &[0, 0, 5, 5, 0])?;  // `u32`, and nothing left
+/// ```
+pub fn decode_type<'i>(
+    alloc: Global,
+    input: &'i [u8],
+) -> Result<(Type<LentForm<'i>>, &'i [u8]), DecodeError>
+    ensures ok { IfOk result (λ found.
+        HasPrefix (EncodesDescription (owned_description found.0)) input.now found.1.now) }
+    ensures malformed { IfErr result (IfMalformed (HasNoPrefix EncodesDescription input.now)) }
+{
+    Type::<LentForm<'i>>::decode_lent(alloc, input)
+}
+
+/// A part of a description that has an encoding. A type stands for values of its own, but for
+/// [`TypeOf`](crate::form::TypeOf) and [`StringOf`](crate::form::StringOf), which stand for the
+/// types and the strings of a form.
+pub(crate) trait Encoded {
+    /// A value of the part.
+    type Value: Drop;
+
+    /// A value that owns its strings.
+    ghost Owned: { Type 0 };
+
+    /// The value with its strings owned.
+    ghost owned: { Self.Value → Owned };
+
+    /// The whole list of bytes encodes the value.
+    ghost encodes: { Owned → List ℕ → Type 0 };
+
+    /// A value has one encoding at most, no encoding is a proper prefix of another, and an encoding
+    /// is made of bytes.
+    ghost law: { IsEncoding encodes };
+}
+
+/// A part of a description that is decoded from bytes in which its strings stay.
+pub(crate) trait DecodeLent<'i>: Encoded {
+    /// Decodes one value from the start of the input, and returns the rest. Strings stay in the
+    /// input. Allocates for items already decoded, never for an announced count.
+    ///
+    /// Errors: `Malformed`, if no prefix of the input encodes a value; `Memory`, if an allocation
+    /// failed.
+    fn decode_lent(alloc: Global, input: &'i [u8]) -> Result<(Self::Value, &'i [u8]), DecodeError>
+        ensures ok { IfOk result
+            (λ found. HasPrefix (Self.encodes (Self.owned found.0)) input.now found.1.now) }
+        ensures malformed { IfErr result (IfMalformed (HasNoPrefix Self.encodes input.now)) };
+}

@@ -1,0 +1,17 @@
+//! Descriptions whose strings stay in the bytes that they were decoded from.
+#![tactic(auto)]
+
+pub mod decode;
+pub mod form;
+mod integer;
+pub mod laws;
+mod list;
+mod option;
+mod pair;
+pub mod table;
+mod ty;
+
+pub use decode::decode_type;
+pub use form::LentForm;
+pub use scale_info_bytes::error::DecodeError;
+pub use table::{LentEntry, LentTable};
