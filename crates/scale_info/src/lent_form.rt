@@ -2,4 +2,5 @@
 
 pub use scale_info_lent_form::decode::decode_type;
 pub use scale_info_lent_form::form::LentForm;
+pub use scale_info_lent_form::owned::owned_type;
 pub use scale_info_lent_form::table::{LentEntry, LentTable};

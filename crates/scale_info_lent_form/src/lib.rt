@@ -7,11 +7,13 @@ mod integer;
 pub mod laws;
 mod list;
 mod option;
+pub mod owned;
 mod pair;
 pub mod table;
 mod ty;
 
 pub use decode::decode_type;
 pub use form::LentForm;
+pub use owned::owned_type;
 pub use scale_info_bytes::error::DecodeError;
 pub use table::{LentEntry, LentTable};

@@ -10,11 +10,12 @@ ghost use Rattle.std.specs.Prelude.{option_map, slice_get};
 
 use crate::decode::{DecodeLent, Encoded, decode_type};
 use crate::form::LentForm;
+use crate::owned::{TryToOwned, owned_type};
 use scale_info_bytes::error::DecodeError;
 use scale_info_collections::items::Items;
 use scale_info_type_ids::impls::Compact;
-use scale_info_types::ty::Type;
-use std::alloc::Global;
+use scale_info_types::ty::{PortableType, Type};
+use std::alloc::{AllocError, Global};
 use std::marker::Model;
 
 /// An entry of a table, whose strings stay in the bytes that it was decoded from.
@@ -108,6 +109,16 @@ impl<'i> LentTable<'i> {
         self.types.is_empty()
     }
 
+    /// The entries with copies of their strings: those of the table that `PortableRegistry::decode`
+    /// returns.
+    ///
+    /// Errors: `AllocError`, where an allocation failed.
+    pub fn try_to_owned(&self, alloc: Global) -> Result<Items<PortableType>, AllocError>
+        ensures { IfOk result (λ types. types ≡ self.now) }
+    {
+        self.types.try_to_owned(alloc)
+    }
+
     /// The entries, in order.
     pub fn types(&self) -> &[LentEntry<'i>]
         ensures { map owned_entry result.now ≡ self.now }
@@ -137,5 +148,15 @@ impl<'i> DecodeLent<'i> for LentEntry<'i> {
         let (ty, rest) = decode_type(alloc, rest)?;
         let Compact(id) = integer;
         Ok((LentEntry { id, ty }, rest))
+    }
+}
+
+impl<'i> TryToOwned for LentEntry<'i> {
+    type Owned = PortableType;
+
+    ghost owned = { owned_entry };
+
+    fn try_to_owned(&self, alloc: Global) -> Result<PortableType, AllocError> {
+        Ok(PortableType::new(self.id, owned_type(alloc, &self.ty)?))
     }
 }
