@@ -1,5 +1,5 @@
 -- The first line of an input, and those after it.
-use Rattle.std.proofs.Common.{◌≡◌, ◌≢◌, ◌⊎◌, ℕ, zero, suc, ◌+◌, ◌-◌, ◌<◌, ◌==◌, ◌&&◌, eqb, ltb, Bool}
+use Rattle.std.proofs.Common.{◌≡◌, ◌≢◌, ◌⊎◌, ℕ, suc, ◌-◌, ◌<◌, ◌==◌, ◌&&◌, eqb, ltb, Bool}
 use Rattle.std.proofs.Common.{true, false, cond, List, [], ◌∷◌, ◌++◌, ◌∙◌, length, take, get_or, refl}
 use Rattle.std.proofs.Common.{sym, ap, subst, arith, inl, inr, lt-ltb, eqb-true, eq-eqb, ne_eqb}
 use Rattle.std.proofs.Common.{append_assoc, append-nil, drop, length-append, take-append-drop}

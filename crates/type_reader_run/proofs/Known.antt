@@ -4,7 +4,7 @@ use Rattle.std.specs.Io.KnownBytes.{Appends, Keeps}
 use Rattle.type_reader_io.specs.declared.error.ReaderError.{ReaderError}
 use Rattle.type_reader_io.specs.declared.error.ReaderError.TheVariants as errors
 use Rattle.type_reader_io.specs.declared.command.Request.{Request}
-use Rattle.type_reader_run.specs.Outputs.{HasOutput, MakesOf, Writes, WritesPrefix}
+use Rattle.type_reader_run.specs.Outputs.{HasOutput, MakesOf, WritesPrefix, WritesWhole}
 use Rattle.type_reader_run.specs.Refusals.{Explains, IsMakingError, IsRequestError}
 use Rattle.type_reader_run.specs.Tables.{input_bytes, is_hexadecimal}
 use Rattle.type_table_io.specs.Reports.{AppendsPrefix}
@@ -24,15 +24,17 @@ pub written :
     (form : Bool) (bytes output notes : List ℕ)
     → IfSome known (λ b. input ≡ b) → bytes ≡ input_bytes input → form ≡ is_hexadecimal input
     → MakesOf request form bytes output notes → Appends old new output
-    → IfSome known (Writes request old new notes)
-written request old new input None form bytes output notes whole is is_form made appends = tt
-written request old new input (Some b) form bytes output notes whole is is_form made appends =
+    → WritesWhole request known old new notes
+written request old new input known form bytes output notes whole is is_form made appends =
     record {
-      output = output;
-      has_output =
-          subst (λ i. HasOutput request i output notes) whole
-          (has_output request input form bytes output notes is is_form made);
-      appends = appends;
+      whole = input;
+      is_whole = whole;
+      writes =
+          record {
+            output = output;
+            has_output = has_output request input form bytes output notes is is_form made;
+            appends = appends;
+          };
     }
 
 -- a prefix of the output was written

@@ -1,3 +1,4 @@
+pub mod Explained
 pub mod Faults
 pub mod Known
 pub mod Outcomes

@@ -1,6 +1,6 @@
 -- Texts that were reported, one after another.
 use Rattle.std.proofs.Common.{◌≡◌, ◌++◌, ℕ, List, [], ◌∷◌, refl, subst, sym}
-use Rattle.type_reader_run.specs.Reports.{ReportsEach}
+use Rattle.type_reader_io.specs.Reports.{ReportsEach}
 
 -- these, and then those
 pub each_then :

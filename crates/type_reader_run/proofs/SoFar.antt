@@ -13,7 +13,7 @@ use Rattle.type_reader_run.proofs.Outcomes.{good_more, outcomes_more, reports_mo
 use Rattle.type_reader_run.proofs.Reports.{each_then}
 use Rattle.type_reader_run.specs.Conversions.{AreOutcomes, Outcome, are_good, made, output_of}
 use Rattle.type_reader_run.specs.Conversions.{reports_from}
-use Rattle.type_reader_run.specs.Reports.{ReportsEach}
+use Rattle.type_reader_io.specs.Reports.{ReportsEach}
 use Rattle.type_reader_run.specs.Runs.{ExplainsStop}
 use Rattle.type_reader_run.specs.Steps.{ExplainsStopAt, HasConvertedLine, HasConvertedLines}
 use Rattle.type_reader_run.specs.Steps.{HasStopped, HasStoppedAt}
@@ -21,11 +21,15 @@ use Rattle.type_reader_run.specs.declared.convert.Converter.{Converter}
 use Rattle.type_table_io.proofs.LineParts.{first_and_part}
 use Rattle.type_table_io.specs.Reports.{AppendsPrefix}
 
+abbrev unwrap : Option (List ℕ) → List ℕ
+unwrap None = []
+unwrap (Some xs) = xs
+
 -- the lines of known bytes are these, and then those that are left
 abbrev pub Leaves : (old now : Option (List ℕ)) → List (List ℕ) → Type 0
 Leaves old now values =
     IfSome old (λ bytes.
-        (rest : List ℕ) × (now ≡ Some rest) × (lines bytes ≡ values ++ lines rest))
+    (rest : List ℕ) × (now ≡ Some rest) × (lines bytes ≡ values ++ lines rest))
 
 -- as many lines were converted, and these are what came of them
 pub record SoFar {T : Type 0} (reported : T → T → List ℕ → Type 0) (converter : Converter)
@@ -69,16 +73,12 @@ leaves_more None now new values line leaves takes = tt
 leaves_more (Some bytes) None new values line leaves takes =
     let known = leaves.1 in absurd cc
 leaves_more (Some bytes) (Some now) new values line leaves takes =
-    let same : now ≡ leaves.0 = ap (λ o. unwrap o) leaves.1 in (
+    let same : now ≡ leaves.0 = ap unwrap leaves.1 in (
       takes.0,
       takes.1,
       leaves.2 ∙ ap (λ l. values ++ l) (ap lines (sym same) ∙ takes.2)
           ∙ sym (append_assoc values (line ∷ []) (lines takes.0)),
     )
-  where
-    unwrap : Option (List ℕ) → List ℕ
-    unwrap None = []
-    unwrap (Some xs) = xs
 
 -- one line more
 pub one_more :
@@ -91,49 +91,30 @@ pub one_more :
     is_good
     → both ≡ (was_good && is_good)
     → SoFar reported converter (count + 1) second_old second_new old new told_old told_new both
-one_more
-reported
-converter
-count
-second_old
-second_now
-second_new
-old
-now
-new
-told_old
-told_now
-told_new
-was_good
-is_good
-both
-line
-so_far
-takes
-more
-is = record {
-  values = so_far.values ++ line ∷ [];
-  leaves = leaves_more second_old second_now second_new so_far.values line so_far.leaves takes;
-  outcomes = so_far.outcomes ++ more.outcome ∷ [];
-  counted =
-      omega (arith, length-append so_far.outcomes (more.outcome ∷ []), so_far.counted);
-  are_outcomes =
-      outcomes_more converter.conversion converter.registry converter.id so_far.values
-      so_far.outcomes line more.outcome so_far.are_outcomes more.is_outcome;
-  appends =
-      subst (Appends old new)
-      (sym (flat_map-append output_of so_far.outcomes (more.outcome ∷ [])
-      ∙ ap (λ l. flat_map output_of so_far.outcomes ++ l) (append-nil (output_of more.outcome))))
-      (Appends-trans old now new _ _ so_far.appends more.appends);
-  reports =
-      subst (ReportsEach reported told_old told_new)
-      (sym (reports_more 1 (count + 1) so_far.outcomes more.outcome (omega (arith, so_far.counted))))
-      (each_then reported told_old told_now told_new _ _ so_far.reports more.reports);
-  good =
-      is ∙ ap (λ b. b && is_good) so_far.good
-      ∙ ap (λ b. are_good so_far.outcomes && b) more.good
-      ∙ sym (good_more so_far.outcomes more.outcome);
-}
+one_more reported converter count second_old second_now second_new old now new told_old
+    told_now told_new was_good is_good both line so_far takes more is = record {
+      values = so_far.values ++ line ∷ [];
+      leaves = leaves_more second_old second_now second_new so_far.values line so_far.leaves takes;
+      outcomes = so_far.outcomes ++ more.outcome ∷ [];
+      counted =
+          omega (arith, length-append so_far.outcomes (more.outcome ∷ []), so_far.counted);
+      are_outcomes =
+          outcomes_more converter.conversion converter.registry converter.id so_far.values
+          so_far.outcomes line more.outcome so_far.are_outcomes more.is_outcome;
+      appends =
+          subst (Appends old new)
+          (sym (flat_map-append output_of so_far.outcomes (more.outcome ∷ [])
+          ∙ ap (λ l. flat_map output_of so_far.outcomes ++ l) (append-nil (output_of more.outcome))))
+          (Appends-trans old now new _ _ so_far.appends more.appends);
+      reports =
+          subst (ReportsEach reported told_old told_new)
+          (sym (reports_more 1 (count + 1) so_far.outcomes more.outcome (omega (arith, so_far.counted))))
+          (each_then reported told_old told_now told_new _ _ so_far.reports more.reports);
+      good =
+          is ∙ ap (λ b. b && is_good) so_far.good
+          ∙ ap (λ b. are_good so_far.outcomes && b) more.good
+          ∙ sym (good_more so_far.outcomes more.outcome);
+    }
 
 -- nothing is left
 all_taken :
@@ -144,15 +125,11 @@ all_taken None now new values leaves ended kept = (tt, tt)
 all_taken (Some bytes) None new values leaves ended kept = let known = leaves.1 in absurd cc
 all_taken (Some bytes) (Some now) None values leaves ended kept = absurd kept
 all_taken (Some bytes) (Some now) (Some new) values leaves ended kept =
-    let same : now ≡ leaves.0 = ap (λ o. unwrap o) leaves.1 in
+    let same : now ≡ leaves.0 = ap unwrap leaves.1 in
     let none : leaves.0 ≡ [] = sym same ∙ ended in (
       sym (leaves.2 ∙ ap (λ r. values ++ lines r) none ∙ append-nil values),
       ap Some (kept ∙ ended),
     )
-  where
-    unwrap : Option (List ℕ) → List ℕ
-    unwrap None = []
-    unwrap (Some xs) = xs
 
 -- at the end of the second input all lines were converted
 pub all_done :
@@ -163,20 +140,8 @@ pub all_done :
     → IsAtEnd second_now × Keeps second_now second_new
     → HasConvertedLines converter second_old second_new old now
     (ReportsEach reported told_old told_now) is_good
-all_done
-reported
-converter
-count
-second_old
-second_now
-second_new
-old
-now
-told_old
-told_now
-is_good
-so_far
-ended =
+all_done reported converter count second_old second_now second_new old now told_old told_now
+    is_good so_far ended =
     let all =
     all_taken second_old second_now second_new so_far.values so_far.leaves ended.0 ended.1 in
     record {
@@ -213,27 +178,15 @@ pub read_failed :
     → SoFar reported converter count second_old second_now old now told_old told_now is_good
     → IsReadError error
     → HasStopped converter second_old old now (ReportsEach reported told_old told_now) error
-read_failed
-reported
-converter
-count
-second_old
-second_now
-old
-now
-told_old
-told_now
-is_good
-error
-so_far
-cause = record {
-  values = so_far.values;
-  are_first = first_ones second_old second_now so_far.values so_far.leaves;
-  outcomes = so_far.outcomes;
-  are_outcomes = so_far.are_outcomes;
-  explains = stopped_by old now _ error cause so_far.appends;
-  reports = so_far.reports;
-}
+read_failed reported converter count second_old second_now old now told_old told_now is_good
+    error so_far cause = record {
+      values = so_far.values;
+      are_first = first_ones second_old second_now so_far.values so_far.leaves;
+      outcomes = so_far.outcomes;
+      are_outcomes = so_far.are_outcomes;
+      explains = stopped_by old now _ error cause so_far.appends;
+      reports = so_far.reports;
+    }
 
 appends_kept :
     (old now new : Option (List ℕ)) (outputs : List ℕ)
@@ -252,45 +205,27 @@ pub line_failed :
     → TakesLine second_now second_new line
     → HasStoppedAt converter line now new (ReportsEach reported told_now told_new) error
     → HasStopped converter second_old old new (ReportsEach reported told_old told_new) error
-line_failed
-reported
-converter
-count
-second_old
-second_now
-second_new
-old
-now
-new
-told_old
-told_now
-told_new
-is_good
-line
-error
-so_far
-takes
-stop =
+line_failed reported converter count second_old second_now second_new old now new told_old
+    told_now told_new is_good line error so_far takes stop =
     at error stop.explains
     (subst (λ t. ReportsEach reported told_old t (reports_from 1 so_far.outcomes))
     (sym stop.reports) so_far.reports)
   where
-    outputs = flat_map output_of so_far.outcomes
-    Stops = HasStopped converter second_old old new (ReportsEach reported told_old told_new)
-
     at :
         (e : ReaderError) → ExplainsStopAt converter line now new e
-        → ReportsEach reported told_old told_new (reports_from 1 so_far.outcomes) → Stops e
+        → ReportsEach reported told_old told_new (reports_from 1 so_far.outcomes)
+        → HasStopped converter second_old old new (ReportsEach reported told_old told_new) e
     at errors.Memory explains reports = record {
       values = so_far.values;
       are_first = first_ones second_old second_now so_far.values so_far.leaves;
       outcomes = so_far.outcomes;
       are_outcomes = so_far.are_outcomes;
-      explains = appends_kept old now new outputs so_far.appends explains;
+      explains = appends_kept old now new (flat_map output_of so_far.outcomes) so_far.appends explains;
       reports = reports;
     }
     at errors.Output explains reports =
         let output = explains.0 in
+        let outputs = flat_map output_of so_far.outcomes in
         let leaves =
         leaves_more second_old second_now second_new so_far.values line so_far.leaves takes in
         record {

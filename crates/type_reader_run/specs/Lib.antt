@@ -3,7 +3,6 @@ pub mod Encodings
 pub mod Listings
 pub mod Outputs
 pub mod Refusals
-pub mod Reports
 pub mod Runs
 pub mod Selections
 pub mod Steps

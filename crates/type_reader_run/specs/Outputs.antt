@@ -1,5 +1,5 @@
 -- What is written of a table.
-use Rattle.std.specs.Prelude.{◌≡◌, ◌++◌, ℕ, Bool, List, [], codes, decimal, map}
+use Rattle.std.specs.Prelude.{◌≡◌, ◌++◌, ℕ, Bool, IfSome, List, [], codes, decimal, map}
 use Rattle.std.specs.declared.option.Option.{Option}
 use Rattle.std.specs.BTreeMap.{BTreeMap}
 use Rattle.std.specs.Io.KnownBytes.{Appends}
@@ -102,6 +102,13 @@ pub record Writes (request : Request) (old new : Option (List ℕ)) (notes input
   pub output : List ℕ
   pub has_output : HasOutput request input output notes
   pub appends : Appends old new output
+
+-- known bytes grow by the request's output for the whole input, which has these notes
+pub record WritesWhole (request : Request) (input old new : Option (List ℕ)) (notes : List ℕ)
+    : Type 0 where
+  pub whole : List ℕ
+  pub is_whole : IfSome input (λ bytes. whole ≡ bytes)
+  pub writes : Writes request old new notes whole
 
 -- the request has an output for the input, and known bytes grow by a prefix of it
 pub record WritesPrefix (request : Request) (old new : Option (List ℕ)) (input : List ℕ)

@@ -12,26 +12,27 @@ use Rattle.type_reader_io.specs.declared.command.Conversion.{Conversion}
 use Rattle.type_reader_io.specs.declared.command.Request.{Request}
 use Rattle.type_reader_io.specs.declared.error.ReaderError.{ReaderError}
 use Rattle.type_reader_io.specs.declared.error.ReaderError.TheVariants as errors
-use Rattle.type_reader_io.specs.Lines.{line_of}
+use Rattle.type_reader_io.specs.Lines.{HasSmallNumber, IsReportedAs, line_of}
 use Rattle.type_reader_run.specs.Conversions.{HasOutcomes, IsTypeError, Outcome, are_good}
 use Rattle.type_reader_run.specs.Conversions.{output_of, reports_from}
-use Rattle.type_reader_run.specs.Outputs.{Writes}
+use Rattle.type_reader_run.specs.Outputs.{WritesWhole}
 use Rattle.type_reader_run.specs.Refusals.{Explains}
-use Rattle.type_reader_run.specs.Reports.{texts_of}
+use Rattle.type_reader_io.specs.Reports.{texts_of}
 use Rattle.type_reader_run.specs.Tables.{input_bytes}
 use Rattle.type_table_io.specs.Reports.{AppendsPrefix}
 
--- known bytes grow by the request's output for the known input, and the notes on it were reported
+-- known bytes grow by the request's output for the whole input, and the notes on it were reported
 pub record DoesOnce (request : Request) (input old new : Option (List ℕ))
     (IsReported : List (List ℕ) → Type 0) : Type 0 where
   pub notes : List ℕ
-  pub writes : IfSome input (Writes request old new notes)
+  pub writes : WritesWhole request input old new notes
   pub reports : IsReported (texts_of notes)
 
 -- one error holds, and its line was reported
 pub record RefusesOnce (request : Request) (input old new : Option (List ℕ))
     (IsReported : List (List ℕ) → Type 0) : Type 0 where
   pub error : ReaderError
+  pub small : HasSmallNumber error
   pub explains : Explains request input old new error
   pub reports : IsReported (line_of error ∷ [])
 
@@ -57,38 +58,43 @@ ExplainsStop old new outputs errors.Input = Appends old new outputs
 ExplainsStop old new outputs errors.Output = AppendsPrefix old new outputs
 ExplainsStop old new outputs error = ⊥
 
--- These come of the first lines of the second input, and then there was this error: the bad ones of
--- them were reported, and then the error.
+-- There is no type to convert values of, for this error, and known bytes are as before.
+pub record IsWithoutType (text : List ℕ) (input old new : Option (List ℕ)) (error : ReaderError)
+    : Type 0 where
+  pub cause :
+      (error ≡ errors.Input)
+      ⊎ IfSome input (λ bytes. IsTypeError (input_bytes bytes) text error)
+  pub keeps : Keeps old new
+
+-- These come of the first lines of the second input, and then there was this error.
 pub record StopsAfter (conversion : Conversion) (text : List ℕ)
-    (input second old new : Option (List ℕ)) (IsReported : List (List ℕ) → Type 0)
-    (error : ReaderError) : Type 0 where
+    (input second old new : Option (List ℕ)) (outcomes : List Outcome) (error : ReaderError)
+    : Type 0 where
   pub values : List (List ℕ)
   pub are_first :
       IfSome second (λ bytes. (more : List (List ℕ)) × (lines bytes ≡ values ++ more))
-  pub outcomes : List Outcome
   pub have_outcomes :
       IfSome input (λ bytes. HasOutcomes conversion (input_bytes bytes) text values outcomes)
   pub explains : ExplainsStop old new (flat_map output_of outcomes) error
-  pub reports : IsReported (reports_from 1 outcomes ++ line_of error ∷ [])
 
 -- Why lines were not all converted: there is no type to convert values of, for an error that was
--- reported, and known bytes are as before; or all lines were converted but the bad ones, of which
--- there is one; or there was an error after some lines.
+-- reported; or all lines were converted but the bad ones, of which there is one; or the bad ones of
+-- the first lines were reported, and then an error.
 pub data RefusesLines (conversion : Conversion) (text : List ℕ)
     (input second old new : Option (List ℕ)) (IsReported : List (List ℕ) → Type 0)
     : Type 0 where
   no_type :
       {error : ReaderError}
-      → (error ≡ errors.Input)
-      ⊎ IfSome input (λ bytes. IsTypeError (input_bytes bytes) text error)
-      → Keeps old new → IsReported (line_of error ∷ [])
+      → HasSmallNumber error → IsWithoutType text input old new error
+      → IsReported (line_of error ∷ [])
       → RefusesLines conversion text input second old new IsReported
   bad_lines :
       ConvertsAll conversion text input second old new IsReported false
       → RefusesLines conversion text input second old new IsReported
   stopped :
-      {error : ReaderError}
-      → StopsAfter conversion text input second old new IsReported error
+      {outcomes : List Outcome} {error : ReaderError}
+      → StopsAfter conversion text input second old new outcomes error
+      → IsReported (reports_from 1 outcomes ++ line_of error ∷ [])
       → RefusesLines conversion text input second old new IsReported
 
 -- the command was done
@@ -116,3 +122,19 @@ KeepsSecond (commands.Lines conversion text) old new = Unit {0}
 abbrev pub EndsSecond : Command → (old new : Option (List ℕ)) → Type 0
 EndsSecond (commands.Once request) old new = Unit {0}
 EndsSecond (commands.Lines conversion text) old new = IfSome old (λ bytes. new ≡ Some [])
+
+-- what an error says of the command that is refused for it
+abbrev pub Explained : Command → (input second old new : Option (List ℕ)) → ReaderError → Type 0
+Explained (commands.Once request) input second old new error =
+    Explains request input old new error
+Explained (commands.Lines conversion text) input second old new error =
+    IsWithoutType text.now input old new error
+    ⊎ ((outcomes : List Outcome)
+    × StopsAfter conversion text.now input second old new outcomes error)
+
+-- the error that this one reports is so
+abbrev pub IsSo : Command → (input second old new : Option (List ℕ)) → ReaderError → Type 0
+IsSo command input second old new reported =
+    (error : ReaderError)
+    × IsReportedAs reported error
+    × Explained command input second old new error

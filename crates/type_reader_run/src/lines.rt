@@ -1,6 +1,6 @@
 //! The second input, converted line by line.
 ghost use Rattle.std.specs.Prelude.{IfErr, IfOk};
-ghost use Rattle.type_reader_run.specs.Reports.{ReportsEach};
+ghost use Rattle.type_reader_io.specs.Reports.{ReportsEach};
 ghost use Rattle.type_reader_run.specs.Steps.{HasConvertedLine, HasConvertedLines};
 ghost use Rattle.type_reader_run.specs.Steps.{HasStopped, HasStoppedAt};
 

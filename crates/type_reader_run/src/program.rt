@@ -4,16 +4,18 @@ ghost use Rattle.std.specs.Prelude.{true};
 ghost use Rattle.std.specs.Io.KnownBytes.{IsAtEnd, Keeps};
 ghost use Rattle.type_reader_io.specs.Commands.{HasCommand, IsCommand};
 ghost use Rattle.type_reader_io.specs.Inputs.{IsReadError};
-ghost use Rattle.type_reader_io.specs.Lines.{usage_line};
+ghost use Rattle.type_reader_io.specs.Lines.{HasSmallNumber, line_of, usage_line};
+ghost use Rattle.type_reader_io.specs.declared.error.ReaderError.{ReaderError as ReaderErrorValue};
 ghost use Rattle.type_reader_io.specs.declared.error.ReaderError.TheVariants as reader_error;
 ghost use Rattle.type_reader_run.specs.Conversions.{HasType, IsTypeError};
-ghost use Rattle.type_reader_run.specs.Outputs.{Writes};
+ghost use Rattle.type_reader_run.specs.Outputs.{WritesWhole};
 ghost use Rattle.type_reader_run.specs.Refusals.{Explains};
-ghost use Rattle.type_reader_run.specs.Reports.{ReportsEach};
+ghost use Rattle.type_reader_io.specs.Reports.{ReportsEach};
 ghost use Rattle.type_reader_run.specs.Runs.{ConvertsAll, Does, DoesOnce, EndsSecond};
-ghost use Rattle.type_reader_run.specs.Runs.{KeepsSecond, Refuses, RefusesLines, RefusesOnce};
+ghost use Rattle.type_reader_run.specs.Runs.{IsSo, KeepsSecond, Refuses, RefusesLines};
+ghost use Rattle.type_reader_run.specs.Runs.{RefusesOnce};
 ghost use Rattle.type_reader_run.specs.Tables.{input_bytes};
-ghost use Rattle.type_table_io.specs.Reports.{AppendsPrefix};
+ghost use Rattle.type_table_io.specs.Reports.{AppendsPrefix, Reported};
 
 use crate::convert::Converter;
 use crate::lines::convert_lines;
@@ -56,8 +58,8 @@ fn perform<R: Read, W: Write>(
     reader: &mut R,
     output: &mut W,
 ) -> Result<Vec<u8>, ReaderError>
-    ensures ok { IfOk result (λ notes. IfSome (R.remaining reader.old)
-        (Writes request.now (W.contents output.old) (W.contents output.new) notes.items)) }
+    ensures ok { IfOk result (λ notes. WritesWhole request.now (R.remaining reader.old)
+        (W.contents output.old) (W.contents output.new) notes.items) }
     ensures end { OnOk result (IsAtEnd (R.remaining reader.new)) }
     ensures err { IfErr result (Explains request.now (R.remaining reader.old)
         (W.contents output.old) (W.contents output.new)) }
@@ -326,6 +328,11 @@ pub fn run<R: Read, S: BufRead, W: Write, F: Write>(
         (R.remaining reader.old) (S.remaining second.old)
         (W.contents output.old) (W.contents output.new)
         (ReportsEach AppendsPrefix (F.contents errors.old) (F.contents errors.new))) }
+    ensures explained { (error : ReaderErrorValue) → HasSmallNumber error
+        → Reported (F.contents errors.old) (F.contents errors.new) (line_of error)
+        → HasCommand arguments.now (λ command. IsSo command
+        (R.remaining reader.old) (S.remaining second.old)
+        (W.contents output.old) (W.contents output.new) error) }
 {
     let mut reporter = ErrorWriter { errors };
     let status = run_with(alloc, arguments, reader, second, output, &mut reporter);
