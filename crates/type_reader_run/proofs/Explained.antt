@@ -33,7 +33,7 @@ other_first (x ∷ xs) ys one two = one
 -- a decimal digit is another
 other_glyph : (n : ℕ) → digit_glyph false (n % 10) ≢ 116
 other_glyph n is =
-    let small : n % 10 < 10 = mod-lt n 10 (omega arith) in
+    let small : n % 10 < 10 = mod-lt n (omega arith) in
     let shown : digit_glyph false (n % 10) ≡ 48 + n % 10 =
     ap (λ b. cond b (48 + n % 10) (87 + n % 10)) (lt-ltb (n % 10) 10 small) in
     omega (arith, small, shown, is)
@@ -57,7 +57,10 @@ other_decimal n = other_onto 64 n [] (λ h. omega (arith, h))
 
 other_id_line : (ids : ℕ × ℕ) → IsOther (id_line ids)
 other_id_line ids =
-    other_first (decimal ids.0) (codes " -> " ++ (decimal ids.1 ++ codes "\n")) (other_decimal ids.0)
+    other_first (decimal ids.0 ++ codes " -> " ++ decimal ids.1) (codes "\n")
+    (other_first (decimal ids.0 ++ codes " -> ") (decimal ids.1)
+    (other_first (decimal ids.0) (codes " -> ") (other_decimal ids.0) (λ h. omega (arith, h)))
+    (other_decimal ids.1))
     (λ h. omega (arith, h))
 
 other_lines : (ids : List (ℕ × ℕ)) → IsOther (flat_map id_line ids)
@@ -135,20 +138,20 @@ so_of_lines :
 so_of_lines (commands.Once request) input second old new told_old told_new error small refuses reported = (
   refuses.error,
   last_reported error refuses.error [] refuses.small small tt
-      (reported_pieces told_old told_new _ (line_of error) refuses.reports reported),
+      (reported_pieces told_old told_new (line_of refuses.error ∷ []) (line_of error) refuses.reports reported),
   refuses.explains,
 )
-so_of_lines (commands.Lines conversion text) input second old new told_old told_new error small (no_type {cause} small_cause without reports) reported = (
+so_of_lines (commands.Lines conversion text) input second old new told_old told_new error small (no_type {error = cause} small_cause without reports) reported = (
   cause,
   last_reported error cause [] small_cause small tt
-      (reported_pieces told_old told_new _ (line_of error) reports reported),
+      (reported_pieces told_old told_new (line_of cause ∷ []) (line_of error) reports reported),
   inl without,
 )
 so_of_lines (commands.Lines conversion text) input second old new told_old told_new error small (bad_lines all) reported =
     absurd
     (not_bad_lines error _ (are_bad 1 all.outcomes)
     (reported_pieces told_old told_new _ (line_of error) all.reports reported))
-so_of_lines (commands.Lines conversion text) input second old new told_old told_new error small (stopped {outcomes} {cause} stops reports) reported = (
+so_of_lines (commands.Lines conversion text) input second old new told_old told_new error small (stopped {outcomes = outcomes} {error = cause} stops reports) reported = (
   cause,
   last_reported error cause (reports_from 1 outcomes)
       (small_stop old new _ cause stops.explains) small (are_bad 1 outcomes)

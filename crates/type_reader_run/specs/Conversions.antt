@@ -130,4 +130,4 @@ pub record HasOutcomes (conversion : Conversion) (bytes text : List ℕ) (lines 
   pub registry : PortableRegistry
   pub id : ℕ
   pub has_type : HasType bytes text registry id
-  pub outcomes : AreOutcomes conversion registry id lines outcomes
+  pub are_outcomes : AreOutcomes conversion registry id lines outcomes

@@ -72,7 +72,7 @@ fn with_source(
     source: Source,
     is_hexadecimal: bool,
 ) -> Result<Output<'_>, AllocError>
-    ensures bytes { IfOk result (λ output. output.bytes ≡ bytes) }
+    ensures bytes { IfOk result (λ output. bytes_of output.bytes ≡ bytes_of bytes.entry) }
     ensures notes { IfOk result
         (λ output. output.notes.items ≡ source_line source is_hexadecimal) }
 {
