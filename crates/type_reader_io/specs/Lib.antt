@@ -1,2 +1,4 @@
 pub mod Commands
+pub mod Inputs
 pub mod Lines
+pub mod Reports

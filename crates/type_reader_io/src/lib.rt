@@ -4,6 +4,7 @@
 
 pub mod command;
 pub mod error;
+pub mod line;
 pub mod message;
 pub mod report;
 pub mod reporter;

@@ -1,6 +1,6 @@
 //! What a run has to say beside its output.
 
-use crate::error::ReaderError;
+use crate::error::{ReaderError, ValueFault};
 
 /// What a run has to say beside its output.
 ///
@@ -14,4 +14,7 @@ pub enum Message {
     Refused(ReaderError),
     /// The command was done, and these are lines about its output, each with a line feed.
     Notes(Vec<u8>),
+    /// The line of the second input with this number, counted from 1, gives no value. The lines
+    /// after it are still read.
+    BadLine(u64, ValueFault),
 }

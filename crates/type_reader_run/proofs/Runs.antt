@@ -1,0 +1,144 @@
+-- What a run did, with what is known of its converter, and by what else says of texts that they
+-- were reported.
+use Rattle.std.proofs.Common.{◌≡◌, ◌++◌, ℕ, List, [], ◌∷◌, Bool, Option, None, Some, IfSome, subst}
+use Rattle.type_reader_io.specs.Commands.{HasCommand}
+use Rattle.type_reader_io.specs.Lines.{line_of}
+use Rattle.type_reader_io.specs.Reports.{ReportsEach, texts_of}
+use Rattle.type_reader_io.specs.declared.command.Command.{Command}
+use Rattle.type_reader_io.specs.declared.command.Command.TheVariants as commands
+use Rattle.type_reader_io.specs.declared.command.Conversion.{Conversion}
+use Rattle.type_reader_io.specs.declared.error.ReaderError.{ReaderError}
+use Rattle.scale_info_tables.specs.declared.portable.PortableRegistry.{PortableRegistry}
+use Rattle.type_reader_run.specs.Conversions.{AreOutcomes, HasOutcomes, HasType, Outcome}
+use Rattle.type_reader_run.specs.Conversions.{reports_from}
+use Rattle.type_reader_run.specs.Runs.{ConvertsAll, Does, Refuses, StopsAfter, bad_lines, no_type}
+use Rattle.type_reader_run.specs.Runs.{stopped}
+use Rattle.type_reader_run.specs.Steps.{HasConvertedLines, HasStopped}
+use Rattle.type_reader_run.specs.Tables.{input_bytes}
+use Rattle.type_reader_run.specs.declared.convert.Converter.{Converter}
+
+-- these come of the lines by the table of a known input
+have_outcomes :
+    (conversion : Conversion) (text : List ℕ) (input : Option (List ℕ)) (converter : Converter)
+    (values : List (List ℕ)) (outcomes : List Outcome)
+    → converter.conversion ≡ conversion
+    → IfSome input (λ bytes.
+    HasType (input_bytes bytes) text converter.registry converter.id)
+    → AreOutcomes converter.conversion converter.registry converter.id values outcomes
+    → IfSome input (λ bytes. HasOutcomes conversion (input_bytes bytes) text values outcomes)
+have_outcomes conversion text None converter values outcomes way type are = tt
+have_outcomes conversion text (Some bytes) converter values outcomes way type are = record {
+  registry = converter.registry;
+  id = converter.id;
+  has_type = type;
+  are_outcomes =
+      subst (λ w. AreOutcomes w converter.registry converter.id values outcomes) way are;
+}
+
+-- all lines were converted
+pub converts_all :
+    (conversion : Conversion) (text : List ℕ)
+    (input second second_new old new : Option (List ℕ)) (converter : Converter)
+    (IsReported : List (List ℕ) → Type 0) (is_good : Bool)
+    → converter.conversion ≡ conversion
+    → IfSome input (λ bytes.
+    HasType (input_bytes bytes) text converter.registry converter.id)
+    → HasConvertedLines converter second second_new old new IsReported is_good
+    → ConvertsAll conversion text input second old new IsReported is_good
+converts_all conversion text input second second_new old new converter IsReported is_good way type h = record {
+  values = h.values;
+  are_lines = h.are_lines;
+  outcomes = h.outcomes;
+  have_outcomes =
+      have_outcomes conversion text input converter h.values h.outcomes way type h.are_outcomes;
+  appends = h.appends;
+  reports = h.reports;
+  good = h.good;
+}
+
+-- the first lines were
+pub stops_after :
+    (conversion : Conversion) (text : List ℕ) (input second old new : Option (List ℕ))
+    (converter : Converter) (IsReported : List (List ℕ) → Type 0) (error : ReaderError)
+    → converter.conversion ≡ conversion
+    → IfSome input (λ bytes.
+    HasType (input_bytes bytes) text converter.registry converter.id)
+    → (h : HasStopped converter second old new IsReported error)
+    → StopsAfter conversion text input second old new h.outcomes error
+stops_after conversion text input second old new converter IsReported error way type h = record {
+  values = h.values;
+  are_first = h.are_first;
+  have_outcomes =
+      have_outcomes conversion text input converter h.values h.outcomes way type h.are_outcomes;
+  explains = h.explains;
+}
+
+-- by another word for what was reported
+pub does_by :
+    (command : Command) (input second old new : Option (List ℕ))
+    (P Q : List (List ℕ) → Type 0) → ((texts : List (List ℕ)) → P texts → Q texts)
+    → Does command input second old new P → Does command input second old new Q
+does_by (commands.Once request) input second old new P Q by h =
+    record {
+      notes = h.notes;
+      writes = h.writes;
+      reports = by (texts_of h.notes) h.reports;
+    }
+does_by (commands.Lines conversion text) input second old new P Q by h = record {
+  values = h.values;
+  are_lines = h.are_lines;
+  outcomes = h.outcomes;
+  have_outcomes = h.have_outcomes;
+  appends = h.appends;
+  reports = by (reports_from 1 h.outcomes) h.reports;
+  good = h.good;
+}
+
+pub refuses_by :
+    (command : Command) (input second old new : Option (List ℕ))
+    (P Q : List (List ℕ) → Type 0) → ((texts : List (List ℕ)) → P texts → Q texts)
+    → Refuses command input second old new P → Refuses command input second old new Q
+refuses_by (commands.Once request) input second old new P Q by h = record {
+  error = h.error;
+  small = h.small;
+  explains = h.explains;
+  reports = by (line_of h.error ∷ []) h.reports;
+}
+refuses_by (commands.Lines conversion text) input second old new P Q by (no_type {error = error} small without reports) =
+    no_type small without (by (line_of error ∷ []) reports)
+refuses_by (commands.Lines conversion text) input second old new P Q by (bad_lines h) =
+    bad_lines
+    (record {
+      values = h.values;
+      are_lines = h.are_lines;
+      outcomes = h.outcomes;
+      have_outcomes = h.have_outcomes;
+      appends = h.appends;
+      reports = by (reports_from 1 h.outcomes) h.reports;
+      good = h.good;
+    })
+refuses_by (commands.Lines conversion text) input second old new P Q by (stopped {outcomes = outcomes} {error = error} stops reports) =
+    stopped stops (by (reports_from 1 outcomes ++ line_of error ∷ []) reports)
+
+-- the same of a command that the arguments name
+pub done_by :
+    {arguments : List (List ℕ)} {input second old new : Option (List ℕ)}
+    (P Q : List (List ℕ) → Type 0) → ((texts : List (List ℕ)) → P texts → Q texts)
+    → HasCommand arguments (λ command. Does command input second old new P)
+    → HasCommand arguments (λ command. Does command input second old new Q)
+done_by {input = input} {second = second} {old = old} {new = new} P Q by h = record {
+  command = h.command;
+  names = h.names;
+  holds = does_by h.command input second old new P Q by h.holds;
+}
+
+pub refused_by :
+    {arguments : List (List ℕ)} {input second old new : Option (List ℕ)}
+    (P Q : List (List ℕ) → Type 0) → ((texts : List (List ℕ)) → P texts → Q texts)
+    → HasCommand arguments (λ command. Refuses command input second old new P)
+    → HasCommand arguments (λ command. Refuses command input second old new Q)
+refused_by {input = input} {second = second} {old = old} {new = new} P Q by h = record {
+  command = h.command;
+  names = h.names;
+  holds = refuses_by h.command input second old new P Q by h.holds;
+}
