@@ -57,6 +57,7 @@ pub record Places (error : ReaderError) : Type 0 where
   pub trailing :
       (not (eqb (get_or (line_of error) 13 0) 116) || eqb (get_or (line_of error) 14 0) 114) ≡ true
 
+-- of each error
 pub places : (error : ReaderError) → Places error
 places errors.Malformed = record {
   kind = refl;

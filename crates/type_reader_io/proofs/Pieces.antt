@@ -174,6 +174,7 @@ no_start error count tail rest begin is = at count (sym (named error) ∙ is) is
 abbrev pub IsBadLine : List ℕ → Type 0
 IsBadLine text = (number : ℕ) × (fault : ValueFault) × (text ≡ bad_line number fault)
 
+-- reports of bad lines
 abbrev pub AreBadLines : List (List ℕ) → Type 0
 AreBadLines [] = Unit {0}
 AreBadLines (text ∷ texts) = IsBadLine text × AreBadLines texts

@@ -94,6 +94,7 @@ does_by (commands.Lines conversion text) input second old new P Q by h = record 
   good = h.good;
 }
 
+-- what a command refuses, by what follows from its reports
 pub refuses_by :
     (command : Command) (input second old new : Option (List ℕ))
     (P Q : List (List ℕ) → Type 0) → ((texts : List (List ℕ)) → P texts → Q texts)
@@ -132,6 +133,7 @@ done_by {input = input} {second = second} {old = old} {new = new} P Q by h = rec
   holds = does_by h.command input second old new P Q by h.holds;
 }
 
+-- the same of arguments
 pub refused_by :
     {arguments : List (List ℕ)} {input second old new : Option (List ℕ)}
     (P Q : List (List ℕ) → Type 0) → ((texts : List (List ℕ)) → P texts → Q texts)

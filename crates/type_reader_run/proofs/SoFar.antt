@@ -50,6 +50,7 @@ all_left : (second : Option (List ℕ)) → Leaves second second []
 all_left None = tt
 all_left (Some bytes) = (bytes, refl, refl)
 
+-- before the first line nothing was converted
 pub none_yet :
     {T : Type 0} (reported : T → T → List ℕ → Type 0) (converter : Converter)
     (second old : Option (List ℕ)) (told : T)
