@@ -2,7 +2,6 @@
 #![tactic(auto)]
 
 pub mod decode;
-pub mod entries;
 pub mod form;
 mod integer;
 pub mod laws;
@@ -14,7 +13,6 @@ pub mod table;
 mod ty;
 
 pub use decode::decode_type;
-pub use entries::LentEntries;
 pub use form::LentForm;
 pub use owned::owned_type;
 pub use scale_info_bytes::error::DecodeError;

@@ -4,13 +4,11 @@ ghost use Rattle.scale_info_grammar.specs.Ty.{EncodesPortableType, EncodesTypes}
 ghost use Rattle.scale_info_grammar.specs.TyLaws.{portable_type_law};
 ghost use Rattle.scale_info_lent_form.specs.OwnedDescriptions.{owned_description, owned_entry};
 ghost use Rattle.scale_info_types.specs.declared.ty.PortableType as portable_types;
-ghost use Rattle.std.specs.List.{enumerate_from};
 ghost use Rattle.std.specs.Option.{option_copied};
 ghost use Rattle.std.specs.Prelude.{◌≡◌, ◌↔◌, ℕ, List, [], IfErr, IfOk, IsTrue, length, map};
-ghost use Rattle.std.specs.Prelude.{option_map, slice_get, take};
+ghost use Rattle.std.specs.Prelude.{option_map, slice_get};
 
 use crate::decode::{DecodeLent, Encoded, decode_type};
-use crate::entries::LentEntries;
 use crate::form::LentForm;
 use crate::owned::{TryToOwned, owned_type};
 use scale_info_bytes::error::DecodeError;
@@ -109,26 +107,6 @@ impl<'i> LentTable<'i> {
         ensures { IsTrue result ↔ (self.now ≡ []) }
     {
         self.types.is_empty()
-    }
-
-    /// The descriptions in order, each with its index: the number by which references and
-    /// [`resolve`](LentTable::resolve) go.
-    ///
-    /// Entries from index 4294967296 on are left out, since no reference can have such a number. A
-    /// table that was decoded has none.
-    ///
-    /// ```text
-    /// for (index, ty) in table.entries() { .. }
-    /// ```
-    pub fn entries(&self) -> LentEntries<'_, 'i>
-        ensures { result ≡ enumerate_from 0
-            (map (λ entry. entry.ty) (take 4294967296 self.now)) }
-    {
-        let types = self.types.as_slice();
-        LentEntries {
-            types: &types[..types.len().min(4294967296)],
-            index: 0,
-        }
     }
 
     /// The entries with copies of their strings: those of the table that `PortableRegistry::decode`
