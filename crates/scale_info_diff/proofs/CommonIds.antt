@@ -1,0 +1,130 @@
+-- The ids of paths in both tables, path by path.
+use Rattle.std.proofs.Common.{◌≡◌, ◌≢◌, ◌∙◌, ◌++◌, ◌∷◌, ◌<◌, ◌==◌, inl, inr, ℕ, Bool, true, false, List, [], All, length, map, get_or}
+use Rattle.std.proofs.Common.{ap, sym, subst, refl, arith, append-nil, append_assoc}
+use Rattle.std.proofs.lemmas.Bool.{false≢true}
+use Rattle.std.proofs.lemmas.Bool.Decides.{eqb_tells}
+use Rattle.std.proofs.lemmas.List.{nil_from_length}
+use Rattle.std.proofs.lemmas.List.Elements.{All-cons, All-nil}
+use Rattle.std.proofs.lemmas.Option.{slice_get-get_or}
+use Rattle.std.specs.List.{flat_map}
+use Rattle.scale_info_numberings.proofs.Zip.{zip_at}
+use Rattle.scale_info_types.specs.Portable.{Text}
+use Rattle.scale_info_types.specs.declared.ty.PortableType.{PortableType}
+use Rattle.scale_info_diff.proofs.AddedIds.{row_at}
+use Rattle.scale_info_diff.specs.Comparisons.{AreCommonIds, HasSameCount, own_ids}
+use Rattle.scale_info_diff.specs.TypesByPath.{AreIdsByPath, ids_of}
+
+module _ (types others : List PortableType) where
+  abbrev pub own : Text → List ℕ
+  own path = own_ids (ids_of path others) (ids_of path types)
+
+  abbrev pub theirs : Text → List ℕ
+  theirs path = ids_of path others
+
+-- the ids so far, followed by those of the paths that are left, are those of all; and each path has
+-- as many types in both tables, if those that are left have
+pub record IsCommonSoFar (types others : List PortableType) (paths left : List Text)
+    (common other_ids : List ℕ) : Type 0 where
+  pub counts : All (HasSameCount types others) left → All (HasSameCount types others) paths
+  pub own_so_far : common ++ flat_map (own types others) left ≡ flat_map (own types others) paths
+  pub theirs_so_far : other_ids ++ flat_map (theirs types others) left ≡ flat_map (theirs types others) paths
+
+pub at_start :
+    (types others : List PortableType) (paths : List Text) → IsCommonSoFar types others paths paths [] []
+at_start types others paths = record { counts = λ all. all; own_so_far = refl; theirs_so_far = refl }
+
+pub at_end :
+    (types others : List PortableType) (paths left : List Text) (common other_ids : List ℕ)
+    → left ≡ [] → IsCommonSoFar types others paths left common other_ids
+    → AreCommonIds types others paths common other_ids
+at_end types others paths left common other_ids none x =
+    let y = subst (λ ps. IsCommonSoFar types others paths ps common other_ids) none x in
+    record {
+      counts = y.counts (All-nil (HasSameCount types others));
+      own = sym (append-nil common) ∙ y.own_so_far;
+      theirs = sym (append-nil other_ids) ∙ y.theirs_so_far;
+    }
+
+own_none : (ids other_ids : List ℕ) → other_ids ≡ [] → own_ids other_ids ids ≡ []
+own_none ids other_ids none = ap (λ is. own_ids is ids) none
+
+pub own_some : (ids other_ids : List ℕ) → other_ids ≢ [] → own_ids other_ids ids ≡ ids
+own_some ids [] some = absurd (some refl)
+own_some ids (i ∷ is) some = refl
+
+module _ (types others : List PortableType) (paths : List Text) (path : Text) (left : List Text)
+    (common other_ids : List ℕ)
+    (x : IsCommonSoFar types others paths (path ∷ left) common other_ids) where
+  -- a path that the new table has not
+  pub after_none : ids_of path others ≡ [] → IsCommonSoFar types others paths left common other_ids
+  after_none none =
+      let mine = own_none (ids_of path types) (ids_of path others) none in
+      record {
+        counts = λ all.
+            x.counts (All-cons (HasSameCount types others) path left (ap length mine ∙ sym (ap length none)) all);
+        own_so_far =
+            ap (λ is. common ++ (is ++ flat_map (own types others) left)) (sym mine) ∙ x.own_so_far;
+        theirs_so_far =
+            ap (λ is. other_ids ++ (is ++ flat_map (theirs types others) left)) (sym none) ∙ x.theirs_so_far;
+      }
+
+  -- a path that it has as often
+  pub after_some :
+      (row there common_after other_after : List ℕ)
+      → row ≡ ids_of path types → there ≡ ids_of path others → there ≢ []
+      → length there ≡ length row
+      → common_after ≡ common ++ row → other_after ≡ other_ids ++ there
+      → IsCommonSoFar types others paths left common_after other_after
+  after_some row there common_after other_after is_row is_there some long is_common is_other =
+      let mine : own types others path ≡ row =
+      own_some (ids_of path types) (ids_of path others) (λ e. some (is_there ∙ e)) ∙ sym is_row in
+      record {
+        counts = λ all.
+            x.counts
+            (All-cons (HasSameCount types others) path left
+            (ap length mine ∙ sym long ∙ ap length is_there) all);
+        own_so_far =
+            ap (λ is. is ++ flat_map (own types others) left) is_common
+            ∙ append_assoc common row (flat_map (own types others) left)
+            ∙ ap (λ is. common ++ (is ++ flat_map (own types others) left)) (sym mine) ∙ x.own_so_far;
+        theirs_so_far =
+            ap (λ is. is ++ flat_map (theirs types others) left) is_other
+            ∙ append_assoc other_ids there (flat_map (theirs types others) left)
+            ∙ ap (λ is. other_ids ++ (is ++ flat_map (theirs types others) left)) is_there ∙ x.theirs_so_far;
+      }
+
+  -- a path that it has, but not as often
+  pub other_count :
+      (row there : List ℕ) → row ≡ ids_of path types → there ≡ ids_of path others → there ≢ []
+      → length there ≢ length row → HasSameCount types others path → ⊥
+  other_count row there is_row is_there some other same =
+      let mine : own types others path ≡ row =
+      own_some (ids_of path types) (ids_of path others) (λ e. some (is_there ∙ e)) ∙ sym is_row in
+      other (ap length is_there ∙ sym same ∙ ap length mine)
+
+-- ---- lists that are tested for being empty
+
+pub is_none : {A : Type 0} (xs : List A) (b : Bool) → b ≡ (length xs == 0) → b ≡ true → xs ≡ []
+is_none xs b is holds =
+    elim (eqb_tells (length xs) 0) [
+      | inl h ↦ nil_from_length xs h.1
+      | inr h ↦ absurd (false≢true (sym h.0 ∙ sym is ∙ holds))
+    ]
+
+pub is_some : {A : Type 0} (xs : List A) (b : Bool) → b ≡ (length xs == 0) → b ≡ false → xs ≢ []
+is_some xs b is fails none =
+    elim (eqb_tells (length xs) 0) [
+      | inl h ↦ false≢true (sym fails ∙ is ∙ h.0)
+      | inr h ↦ h.1 (ap length none)
+    ]
+
+-- the ids of a path, among those of all
+pub row_of :
+    {V : Type 0} (row : V → List ℕ) (types : List PortableType) (paths : List Text) (vs : List V)
+    (i : ℕ) (p : Text) (v : V)
+    → i < length paths → length vs ≡ length paths → AreIdsByPath types paths (map row vs)
+    → row (get_or vs i v) ≡ ids_of (get_or paths i p) types
+row_of row types paths vs i p v within long are =
+    zip_at (λ path r. r ≡ ids_of path types) paths (map row vs) are i (get_or paths i p) (row (get_or vs i v))
+    (slice_get-get_or paths i p within)
+    (row_at row vs i (get_or vs i v) (slice_get-get_or vs i v (omega (arith, long))))

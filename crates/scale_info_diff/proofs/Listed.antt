@@ -1,0 +1,207 @@
+-- Lists of changes.
+use Rattle.std.proofs.Common.{◌≡◌, ◌≢◌, ◌∙◌, ◌++◌, ◌∷◌, ℕ, true, false, List, [], All, length, take, drop, get_or, map, zero, suc, Result, Ok, Err, OnOk, ◌<◌, ◌+◌}
+use Rattle.std.proofs.Common.{ap, sym, subst, refl, arith, append-nil, append_assoc}
+use Rattle.std.proofs.lemmas.Bool.{false≢true}
+use Rattle.std.proofs.lemmas.Grind.{flat_map-append}
+use Rattle.std.proofs.lemmas.List.{drop_more, take-append-drop}
+use Rattle.std.proofs.lemmas.List.Elements.{All-head, All-nil, All-tail}
+use Rattle.std.specs.List.{AllZip, flat_map}
+use Rattle.scale_info_types.specs.Portable.{Text}
+use Rattle.scale_info_types.specs.declared.ty.PortableType.{PortableType}
+use Rattle.scale_info_diff.specs.TableChanges.{AreChanges, AreSame, IsOldChange, added_by, changed, new_change, removed, unchanged}
+use Rattle.scale_info_diff.specs.Comparisons.{AddsOldChanges, TellsSame, removed_by, removed_change}
+use Rattle.scale_info_diff.specs.TypesByPath.{AreIdsByPath, ids_of, paths_of}
+use Rattle.scale_info_diff.specs.declared.change.Change.{Change}
+use Rattle.scale_info_diff.specs.declared.change.Change.TheVariants.{Changed, Removed}
+
+cons_some : {A : Type 0} (x : A) (xs : List A) → (x ∷ xs) ≡ [] → ⊥
+cons_some x xs e = absurd (omega (arith, ap length e))
+
+join_zip :
+    {A B : Type 0} (P : A → B → Type 0) (xs more : List A) (ys others : List B)
+    → AllZip P xs ys → AllZip P more others → AllZip P (xs ++ more) (ys ++ others)
+join_zip P [] more [] others z w = w
+join_zip P [] more (y ∷ ys) others z w = absurd z
+join_zip P (x ∷ xs) more [] others z w = absurd z
+join_zip P (x ∷ xs) more (y ∷ ys) others z w = (z.0, join_zip P xs more ys others z.1 w)
+
+module _ (types others : List PortableType) where
+  -- a path that has not changed, by the ids that it has in the new table
+  one_removed :
+      (path : Text) (ids : List ℕ) → ids_of path others ≡ ids
+      → (ids_of path others ≢ [] → ¬ (¬ (AreSame types others path)))
+      → IsOldChange types others path (removed_by ids path)
+  one_removed path [] is same = removed path is
+  one_removed path (id ∷ ids) is same =
+      let some : ids_of path others ≢ [] = λ none. cons_some id ids (sym is ∙ none) in
+      unchanged path some (same some)
+
+  all_removed :
+      (paths : List Text)
+      → All (λ path. ids_of path others ≢ [] → ¬ (¬ (AreSame types others path))) paths
+      → (parts : List (List Change)) × AllZip (IsOldChange types others) paths parts
+      × (flat_map (removed_change others) paths ≡ flat_map (λ part. part) parts)
+  all_removed [] same = ([], tt, refl)
+  all_removed (path ∷ paths) same =
+      let here =
+      one_removed path (ids_of path others) refl
+      (All-head (λ path. ids_of path others ≢ [] → ¬ (¬ (AreSame types others path))) path paths same) in
+      let rest =
+      all_removed paths
+      (All-tail (λ path. ids_of path others ≢ [] → ¬ (¬ (AreSame types others path))) path paths same) in
+      (removed_change others path ∷ rest.0, (here, rest.1), ap (λ cs. removed_change others path ++ cs) rest.2)
+
+  -- where none has changed, what became of the paths is which are removed
+  pub adds_removed :
+      (paths : List Text) (old new : List Change)
+      → TellsSame types others paths true
+      → new ≡ old ++ flat_map (removed_change others) paths
+      → AddsOldChanges types others paths old new
+  adds_removed paths old new tells is =
+      let all = all_removed paths (tells.all refl) in
+      record { parts = all.0; each = all.1; added = is ∙ ap (λ cs. old ++ cs) all.2 }
+
+  -- a path that the new table has not
+  pub adds_one_removed :
+      (path : Text) (old new : List Change) → ids_of path others ≡ []
+      → new ≡ old ++ Removed path ∷ [] → AddsOldChanges types others (path ∷ []) old new
+  adds_one_removed path old new none is =
+      record { parts = (Removed path ∷ []) ∷ []; each = (removed path none, tt); added = is }
+
+  -- a path whose types are not the same
+  pub adds_one_changed :
+      (path : Text) (old new : List Change) → ids_of path others ≢ []
+      → TellsSame types others (path ∷ []) false
+      → new ≡ old ++ Changed path ∷ [] → AddsOldChanges types others (path ∷ []) old new
+  adds_one_changed path old new some tells is =
+      record {
+        parts = (Changed path ∷ []) ∷ [];
+        each = (changed path some (tells.one refl path refl some), tt);
+        added = is;
+      }
+
+  -- no path
+  pub adds_none : (paths : List Text) (old new : List Change) → paths ≡ [] → new ≡ old → AddsOldChanges types others paths old new
+  adds_none paths old new none is =
+      subst (λ ps. AddsOldChanges types others ps old new) (sym none)
+      (record { parts = []; each = tt; added = is ∙ sym (append-nil old) })
+
+  -- the first paths, and then the others
+  pub adds_both :
+      (n : ℕ) (paths : List Text) (old middle new : List Change)
+      → AddsOldChanges types others (take n paths) old middle
+      → AddsOldChanges types others (drop n paths) middle new
+      → AddsOldChanges types others paths old new
+  adds_both n paths old middle new first second =
+      record {
+        parts = first.parts ++ second.parts;
+        each =
+            subst (λ ps. AllZip (IsOldChange types others) ps (first.parts ++ second.parts)) (take-append-drop n paths)
+            (join_zip (IsOldChange types others) (take n paths) (drop n paths) first.parts second.parts first.each second.each);
+        added =
+            second.added ∙ ap (λ cs. cs ++ flat_map (λ part. part) second.parts) first.added
+            ∙ append_assoc old (flat_map (λ part. part) first.parts) (flat_map (λ part. part) second.parts)
+            ∙ ap (λ cs. old ++ cs) (sym (flat_map-append (λ part. part) first.parts second.parts));
+      }
+
+  -- all changes
+  pub are_changes :
+      (middle new : List Change)
+      → AddsOldChanges types others (paths_of types) [] middle
+      → new ≡ middle ++ flat_map (new_change types) (paths_of others)
+      → AreChanges types others new
+  are_changes middle new old is =
+      record {
+        of_old = old.parts;
+        each = old.each;
+        listed = is ∙ ap (λ cs. cs ++ flat_map (new_change types) (paths_of others)) old.added;
+      }
+
+-- one path more of those from which texts or changes come
+pub stepped :
+    {A : Type 0} (f : Text → List A) (paths : List Text) (i : ℕ) (path : Text) (done longer all : List A)
+    → i < length paths → longer ≡ done ++ f (get_or paths i path)
+    → done ++ flat_map f (drop i paths) ≡ all
+    → longer ++ flat_map f (drop (i + 1) paths) ≡ all
+stepped f paths i path done longer all within is so_far =
+    let here = get_or paths i path in
+    ap (λ xs. xs ++ flat_map f (drop (i + 1) paths)) is
+    ∙ append_assoc done (f here) (flat_map f (drop (i + 1) paths))
+    ∙ ap (λ ps. done ++ flat_map f ps) (sym (drop_more paths i path within)) ∙ so_far
+
+-- where ids are, nothing is removed or added
+pub none_removed : (ids : List ℕ) (path : Text) → ids ≢ [] → removed_by ids path ≡ []
+none_removed [] path some = absurd (some refl)
+none_removed (id ∷ ids) path some = refl
+
+pub none_added : (ids : List ℕ) (path : Text) → ids ≢ [] → added_by ids path ≡ []
+none_added [] path some = absurd (some refl)
+none_added (id ∷ ids) path some = refl
+
+-- ---- the first rows and the others
+
+pub take_rows :
+    {V : Type 0} (row : V → List ℕ) (types : List PortableType) (n : ℕ) (paths : List Text) (vs : List V)
+    → AreIdsByPath types paths (map row vs) → AreIdsByPath types (take n paths) (map row (take n vs))
+take_rows row types zero [] [] z = tt
+take_rows row types zero [] (v ∷ vs) z = absurd z
+take_rows row types zero (p ∷ ps) [] z = absurd z
+take_rows row types zero (p ∷ ps) (v ∷ vs) z = tt
+take_rows row types (suc n) [] [] z = tt
+take_rows row types (suc n) [] (v ∷ vs) z = absurd z
+take_rows row types (suc n) (p ∷ ps) [] z = absurd z
+take_rows row types (suc n) (p ∷ ps) (v ∷ vs) z = (z.0, take_rows row types n ps vs z.1)
+
+pub drop_rows :
+    {V : Type 0} (row : V → List ℕ) (types : List PortableType) (n : ℕ) (paths : List Text) (vs : List V)
+    → AreIdsByPath types paths (map row vs) → AreIdsByPath types (drop n paths) (map row (drop n vs))
+drop_rows row types zero [] [] z = tt
+drop_rows row types zero [] (v ∷ vs) z = absurd z
+drop_rows row types zero (p ∷ ps) [] z = absurd z
+drop_rows row types zero (p ∷ ps) (v ∷ vs) z = z
+drop_rows row types (suc n) [] [] z = tt
+drop_rows row types (suc n) [] (v ∷ vs) z = absurd z
+drop_rows row types (suc n) (p ∷ ps) [] z = absurd z
+drop_rows row types (suc n) (p ∷ ps) (v ∷ vs) z = drop_rows row types n ps vs z.1
+
+-- no paths have changed
+pub same_none :
+    (types others : List PortableType) (paths : List Text) → paths ≡ [] → TellsSame types others paths true
+same_none types others paths none =
+    record {
+      all = λ e.
+          subst (λ ps. All (λ path. ids_of path others ≢ [] → ¬ (¬ (AreSame types others path))) ps) (sym none)
+          (All-nil (λ path. ids_of path others ≢ [] → ¬ (¬ (AreSame types others path))));
+      one = λ e. absurd (false≢true (sym e));
+    }
+
+pub on_ok_weaker :
+    {T E : Type 0} (P Q : Type 0) (r : Result T E) → (P → Q) → OnOk r P → OnOk r Q
+on_ok_weaker P Q (Ok x) f h = f h
+on_ok_weaker P Q (Err e) f h = h
+
+pub first_rows :
+    {V : Type 0} (row : V → List ℕ) (types : List PortableType) (n : ℕ) (paths first : List Text) (vs firsts : List V)
+    → first ≡ take n paths → firsts ≡ take n vs
+    → AreIdsByPath types paths (map row vs) → AreIdsByPath types first (map row firsts)
+first_rows row types n paths first vs firsts is are z =
+    subst (λ ps. AreIdsByPath types ps (map row firsts)) (sym is)
+    (subst (λ ws. AreIdsByPath types (take n paths) (map row ws)) (sym are) (take_rows row types n paths vs z))
+
+pub second_rows :
+    {V : Type 0} (row : V → List ℕ) (types : List PortableType) (n : ℕ) (paths second : List Text) (vs seconds : List V)
+    → second ≡ drop n paths → seconds ≡ drop n vs
+    → AreIdsByPath types paths (map row vs) → AreIdsByPath types second (map row seconds)
+second_rows row types n paths second vs seconds is are z =
+    subst (λ ps. AreIdsByPath types ps (map row seconds)) (sym is)
+    (subst (λ ws. AreIdsByPath types (drop n paths) (map row ws)) (sym are) (drop_rows row types n paths vs z))
+
+pub adds_halves :
+    (types others : List PortableType) (n : ℕ) (paths first second : List Text) (old middle new : List Change)
+    → first ≡ take n paths → second ≡ drop n paths
+    → AddsOldChanges types others first old middle → AddsOldChanges types others second middle new
+    → AddsOldChanges types others paths old new
+adds_halves types others n paths first second old middle new is are x y =
+    adds_both types others n paths old middle new
+    (subst (λ ps. AddsOldChanges types others ps old middle) is x)
+    (subst (λ ps. AddsOldChanges types others ps middle new) are y)

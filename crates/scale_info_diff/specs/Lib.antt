@@ -1,0 +1,4 @@
+pub mod Comparisons
+pub mod NamedTables
+pub mod TableChanges
+pub mod TypesByPath

@@ -1,0 +1,109 @@
+-- What changed between two tables.
+use Rattle.std.specs.Prelude.{◌≡◌, ◌≢◌, ◌≤◌, ◌++◌, ◌⊎◌, ℕ, List, [], ◌∷◌, Contains, Some}
+use Rattle.std.specs.Prelude.{length, map, slice_get}
+use Rattle.std.specs.List.{AllZip, flat_map}
+use Rattle.scale_info_bytes.specs.Encodings.{HasNoPrefix}
+use Rattle.scale_info_bytes.specs.declared.error.DecodeError.TheVariants as decode
+use Rattle.scale_info_docs.specs.WithoutDocs.{entry_without_docs}
+use Rattle.scale_info_grammar.specs.Ty.{EncodesTypes}
+use Rattle.scale_info_numberings.specs.Matches.{IsMatch}
+use Rattle.scale_info_prune.specs.TableIndexes.{HasTrailing}
+use Rattle.scale_info_prune.specs.declared.prune.PruneError.{PruneError}
+use Rattle.scale_info_prune.specs.declared.prune.PruneError.TheVariants.{Decode, Trailing}
+use Rattle.scale_info_prune.specs.declared.prune.PruneError.TheVariants.{NoSuchType, Retain}
+use Rattle.scale_info_prune.specs.declared.prune.PruneError.TheVariants.{Encode, Memory}
+use Rattle.scale_info_references.specs.Conversions.{ids_in}
+use Rattle.scale_info_types.specs.Portable.{Text}
+use Rattle.scale_info_types.specs.declared.ty.PortableType.{PortableType}
+use Rattle.scale_info_walk.specs.TypeSystems.{types_system}
+use Rattle.scale_info_walk.specs.declared.walk.RetainError.TheVariants as retain
+use Rattle.scale_info_diff.specs.TypesByPath.{ids_of, paths_of}
+use Rattle.scale_info_diff.specs.declared.change.Change.{Change}
+use Rattle.scale_info_diff.specs.declared.change.Change.TheVariants.{Removed, Added, Changed}
+
+-- the types with this path are the same in both tables: a match takes what they reach in the one,
+-- one to one and in order, to what they reach in the other
+abbrev pub AreSame : List PortableType → List PortableType → Text → Type 0
+AreSame types others path =
+    (pairs : List (ℕ × ℕ))
+    × IsMatch (types_system types) (ids_of path types) (types_system others) (ids_of path others)
+    pairs
+
+-- what became of a path of the old types, where the others are new: it is removed, where no new
+-- type has it; changed, where new types have it and are not the same; and else, where it cannot be
+-- that they are not the same, there is no change
+pub data IsOldChange (types others : List PortableType) : Text → List Change → Type 0 where
+  removed :
+      (path : Text) → ids_of path others ≡ []
+      → IsOldChange types others path (Removed path ∷ [])
+  changed :
+      (path : Text) → ids_of path others ≢ [] → ¬ (AreSame types others path)
+      → IsOldChange types others path (Changed path ∷ [])
+  unchanged :
+      (path : Text) → ids_of path others ≢ [] → ¬ (¬ (AreSame types others path))
+      → IsOldChange types others path []
+
+-- what became of a path, by the ids of the types with it in the other table: it is added, where
+-- there is none
+abbrev pub added_by : List ℕ → Text → List Change
+added_by [] path = Added path ∷ []
+added_by (id ∷ ids) path = []
+
+-- what was added of a path of new types
+abbrev pub new_change : List PortableType → Text → List Change
+new_change types path = added_by (ids_of path types) path
+
+-- what became of the paths of the old types, path by path, and then what was added of the paths of
+-- the others, which are new
+pub record AreChanges (types others : List PortableType) (changes : List Change) : Type 0 where
+  pub of_old : List (List Change)
+  pub each : AllZip (IsOldChange types others) (paths_of types) of_old
+  pub listed :
+      changes ≡ flat_map (λ part. part) of_old ++ flat_map (new_change types) (paths_of others)
+
+-- the changes between the tables that two inputs encode, without their docs
+pub record AreTableChanges (old new : List ℕ) (changes : List Change) : Type 0 where
+  pub types : List PortableType
+  pub others : List PortableType
+  pub encodes : EncodesTypes types old
+  pub other_encodes : EncodesTypes others new
+  pub changed :
+      AreChanges (map entry_without_docs types) (map entry_without_docs others) changes
+
+-- an entry refers to this id, which is no index
+pub record IsDangling (types : List PortableType) (id : ℕ) : Type 0 where
+  pub index : ℕ
+  pub entry : PortableType
+  pub found : slice_get types index ≡ Some entry
+  pub refers : Contains (ids_in entry.ty) id
+  pub outside : length types ≤ id
+
+-- the input encodes a table of which, without docs, an entry refers to this id, which is no index
+pub record HasDanglingReference (input : List ℕ) (id : ℕ) : Type 0 where
+  pub types : List PortableType
+  pub encodes : EncodesTypes types input
+  pub dangling : IsDangling (map entry_without_docs types) id
+
+-- why an input is refused
+abbrev pub IsInputError : List ℕ → PruneError → Type 0
+IsInputError input (Decode decode.Malformed) = HasNoPrefix EncodesTypes input
+IsInputError input (Decode decode.Memory) = ⊥
+IsInputError input Trailing = HasTrailing input
+IsInputError input (NoSuchType id) = ⊥
+IsInputError input (Retain (retain.Dangling id)) = HasDanglingReference input id
+IsInputError input (Retain retain.TooManyTypes) = ⊥
+IsInputError input (Retain retain.Memory) = ⊥
+IsInputError input (Encode e) = ⊥
+IsInputError input Memory = Unit {0}
+
+-- why types are not compared with others
+abbrev pub IsCompareError : List PortableType → List PortableType → PruneError → Type 0
+IsCompareError types others (Decode e) = ⊥
+IsCompareError types others Trailing = ⊥
+IsCompareError types others (NoSuchType id) = ⊥
+IsCompareError types others (Retain (retain.Dangling id)) =
+    IsDangling types id ⊎ IsDangling others id
+IsCompareError types others (Retain retain.TooManyTypes) = ⊥
+IsCompareError types others (Retain retain.Memory) = ⊥
+IsCompareError types others (Encode e) = ⊥
+IsCompareError types others Memory = Unit {0}

@@ -1,0 +1,78 @@
+//! What changed between two tables.
+ghost use Rattle.std.specs.Prelude.{◌≡◌, ◌++◌, ◌⊎◌, List, IfOk, IfErr, OnOk, map};
+ghost use Rattle.std.specs.List.{flat_map};
+ghost use Rattle.scale_info_diff.specs.TableChanges.{AreTableChanges, IsInputError, new_change};
+ghost use Rattle.scale_info_diff.specs.NamedTables.{IsNamedTable};
+ghost use Rattle.scale_info_types.specs.declared.ty.PortableType.{PortableType};
+
+use crate::change::Change;
+use crate::compare::push_old_changes;
+use crate::named::NamedTable;
+use scale_info_collections::text::Text;
+use scale_info_collections::try_clone::TryClone;
+use scale_info_prune::prune::PruneError;
+use std::alloc::{AllocError, Global};
+
+/// What changed between two tables, by the paths of their types: which are only in the old one,
+/// which only in the new one, and which in both, but with types that are not the same.
+///
+/// The types of a path are the same where [`same_types`] says so of all that have it in the old
+/// table and all that have it in the new one, in ascending order of id. So a type has changed where
+/// a type that it reaches has. Docs don't count, nor types without a path. Each path comes once:
+/// those of the old table first, in the order of the first types that have them, and then those
+/// that are new.
+///
+/// All paths of both tables are compared at once, and where they are not all the same, those of
+/// each half, down to single ones. Each comparison goes over both tables. So tables in which
+/// nothing changed are compared once, and there are at most twice as many comparisons as paths.
+///
+/// Errors, of the old table before the new one: `Decode(Malformed)`, where no prefix of the input
+/// is a table; `Trailing`, where bytes come after it. Then `Retain(Dangling)`, where an entry of
+/// one of them refers to an id that is no index, and `Memory`, where an allocation failed.
+///
+/// ```text
+/// changes(alloc, &old, &new)?  // of tables with `a::T` of u8, and with `a::T` of u16 and `b::U`:
+///                              // Changed("a::T"), Added("b::U")
+/// ```
+///
+/// [`same_types`]: scale_info_prune::same_types::same_types
+pub fn changes(alloc: Global, old: &[u8], new: &[u8]) -> Result<Vec<Change>, PruneError>
+    ensures ok { IfOk result (λ changes. AreTableChanges old.now new.now changes.items) }
+    ensures cause { IfErr result
+        (λ error. IsInputError old.now error ⊎ IsInputError new.now error) }
+{
+    let old = NamedTable::of(alloc, old)?;
+    let new = NamedTable::of(alloc, new)?;
+    let mut changes = Vec::new(alloc);
+    push_old_changes(
+        alloc,
+        &old.bytes,
+        &new,
+        old.paths.elements(),
+        &old.ids,
+        &mut changes,
+    )?;
+    push_added(alloc, &old, new.paths.elements(), &mut changes)?;
+    Ok(changes)
+}
+
+/// Pushes that these paths were added, as far as the old table has no type with them. On an error
+/// some changes may have been pushed.
+fn push_added(
+    alloc: Global,
+    old: &NamedTable,
+    paths: &[Text],
+    changes: &mut Vec<Change>,
+) -> Result<(), AllocError>
+    ensures { OnOk result ((types : List PortableType)
+        → IsNamedTable types old.now.bytes.items old.now.paths
+        (map (λ row. row.items) old.now.ids.items)
+        → changes.new.items ≡ changes.old.items ++ flat_map (new_change types) paths.now) }
+{
+    for path in paths {
+        if old.ids_of(path).is_empty() {
+            changes.push(Change::Added(path.try_clone(alloc)?))?;
+        }
+    }
+    Ok(())
+}

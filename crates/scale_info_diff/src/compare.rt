@@ -1,0 +1,174 @@
+//! Paths of an old table, compared with a new table.
+ghost use Rattle.std.specs.Prelude.{◌≡◌, ◌++◌, ◌≢◌, List, IfOk, IfErr, OnOk, IsOk, true, false};
+ghost use Rattle.std.specs.Prelude.{◌∷◌, [], All, MatchOption, length, map};
+ghost use Rattle.std.specs.List.{flat_map};
+ghost use Rattle.scale_info_diff.specs.TableChanges.{AreSame, IsCompareError, IsOldChange};
+ghost use Rattle.scale_info_diff.specs.Comparisons.{AddsOldChanges, AreCommonIds};
+ghost use Rattle.scale_info_diff.specs.Comparisons.{HaveOtherCounts, TellsSame, removed_change};
+ghost use Rattle.scale_info_diff.specs.NamedTables.{IsNamedTable};
+ghost use Rattle.scale_info_diff.specs.TypesByPath.{AreIdsByPath, ids_of};
+ghost use Rattle.scale_info_grammar.specs.Ty.{EncodesTypes};
+ghost use Rattle.scale_info_types.specs.Portable as portable;
+ghost use Rattle.scale_info_types.specs.declared.ty.PortableType.{PortableType};
+
+use crate::change::Change;
+use crate::named::NamedTable;
+use scale_info_collections::text::Text;
+use scale_info_collections::try_clone::TryClone;
+use scale_info_prune::prune::PruneError;
+use scale_info_prune::same_types::same_types;
+use std::alloc::{AllocError, Global};
+
+/// Pushes what became of these paths of the old table, whose ids are given, in order.
+///
+/// The types of all of them are compared at once, and only where they are not the same, those of
+/// each half of the paths. On an error some changes may have been pushed.
+///
+/// Errors: `Retain(Dangling)`, where an entry refers to an id that is no index; `Memory`, where an
+/// allocation failed.
+pub(crate) fn push_old_changes(
+    alloc: Global,
+    old: &[u8],
+    new: &NamedTable,
+    paths: &[Text],
+    ids: &[Vec<u32>],
+    changes: &mut Vec<Change>,
+) -> Result<(), PruneError>
+    requires { length ids.now ≡ length paths.now }
+    ensures ok { OnOk result ((types others : List PortableType)
+        → EncodesTypes types old.now
+        → IsNamedTable others new.now.bytes.items new.now.paths
+        (map (λ row. row.items) new.now.ids.items)
+        → AreIdsByPath types paths.now (map (λ row. row.items) ids.now)
+        → AddsOldChanges types others paths.now changes.old.items changes.new.items) }
+    ensures cause { IfErr result (λ error. (types others : List PortableType)
+        → EncodesTypes types old.now
+        → IsNamedTable others new.now.bytes.items new.now.paths
+        (map (λ row. row.items) new.now.ids.items)
+        → AreIdsByPath types paths.now (map (λ row. row.items) ids.now)
+        → IsCompareError types others error) }
+{
+    if paths.is_empty() || are_same(alloc, old, new, paths, ids)? {
+        return Ok(push_removed(alloc, new, paths, changes)?);
+    }
+    if paths.len() == 1 {
+        return Ok(push_difference(alloc, new, &paths[0], changes)?);
+    }
+    let middle = paths.len() / 2;
+    let (first, second) = paths.split_at(middle);
+    let (first_ids, second_ids) = ids.split_at(middle);
+    push_old_changes(alloc, old, new, first, first_ids, changes)?;
+    push_old_changes(alloc, old, new, second, second_ids, changes)
+}
+
+/// Whether the types of all of these paths of the old table that the new one has are the same.
+///
+/// False says nothing of any one of several paths.
+///
+/// Errors: as those of [`push_old_changes`].
+fn are_same(
+    alloc: Global,
+    old: &[u8],
+    new: &NamedTable,
+    paths: &[Text],
+    ids: &[Vec<u32>],
+) -> Result<bool, PruneError>
+    requires { length ids.now ≡ length paths.now }
+    ensures ok { IfOk result (λ same. (types others : List PortableType)
+        → EncodesTypes types old.now
+        → IsNamedTable others new.now.bytes.items new.now.paths
+        (map (λ row. row.items) new.now.ids.items)
+        → AreIdsByPath types paths.now (map (λ row. row.items) ids.now)
+        → TellsSame types others paths.now same) }
+    ensures cause { IfErr result (λ error. (types others : List PortableType)
+        → EncodesTypes types old.now
+        → IsNamedTable others new.now.bytes.items new.now.paths
+        (map (λ row. row.items) new.now.ids.items)
+        → AreIdsByPath types paths.now (map (λ row. row.items) ids.now)
+        → IsCompareError types others error) }
+{
+    match common_ids(alloc, new, paths, ids)? {
+        None => Ok(false),
+        Some((common, others)) => same_types(alloc, old, &common, &new.bytes, &others),
+    }
+}
+
+/// The ids of these paths of the old table that the new one has, and those that they have there,
+/// path by path; None, where one of them has another number of types there.
+///
+/// Errors: `AllocError`, if an allocation failed.
+fn common_ids(
+    alloc: Global,
+    new: &NamedTable,
+    paths: &[Text],
+    ids: &[Vec<u32>],
+) -> Result<Option<(Vec<u32>, Vec<u32>)>, AllocError>
+    requires { length ids.now ≡ length paths.now }
+    ensures { IfOk result (λ found. (types others : List PortableType)
+        → IsNamedTable others new.now.bytes.items new.now.paths
+        (map (λ row. row.items) new.now.ids.items)
+        → AreIdsByPath types paths.now (map (λ row. row.items) ids.now)
+        → MatchOption found (HaveOtherCounts types others paths.now)
+        (λ both. AreCommonIds types others paths.now both.0.items both.1.items)) }
+{
+    let mut common = Vec::new(alloc);
+    let mut others = Vec::new(alloc);
+    for index in 0..paths.len() {
+        let there = new.ids_of(&paths[index]);
+        if there.is_empty() {
+            continue;
+        }
+        let row = &ids[index];
+        if there.len() != row.len() {
+            return Ok(None);
+        }
+        common.extend_from_slice(row)?;
+        others.extend_from_slice(there)?;
+    }
+    Ok(Some((common, others)))
+}
+
+/// Pushes that these paths were removed, as far as the new table has no type with them. On an error
+/// some changes may have been pushed.
+fn push_removed(
+    alloc: Global,
+    new: &NamedTable,
+    paths: &[Text],
+    changes: &mut Vec<Change>,
+) -> Result<(), AllocError>
+    ensures { OnOk result ((others : List PortableType)
+        → IsNamedTable others new.now.bytes.items new.now.paths
+        (map (λ row. row.items) new.now.ids.items)
+        → changes.new.items ≡ changes.old.items
+        ++ flat_map (λ path. removed_change others path) paths.now) }
+{
+    for path in paths {
+        if new.ids_of(path).is_empty() {
+            changes.push(Change::Removed(path.try_clone(alloc)?))?;
+        }
+    }
+    Ok(())
+}
+
+/// Pushes that this path was removed, if the new table has no type with it, and else that its types
+/// are not the same.
+fn push_difference(
+    alloc: Global,
+    new: &NamedTable,
+    path: &Text,
+    changes: &mut Vec<Change>,
+) -> Result<(), AllocError>
+    ensures { OnOk result ((types others : List PortableType)
+        → IsNamedTable others new.now.bytes.items new.now.paths
+        (map (λ row. row.items) new.now.ids.items)
+        → TellsSame types others (path.now ∷ []) false
+        → AddsOldChanges types others (path.now ∷ []) changes.old.items changes.new.items) }
+{
+    let copy = path.try_clone(alloc)?;
+    if new.ids_of(path).is_empty() {
+        changes.push(Change::Removed(copy))?;
+        return Ok(());
+    }
+    changes.push(Change::Changed(copy))?;
+    Ok(())
+}

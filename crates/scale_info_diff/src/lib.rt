@@ -1,0 +1,10 @@
+//! What changed between two tables, by the paths of their types.
+//!
+//! [`changes::changes`] lists the paths of types that are gone, new, or no longer the same.
+#![tactic(auto)]
+
+pub mod change;
+pub mod changes;
+mod compare;
+mod named;
+mod paths;
