@@ -51,6 +51,8 @@ pub use Rattle.scale_info_prune.specs.TableIndexes
 pub use Rattle.scale_info_prune.specs.SameTypes
 pub use Rattle.scale_info_docs.specs.Changes
 pub use Rattle.scale_info_docs.specs.WithoutDocs
+pub use Rattle.scale_info_diff.specs.TableChanges
+pub use Rattle.scale_info_diff.specs.TypesByPath
 pub use Rattle.scale_info_metadata.specs.HexTexts
 pub use Rattle.scale_info_metadata.specs.Metadata
 pub use Rattle.scale_info_metadata.specs.TablesFound
@@ -107,8 +109,6 @@ pub use Rattle.scale_info_loaded.specs.LoadedTables
 pub use Rattle.scale_info_lent.specs.IntegerLists
 pub use Rattle.scale_info_lent.specs.LentValues
 pub use Rattle.scale_info_lent.specs.ValueParts
-pub use Rattle.scale_info_lent_form.specs.OwnedDescriptions
-pub use Rattle.scale_info_lent_form.specs.OwnedParts
 pub use Rattle.scale_info_value_text.specs.ValueTexts
 pub use Rattle.scale_info_value_json.specs.Takers
 pub use Rattle.scale_info_value_json.specs.TreeParts

@@ -2,11 +2,11 @@
 #![tactic(auto)]
 
 pub mod describe;
+pub mod diff;
 pub mod export;
 pub mod graph;
 pub mod impls;
 pub mod laws;
-pub mod lent_form;
 pub mod macros;
 pub mod meta_type;
 pub mod metadata;

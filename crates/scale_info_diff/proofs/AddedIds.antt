@@ -151,7 +151,6 @@ known_or_new (k ∷ known) p =
           ]
     ]
 
--- a path that is none of those that were listed has no id
 pub unlisted :
     (n : ℕ) (known : List Text) (es : List PortableType) (p : Text)
     → (Contains (known ++ new_paths known es) p → ⊥) → indices_from n (has_path p) es ≡ []
@@ -222,7 +221,6 @@ pushed_at (z ∷ xs) y (suc k) x e =
 
 -- ---- what was gathered of types before es, the first of which has the index n
 
--- some first entries were gone over
 pub record IsSoFar (types : List PortableType) (n : ℕ) (es : List PortableType) (paths : List Text)
     (rows : List (List ℕ)) : Type 0 where
   pub listed : paths ++ new_paths paths es ≡ paths_of types
@@ -233,7 +231,6 @@ pub record IsSoFar (types : List PortableType) (n : ℕ) (es : List PortableType
       → row ++ indices_from n (has_path p) es ≡ ids_of p types
   pub unknown : (p : Text) → (Contains paths p → ⊥) → indices_from n (has_path p) es ≡ ids_of p types
 
--- before the first entry
 pub at_start : (types : List PortableType) → IsSoFar types 0 types [] []
 at_start types =
     record {

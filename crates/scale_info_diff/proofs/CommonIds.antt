@@ -29,12 +29,10 @@ pub record IsCommonSoFar (types others : List PortableType) (paths left : List T
   pub own_so_far : common ++ flat_map (own types others) left ≡ flat_map (own types others) paths
   pub theirs_so_far : other_ids ++ flat_map (theirs types others) left ≡ flat_map (theirs types others) paths
 
--- before the first path
 pub at_start :
     (types others : List PortableType) (paths : List Text) → IsCommonSoFar types others paths paths [] []
 at_start types others paths = record { counts = λ all. all; own_so_far = refl; theirs_so_far = refl }
 
--- after the last path
 pub at_end :
     (types others : List PortableType) (paths left : List Text) (common other_ids : List ℕ)
     → left ≡ [] → IsCommonSoFar types others paths left common other_ids
@@ -50,7 +48,6 @@ at_end types others paths left common other_ids none x =
 own_none : (ids other_ids : List ℕ) → other_ids ≡ [] → own_ids other_ids ids ≡ []
 own_none ids other_ids none = ap (λ is. own_ids is ids) none
 
--- where the other table has ids of a path, those of the first one count
 pub own_some : (ids other_ids : List ℕ) → other_ids ≢ [] → own_ids other_ids ids ≡ ids
 own_some ids [] some = absurd (some refl)
 own_some ids (i ∷ is) some = refl
@@ -107,7 +104,6 @@ module _ (types others : List PortableType) (paths : List Text) (path : Text) (l
 
 -- ---- lists that are tested for being empty
 
--- a list whose length is 0 is empty
 pub is_none : {A : Type 0} (xs : List A) (b : Bool) → b ≡ (length xs == 0) → b ≡ true → xs ≡ []
 is_none xs b is holds =
     elim (eqb_tells (length xs) 0) [
@@ -115,7 +111,6 @@ is_none xs b is holds =
       | inr h ↦ absurd (false≢true (sym h.0 ∙ sym is ∙ holds))
     ]
 
--- one whose length is another is not
 pub is_some : {A : Type 0} (xs : List A) (b : Bool) → b ≡ (length xs == 0) → b ≡ false → xs ≢ []
 is_some xs b is fails none =
     elim (eqb_tells (length xs) 0) [

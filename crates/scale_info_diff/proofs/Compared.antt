@@ -117,13 +117,11 @@ module _ (types others : List PortableType) where
 
 -- ---- what an Ok and an Err say
 
--- what follows from what an Ok has
 pub ok_weaker :
     {T E : Type 0} (P Q : T → Type 0) (r : Result T E) → ((x : T) → P x → Q x) → IfOk r P → IfOk r Q
 ok_weaker P Q (Ok x) f h = f x h
 ok_weaker P Q (Err e) f h = h
 
--- what follows from what an Err has
 pub err_weaker :
     {T E : Type 0} (P Q : E → Type 0) (r : Result T E) → ((e : E) → P e → Q e) → IfErr r P → IfErr r Q
 err_weaker P Q (Ok x) f h = h

@@ -134,14 +134,12 @@ pub none_removed : (ids : List ℕ) (path : Text) → ids ≢ [] → removed_by 
 none_removed [] path some = absurd (some refl)
 none_removed (id ∷ ids) path some = refl
 
--- a path that the old table has is not added
 pub none_added : (ids : List ℕ) (path : Text) → ids ≢ [] → added_by ids path ≡ []
 none_added [] path some = absurd (some refl)
 none_added (id ∷ ids) path some = refl
 
 -- ---- the first rows and the others
 
--- the first rows are those of the first paths
 pub take_rows :
     {V : Type 0} (row : V → List ℕ) (types : List PortableType) (n : ℕ) (paths : List Text) (vs : List V)
     → AreIdsByPath types paths (map row vs) → AreIdsByPath types (take n paths) (map row (take n vs))
@@ -154,7 +152,6 @@ take_rows row types (suc n) [] (v ∷ vs) z = absurd z
 take_rows row types (suc n) (p ∷ ps) [] z = absurd z
 take_rows row types (suc n) (p ∷ ps) (v ∷ vs) z = (z.0, take_rows row types n ps vs z.1)
 
--- the others are those of the other paths
 pub drop_rows :
     {V : Type 0} (row : V → List ℕ) (types : List PortableType) (n : ℕ) (paths : List Text) (vs : List V)
     → AreIdsByPath types paths (map row vs) → AreIdsByPath types (drop n paths) (map row (drop n vs))
@@ -178,13 +175,11 @@ same_none types others paths none =
       one = λ e. absurd (false≢true (sym e));
     }
 
--- what follows from what holds on an Ok
 pub on_ok_weaker :
     {T E : Type 0} (P Q : Type 0) (r : Result T E) → (P → Q) → OnOk r P → OnOk r Q
 on_ok_weaker P Q (Ok x) f h = f h
 on_ok_weaker P Q (Err e) f h = h
 
--- the first half of the rows is that of the first half of the paths
 pub first_rows :
     {V : Type 0} (row : V → List ℕ) (types : List PortableType) (n : ℕ) (paths first : List Text) (vs firsts : List V)
     → first ≡ take n paths → firsts ≡ take n vs
@@ -193,7 +188,6 @@ first_rows row types n paths first vs firsts is are z =
     subst (λ ps. AreIdsByPath types ps (map row firsts)) (sym is)
     (subst (λ ws. AreIdsByPath types (take n paths) (map row ws)) (sym are) (take_rows row types n paths vs z))
 
--- the second half likewise
 pub second_rows :
     {V : Type 0} (row : V → List ℕ) (types : List PortableType) (n : ℕ) (paths second : List Text) (vs seconds : List V)
     → second ≡ drop n paths → seconds ≡ drop n vs
@@ -202,7 +196,6 @@ second_rows row types n paths second vs seconds is are z =
     subst (λ ps. AreIdsByPath types ps (map row seconds)) (sym is)
     (subst (λ ws. AreIdsByPath types (drop n paths) (map row ws)) (sym are) (drop_rows row types n paths vs z))
 
--- what both halves add in turn is what all paths add
 pub adds_halves :
     (types others : List PortableType) (n : ℕ) (paths first second : List Text) (old middle new : List Change)
     → first ≡ take n paths → second ≡ drop n paths

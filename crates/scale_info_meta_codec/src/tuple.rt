@@ -35,17 +35,13 @@ pub(crate) fn encode_three<
     C: EncodeWithIds<N>,
 >(first: &A, second: &B, third: &C, ids: &N, out: &mut Vec<u8>) -> Result<(), EncodeError>
     ensures ok { OnOk result (AppendsEncoding
-        (EncodesPair A.encodes (EncodesPair B.encodes C.encodes) (
-          A.portable ids.now first.now,
-          (B.portable ids.now second.now, C.portable ids.now third.now),
-        ))
+        (EncodesPair A.encodes (EncodesPair B.encodes C.encodes)
+        (A.portable ids.now first.now, (B.portable ids.now second.now, C.portable ids.now third.now)))
         out.old.items out.new.items) }
     ensures err { OnErr result (IsPrefix out.old.items out.new.items) }
     ensures too_long { IfErr result (IfTooLong (HasNoEncoding
-        (EncodesPair A.encodes (EncodesPair B.encodes C.encodes) (
-          A.portable ids.now first.now,
-          (B.portable ids.now second.now, C.portable ids.now third.now),
-        )))) }
+        (EncodesPair A.encodes (EncodesPair B.encodes C.encodes)
+        (A.portable ids.now first.now, (B.portable ids.now second.now, C.portable ids.now third.now))))) }
 {
     first.encode_with_ids(ids, out)?;
     encode_two(second, third, ids, out)
@@ -67,23 +63,13 @@ pub(crate) fn encode_four<
     out: &mut Vec<u8>,
 ) -> Result<(), EncodeError>
     ensures ok { OnOk result (AppendsEncoding
-        (EncodesPair A.encodes (EncodesPair B.encodes (EncodesPair C.encodes D.encodes)) (
-          A.portable ids.now first.now,
-          (
-            B.portable ids.now second.now,
-            (C.portable ids.now third.now, D.portable ids.now fourth.now),
-          ),
-        ))
+        (EncodesPair A.encodes (EncodesPair B.encodes (EncodesPair C.encodes D.encodes))
+        (A.portable ids.now first.now, (B.portable ids.now second.now, (C.portable ids.now third.now, D.portable ids.now fourth.now))))
         out.old.items out.new.items) }
     ensures err { OnErr result (IsPrefix out.old.items out.new.items) }
     ensures too_long { IfErr result (IfTooLong (HasNoEncoding
-        (EncodesPair A.encodes (EncodesPair B.encodes (EncodesPair C.encodes D.encodes)) (
-          A.portable ids.now first.now,
-          (
-            B.portable ids.now second.now,
-            (C.portable ids.now third.now, D.portable ids.now fourth.now),
-          ),
-        )))) }
+        (EncodesPair A.encodes (EncodesPair B.encodes (EncodesPair C.encodes D.encodes))
+        (A.portable ids.now first.now, (B.portable ids.now second.now, (C.portable ids.now third.now, D.portable ids.now fourth.now)))))) }
 {
     first.encode_with_ids(ids, out)?;
     encode_three(second, third, fourth, ids, out)

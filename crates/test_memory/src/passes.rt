@@ -13,7 +13,7 @@ use std::test::Fail;
 use test_common::rows::parted;
 use test_memory_common::answers::{done, failed};
 use test_memory_common::inputs::bytes_of;
-use test_memory_common::marked;
+use test_memory_common::marks::{begin, end};
 use test_memory_common::outcomes::Outcome;
 use test_memory_tables::bytes::with_rest;
 
@@ -64,7 +64,9 @@ fn shown(alloc: Global, rest: &[u8], ids: &[u32], renumbered: &[u8]) -> Result<S
 
 /// Has the passes visit a value, and the proper prefixes of the input.
 fn visited<T: Pass>(rt: &HostRuntime, input: &[u8]) -> Result<Outcome, Fail> {
-    let returned = marked!(rt; visit::<T>(rt.alloc(), input));
+    begin(rt);
+    let returned = visit::<T>(rt.alloc(), input);
+    end(rt);
     let answer = match returned {
         Ok(Some((rest, ids, renumbered))) => {
             let (count, len) = (prefixes::<T>(input), input.len());
@@ -119,7 +121,9 @@ pub fn index(rt: &HostRuntime, row: &str) -> Result<Outcome, Fail> {
     let (count, input) = parted(row, ':')?;
     let count: u32 = count.parse()?;
     let input = bytes_of(rt.alloc(), input)?;
-    let returned = marked!(rt; index_entries(rt.alloc(), count, &input));
+    begin(rt);
+    let returned = index_entries(rt.alloc(), count, &input);
+    end(rt);
     let answer = match returned {
         Ok(Some((index, rest))) => {
             let (offsets, starts, ids) = (index.offsets, index.starts, index.references);

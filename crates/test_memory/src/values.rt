@@ -1,52 +1,40 @@
-//! Values that are decoded by a table, encoded again, and lent.
+//! Values that are decoded by a table, lent, and written as text.
 use example_callers::print::print_decoded;
 use scale_info::PortableRegistry;
 use scale_info::lent::{Lent, decode_lent};
-use scale_info::value::{Dyn, ValueError, decode_value, encode_value};
-use scale_info::visit::skip_value;
+use scale_info::value::{Dyn, ValueError, decode_value};
+use scale_info::value_text::{ValueTextError, append_value_json, value_json};
 use std::alloc::{AllocError, Global};
 use std::test::Fail;
 use test_common::held::Held;
 use test_common::rows::{parted, row_bytes};
 use test_memory_common::answers::{Answer, done, failed, shown};
 use test_memory_common::inputs::{output, table_of};
-use test_memory_common::marked;
+use test_memory_common::marks::{begin, end};
 use test_memory_common::outcomes::Outcome;
+use test_memory_tables::json::appended;
 
-/// The ids, the table and the input of a row: after a name and a colon they stand in this order,
+/// The id, the input and the table of a row: after a name and a colon an id, a table and an input,
 /// with semicolons between them.
-pub fn parts_of(row: &str) -> Result<(&str, &str, &str), Fail> {
+fn parts(alloc: Global, row: &str) -> Result<(u32, Vec<u8>, PortableRegistry), Fail> {
     let (_, rest) = parted(row, ':')?;
-    let (ids, rest) = parted(rest, ';')?;
+    let (id, rest) = parted(rest, ';')?;
     let (table, input) = parted(rest, ';')?;
-    Ok((ids.trim(), table, input.trim()))
+    let id: u32 = id.trim().parse()?;
+    let input = row_bytes(alloc, input)?;
+    Ok((id, input, table_of(alloc, table)?))
 }
 
-/// What a row gives.
-#[derive(Drop)]
-pub struct Given {
-    /// The id of the type of a value.
-    pub id: u32,
-    /// The input.
-    pub input: Vec<u8>,
-    /// The table.
-    pub table: Held<PortableRegistry>,
-}
-
-impl Given {
-    /// What a row gives.
-    pub fn read(alloc: Global, row: &str) -> Result<Given, Fail> {
-        let (id, table, input) = parts_of(row)?;
-        let (id, input): (u32, Vec<u8>) = (id.parse()?, row_bytes(alloc, input)?);
-        let table = Held(table_of(alloc, table)?);
-        Ok(Given { id, input, table })
-    }
-
-    /// Whether a value is the one that is decoded.
-    pub fn is_decoded(&self, alloc: Global, value: &Dyn) -> Result<bool, Fail> {
-        let (again, _) = decode_value(alloc, &self.table.0, self.id, &self.input)?;
-        Ok(again == *value)
-    }
+/// Whether another decoding gives this value too.
+fn is_decoded_again(
+    alloc: Global,
+    table: &PortableRegistry,
+    id: u32,
+    input: &[u8],
+    value: &Dyn,
+) -> Result<bool, Fail> {
+    let (again, _) = decode_value(alloc, table, id, input)?;
+    Ok(again == *value)
 }
 
 /// The text of a value, and the bytes that are left, in decimal.
@@ -60,91 +48,124 @@ fn text_of(alloc: Global, value: Vec<u8>, rest: &[u8]) -> Result<String, Fail> {
 
 /// How a value that was decoded is printed with what is left, and whether another decoding gives it
 /// too.
-fn printed(alloc: Global, given: &Given, value: &Dyn) -> Result<Answer, Fail> {
-    let is_same = given.is_decoded(alloc, value)?;
+fn printed(
+    alloc: Global,
+    table: &PortableRegistry,
+    id: u32,
+    input: &[u8],
+    value: &Dyn,
+) -> Result<Answer, Fail> {
+    let is_same = is_decoded_again(alloc, table, id, input, value)?;
     let mut text = Vec::new(alloc);
-    let rest = print_decoded(alloc, &given.table.0, given.id, &given.input, &mut text)?;
+    let rest = print_decoded(alloc, table, id, input, &mut text)?;
     let text = text_of(alloc, text, rest)?;
     Ok(done(format!(in alloc; "{text} {is_same}"))?)
 }
 
+/// The answer of a decoding.
+fn answer(
+    alloc: Global,
+    table: &PortableRegistry,
+    id: u32,
+    input: &[u8],
+    returned: Result<(Dyn, &[u8]), ValueError>,
+) -> Result<Answer, Fail> {
+    match returned {
+        Ok((value, _)) => printed(alloc, table, id, input, &value),
+        Err(error) => Ok(failed(alloc, &error)?),
+    }
+}
+
 /// Decodes the value of a row.
 pub fn decode(rt: &HostRuntime, row: &str) -> Result<Outcome, Fail> {
-    let given = Given::read(rt.alloc(), row)?;
-    let table = &given.table.0;
-    let returned = marked!(rt; decode_value(rt.alloc(), table, given.id, &given.input));
-    let answer = match returned {
-        Ok((value, _)) => printed(rt.alloc(), &given, &value)?,
-        Err(error) => failed(rt.alloc(), &error)?,
-    };
+    let (id, input, table) = parts(rt.alloc(), row)?;
+    begin(rt);
+    let returned = decode_value(rt.alloc(), &table, id, &input);
+    end(rt);
+    let answer = answer(rt.alloc(), &table, id, &input, returned)?;
     Outcome::of(Ok(answer))
 }
 
-/// Whether the copy of a value that borrows is the value that is decoded, and what is left.
-fn copied(alloc: Global, given: &Given, value: &Lent<'_, '_>, rest: &[u8]) -> Result<Answer, Fail> {
-    let copy = value.to_dyn(alloc)?;
-    let is_same = given.is_decoded(alloc, &copy)?;
-    Ok(done(format!(in alloc; "{is_same} {rest:?}"))?)
-}
-
-/// The outcome of a decoding to a value that borrows.
-pub fn lent_outcome(
+/// What a decoding to a value that borrows returned, and whether its copy is the value that is
+/// decoded.
+fn lent_answer(
     alloc: Global,
-    given: &Given,
+    table: &PortableRegistry,
+    id: u32,
+    input: &[u8],
     returned: Result<(Lent<'_, '_>, &[u8]), ValueError>,
-) -> Result<Outcome, Fail> {
-    let answer = match returned {
-        Ok((value, rest)) => copied(alloc, given, &value, rest)?,
-        Err(error) => failed(alloc, &error)?,
-    };
-    Outcome::of(Ok(answer))
+) -> Result<Answer, Fail> {
+    match returned {
+        Ok((lent, rest)) => {
+            let copy = lent.to_dyn(alloc)?;
+            let is_same = is_decoded_again(alloc, table, id, input, &copy)?;
+            Ok(done(format!(in alloc; "{is_same} {rest:?}"))?)
+        }
+        Err(error) => Ok(failed(alloc, &error)?),
+    }
 }
 
 /// Decodes the value of a row as one that borrows.
 pub fn decode_and_lend(rt: &HostRuntime, row: &str) -> Result<Outcome, Fail> {
-    let given = Given::read(rt.alloc(), row)?;
-    let table = &given.table.0;
-    let returned = marked!(rt; decode_lent(rt.alloc(), table, given.id, &given.input));
-    lent_outcome(rt.alloc(), &given, returned)
+    let (id, input, table) = parts(rt.alloc(), row)?;
+    begin(rt);
+    let returned = decode_lent(rt.alloc(), &table, id, &input);
+    end(rt);
+    let answer = lent_answer(rt.alloc(), &table, id, &input, returned)?;
+    Outcome::of(Ok(answer))
 }
 
-/// Copies the value of a row that borrows: whether the copy is the value that is decoded.
-pub fn copy_lent(rt: &HostRuntime, row: &str) -> Result<Outcome, Fail> {
-    let given = Given::read(rt.alloc(), row)?;
-    let (lent, _) = decode_lent(rt.alloc(), &given.table.0, given.id, &given.input)?;
-    Outcome::of(match marked!(rt; lent.to_dyn(rt.alloc())) {
+/// What a copy of a value that borrows returned: whether it is the value that is decoded.
+fn copy_answer(
+    alloc: Global,
+    table: &PortableRegistry,
+    id: u32,
+    input: &[u8],
+    returned: Result<Dyn, AllocError>,
+) -> Result<Answer, Fail> {
+    match returned {
         Ok(copy) => {
-            let is_same = given.is_decoded(rt.alloc(), &copy)?;
-            done(format!(in rt.alloc(); "{is_same}"))
+            let is_same = is_decoded_again(alloc, table, id, input, &copy)?;
+            Ok(done(format!(in alloc; "{is_same}"))?)
         }
+        Err(error) => Ok(failed(alloc, &error)?),
+    }
+}
+
+/// Copies the value of a row that borrows.
+pub fn copy_lent(rt: &HostRuntime, row: &str) -> Result<Outcome, Fail> {
+    let (id, input, table) = parts(rt.alloc(), row)?;
+    let (lent, _) = decode_lent(rt.alloc(), &table, id, &input)?;
+    begin(rt);
+    let returned = lent.to_dyn(rt.alloc());
+    end(rt);
+    let answer = copy_answer(rt.alloc(), &table, id, &input, returned)?;
+    Outcome::of(Ok(answer))
+}
+
+/// Appends the text of the value of a row to one byte.
+pub fn append_text(rt: &HostRuntime, row: &str) -> Result<Outcome, Fail> {
+    let (id, input, table) = parts(rt.alloc(), row)?;
+    let table = Held(table);
+    let mut out = output(rt.alloc())?;
+    let before = appended(rt.alloc(), &out)?;
+    begin(rt);
+    let returned = append_value_json(rt.alloc(), &table.0, id, &input, &mut out);
+    end(rt);
+    let after = appended(rt.alloc(), &out)?;
+    Outcome::lending(Ok(before), Ok(after), shown(rt.alloc(), returned))
+}
+
+/// The text of the bytes of a row as one value.
+pub fn text(rt: &HostRuntime, row: &str) -> Result<Outcome, Fail> {
+    let (id, input, table) = parts(rt.alloc(), row)?;
+    let table = Held(table);
+    begin(rt);
+    let returned = value_json(rt.alloc(), &table.0, id, &input);
+    end(rt);
+    Outcome::of(match returned {
+        Ok(text) => done(Ok(text)),
+        Err(ValueTextError::Value(error)) => failed(rt.alloc(), &error),
         Err(error) => failed(rt.alloc(), &error),
     })
-}
-
-/// The id of the type of a value, and that of the type by which it is encoded: the one after
-/// ` as `, or else the same.
-pub fn ids_of(ids: &str) -> Result<(u32, u32), Fail> {
-    let (id, other) = ids.split_once(" as ").unwrap_or((ids, ids));
-    Ok((id.parse()?, other.parse()?))
-}
-
-/// Appends the encoding of the value of a row to one byte.
-pub fn encode(rt: &HostRuntime, row: &str) -> Result<Outcome, Fail> {
-    let (ids, table, input) = parts_of(row)?;
-    let (id, other) = ids_of(ids)?;
-    let table = Held(table_of(rt.alloc(), table)?);
-    let (value, _) = decode_value(rt.alloc(), &table.0, id, &row_bytes(rt.alloc(), input)?)?;
-    let value = Held(value);
-    let mut out = output(rt.alloc())?;
-    let before = hex::encode(rt.alloc(), out.as_slice());
-    let returned = marked!(rt; encode_value(&table.0, other, &value.0, &mut out));
-    let after = hex::encode(rt.alloc(), out.as_slice());
-    Outcome::lending(before, after, shown(rt.alloc(), returned))
-}
-
-/// Goes past the value of a row: what is left.
-pub fn skip(rt: &HostRuntime, row: &str) -> Result<Outcome, Fail> {
-    let given = Given::read(rt.alloc(), row)?;
-    let returned = marked!(rt; skip_value(&given.table.0, given.id, &given.input));
-    Outcome::of(shown(rt.alloc(), returned))
 }

@@ -12,7 +12,7 @@ use test_common::parts;
 use test_common::rows::numbers;
 use test_common::shown::text_of;
 use test_memory_common::answers::{encoded, printed, registered};
-use test_memory_common::marked;
+use test_memory_common::marks::{begin, end};
 use test_memory_common::outcomes::Outcome;
 use test_memory_common::types::{
     demo_path, description_named, documented_field, documented_variant, parameters, types_named,
@@ -26,7 +26,9 @@ pub fn description(rt: &HostRuntime, name: &str) -> Result<Outcome, Fail> {
     let params = Held(parameters(alloc)?);
     let def = description_named(alloc, name)?.type_def;
     let (path, params) = (path.into_inner(), params.into_inner());
-    let returned = marked!(rt; Type::new(alloc, path, params, def, docs));
+    begin(rt);
+    let returned = Type::new(alloc, path, params, def, docs);
+    end(rt);
     Outcome::of(registered(alloc, returned))
 }
 
@@ -37,22 +39,27 @@ pub fn portable_description(rt: &HostRuntime) -> Result<Outcome, Fail> {
     let params = Held(list_of(alloc, parts::parameter(alloc, "T", Some(7))?)?);
     let docs = parts::texts(alloc, &["d", "e"])?;
     let (path, params) = (path.into_inner(), params.into_inner());
-    let definition = parts::sequence(2);
-    let returned = marked!(rt; Type::<PortableForm>::new(alloc, path, params, definition, docs));
+    begin(rt);
+    let returned = Type::<PortableForm>::new(alloc, path, params, parts::sequence(2), docs);
+    end(rt);
     Outcome::of(encoded(alloc, returned))
 }
 
 /// Makes the definition of a composite.
 pub fn composite(rt: &HostRuntime) -> Result<Outcome, Fail> {
     let fields = list_of(rt.alloc(), documented_field(rt.alloc())?)?;
-    let returned = marked!(rt; TypeDefComposite::new(rt.alloc(), fields));
+    begin(rt);
+    let returned = TypeDefComposite::new(rt.alloc(), fields);
+    end(rt);
     Outcome::of(registered(rt.alloc(), returned))
 }
 
 /// Makes the definition of an enum.
 pub fn variants(rt: &HostRuntime) -> Result<Outcome, Fail> {
     let variants = list_of(rt.alloc(), documented_variant(rt.alloc())?)?;
-    let returned = marked!(rt; TypeDefVariant::new(rt.alloc(), variants));
+    begin(rt);
+    let returned = TypeDefVariant::new(rt.alloc(), variants);
+    end(rt);
     Outcome::of(registered(rt.alloc(), returned))
 }
 
@@ -60,7 +67,9 @@ pub fn variants(rt: &HostRuntime) -> Result<Outcome, Fail> {
 pub fn portable_composite(rt: &HostRuntime, row: &str) -> Result<Outcome, Fail> {
     let ids = numbers(rt.alloc(), row)?;
     let fields = parts::unnamed_fields(rt.alloc(), &ids)?;
-    let returned = marked!(rt; TypeDefComposite::<PortableForm>::new(rt.alloc(), fields));
+    begin(rt);
+    let returned = TypeDefComposite::<PortableForm>::new(rt.alloc(), fields);
+    end(rt);
     Outcome::of(encoded(rt.alloc(), definition(returned)))
 }
 
@@ -69,21 +78,27 @@ pub fn portable_variants(rt: &HostRuntime, row: &str) -> Result<Outcome, Fail> {
     let ids = numbers(rt.alloc(), row)?;
     let variant = parts::variant(rt.alloc(), "V", &ids, 0, &[])?;
     let variants = list_of(rt.alloc(), variant)?;
-    let returned = marked!(rt; TypeDefVariant::<PortableForm>::new(rt.alloc(), variants));
+    begin(rt);
+    let returned = TypeDefVariant::<PortableForm>::new(rt.alloc(), variants);
+    end(rt);
     Outcome::of(encoded(rt.alloc(), definition(returned)))
 }
 
 /// Makes the definition of a tuple of types of the program, as a text.
 pub fn tuple(rt: &HostRuntime, names: &str) -> Result<Outcome, Fail> {
     let members = types_named(rt.alloc(), names)?;
-    let returned = marked!(rt; TypeDefTuple::new(rt.alloc(), members));
+    begin(rt);
+    let returned = TypeDefTuple::new(rt.alloc(), members);
+    end(rt);
     shown(rt.alloc(), returned)
 }
 
 /// Makes the definition of a tuple of ids.
 pub fn portable_tuple(rt: &HostRuntime, row: &str) -> Result<Outcome, Fail> {
     let members = ids(rt.alloc(), &numbers(rt.alloc(), row)?)?;
-    let returned = marked!(rt; TypeDefTuple::new_portable(rt.alloc(), members));
+    begin(rt);
+    let returned = TypeDefTuple::new_portable(rt.alloc(), members);
+    end(rt);
     Outcome::of(encoded(rt.alloc(), definition(returned)))
 }
 
@@ -98,11 +113,13 @@ fn ids(alloc: Global, numbers: &[u32]) -> Result<Vec<UntrackedSymbol<TypeId>>, A
 
 /// Makes the definition of a sequence of bits, as a text.
 pub fn bit_sequence(rt: &HostRuntime, name: &str) -> Result<Outcome, Fail> {
-    let returned = marked!(rt; match name {
+    begin(rt);
+    let returned = match name {
         "of plain types" => TypeDefBitSequence::new::<u8, u32>(rt.alloc()),
         "of a box" => TypeDefBitSequence::new::<Box<u8>, bool>(rt.alloc()),
         _ => TypeDefBitSequence::new::<Vec<u32>, [u8; 32]>(rt.alloc()),
-    });
+    };
+    end(rt);
     shown(rt.alloc(), returned)
 }
 

@@ -7,7 +7,6 @@ use std::test::Fail;
 use test_common::held::Held;
 use test_common::parts;
 use test_memory_common::answers::{encoded, registered};
-use test_memory_common::marked;
 use test_memory_common::marks::{begin, end};
 use test_memory_common::outcomes::Outcome;
 use test_memory_common::types::{demo_path, parameters};
@@ -21,7 +20,9 @@ fn done<T>(value: T) -> Result<T, AllocError> {
 pub fn docs(rt: &HostRuntime) -> Result<Outcome, Fail> {
     let path = Held(demo_path(rt.alloc())?);
     let builder = Type::builder(rt.alloc());
-    let returned = marked!(rt; builder.docs(rt.alloc(), &["a struct", ""]));
+    begin(rt);
+    let returned = builder.docs(rt.alloc(), &["a struct", ""]);
+    end(rt);
     let unit = Fields::unit::<MetaForm>(rt.alloc());
     let ty = match returned {
         Ok(builder) => Ok(builder.path(path.into_inner()).composite(unit)),
@@ -46,9 +47,11 @@ pub fn composite(rt: &HostRuntime) -> Result<Outcome, Fail> {
 /// Gives a description a path and an enum.
 pub fn variants(rt: &HostRuntime) -> Result<Outcome, Fail> {
     let path = demo_path(rt.alloc())?;
-    let ty = marked!(rt; Type::builder(rt.alloc())
+    begin(rt);
+    let ty = Type::builder(rt.alloc())
         .path(path)
-        .variant(Variants::new(rt.alloc())));
+        .variant(Variants::new(rt.alloc()));
+    end(rt);
     Outcome::of(registered(rt.alloc(), done(ty)))
 }
 
@@ -66,6 +69,8 @@ pub fn portable(rt: &HostRuntime) -> Result<Outcome, Fail> {
 
 /// Makes the tuple without members.
 pub fn unit(rt: &HostRuntime) -> Result<Outcome, Fail> {
-    let def = marked!(rt; TypeDefTuple::unit(rt.alloc()));
+    begin(rt);
+    let def = TypeDefTuple::unit(rt.alloc());
+    end(rt);
     Outcome::of(registered(rt.alloc(), done(def)))
 }

@@ -8,11 +8,9 @@ use std::test::Fail;
 use test_common::held::Held;
 use test_common::lists::list_of;
 use test_common::parts::text;
-use test_common::rows::parted;
 use test_common::shown::text_of;
 use test_memory_common::answers::{digits, done, encoded, printed};
 use test_memory_common::by_name::{Known, for_known_type, found};
-use test_memory_common::marked;
 use test_memory_common::marks::{begin, end};
 use test_memory_common::outcomes::Outcome;
 
@@ -52,7 +50,9 @@ fn unnamed_of_u8(alloc: Global) -> Result<FieldsBuilder<MetaForm, UnnamedFields>
 fn named<T: HasIdentity>(rt: &HostRuntime) -> Result<Outcome, Fail> {
     let alloc = rt.alloc();
     let fields = named_of_u8(alloc)?;
-    let returned = marked!(rt; fields.field(alloc, |f| f.name("m").ty::<T>(alloc)));
+    begin(rt);
+    let returned = fields.field(alloc, |f| f.name("m").ty::<T>(alloc));
+    end(rt);
     struct_of(rt, returned)
 }
 
@@ -60,7 +60,9 @@ fn named<T: HasIdentity>(rt: &HostRuntime) -> Result<Outcome, Fail> {
 fn typed<T: HasIdentity>(rt: &HostRuntime) -> Result<Outcome, Fail> {
     let alloc = rt.alloc();
     let fields = named_of_u8(alloc)?;
-    let returned = marked!(rt; fields.field(alloc, |f| Ok(f.ty::<T>(alloc)?.name("m"))));
+    begin(rt);
+    let returned = fields.field(alloc, |f| Ok(f.ty::<T>(alloc)?.name("m")));
+    end(rt);
     struct_of(rt, returned)
 }
 
@@ -68,17 +70,21 @@ fn typed<T: HasIdentity>(rt: &HostRuntime) -> Result<Outcome, Fail> {
 fn unnamed<T: HasIdentity>(rt: &HostRuntime) -> Result<Outcome, Fail> {
     let alloc = rt.alloc();
     let fields = unnamed_of_u8(alloc)?;
-    let returned = marked!(rt; fields.field(alloc, |f| f.type_name("Vec<T>").ty::<T>(alloc)));
+    begin(rt);
+    let returned = fields.field(alloc, |f| f.type_name("Vec<T>").ty::<T>(alloc));
+    end(rt);
     struct_of(rt, returned)
 }
 
 /// Makes a field by its own builder, and the struct of it.
 fn built<T: HasIdentity>(rt: &HostRuntime) -> Result<Outcome, Fail> {
     let alloc = rt.alloc();
-    let returned = marked!(rt; Field::<MetaForm>::builder()
+    begin(rt);
+    let returned = Field::<MetaForm>::builder()
         .type_name("T")
         .name("x")
-        .ty::<T>(alloc));
+        .ty::<T>(alloc);
+    end(rt);
     let definition = match returned {
         Ok(built) => alone(alloc, built.finalize(alloc)),
         Err(error) => Err(error),
@@ -111,9 +117,8 @@ impl Known for FieldOf<'_> {
     }
 }
 
-/// Adds or makes a field of a kind for the type after it.
-pub fn field(rt: &HostRuntime, input: &str) -> Result<Outcome, Fail> {
-    let (kind, name) = parted(input, ' ')?;
+/// Adds or makes a field of this kind for the type of this name.
+pub fn field(rt: &HostRuntime, kind: &str, name: &str) -> Result<Outcome, Fail> {
     found(for_known_type(FieldOf { rt, kind }, name))
 }
 
@@ -121,25 +126,31 @@ pub fn field(rt: &HostRuntime, input: &str) -> Result<Outcome, Fail> {
 pub fn portable_named(rt: &HostRuntime) -> Result<Outcome, Fail> {
     let fields = Fields::named::<PortableForm>(rt.alloc());
     let name = text(rt.alloc(), "data")?;
-    let returned = marked!(rt; fields.field_portable(rt.alloc(), |f| Ok(f.name(name).ty(3))));
+    begin(rt);
+    let returned = fields.field_portable(rt.alloc(), |f| Ok(f.name(name).ty(3)));
+    end(rt);
     Outcome::of(encoded(rt.alloc(), composite(returned)))
 }
 
 /// Adds a field with an id and without a name.
 pub fn portable_unnamed(rt: &HostRuntime) -> Result<Outcome, Fail> {
     let fields = Fields::unnamed::<PortableForm>(rt.alloc());
-    let returned = marked!(rt; fields.field_portable(rt.alloc(), |f| Ok(f.ty(3))));
+    begin(rt);
+    let returned = fields.field_portable(rt.alloc(), |f| Ok(f.ty(3)));
+    end(rt);
     Outcome::of(encoded(rt.alloc(), composite(returned)))
 }
 
 /// Gives a field its parts by moves alone.
 pub fn moved(rt: &HostRuntime) -> Result<Outcome, Fail> {
     let (name, type_name) = (text(rt.alloc(), "n")?, text(rt.alloc(), "N")?);
-    let field = marked!(rt; Field::<PortableForm>::builder()
+    begin(rt);
+    let field = Field::<PortableForm>::builder()
         .type_name(type_name)
         .ty(7)
         .name(name)
-        .finalize(rt.alloc()));
+        .finalize(rt.alloc());
+    end(rt);
     Outcome::of(done(digits(rt.alloc(), &field)))
 }
 

@@ -2,6 +2,7 @@
 //! between marks.
 #![tactic(auto)]
 
+pub mod calls;
 pub mod constructors;
 pub mod descriptions;
 pub mod fields;

@@ -6,7 +6,7 @@ use std::alloc::AllocError;
 use std::test::Fail;
 use test_common::shown::{Show, text_of};
 use test_memory_common::answers::printed;
-use test_memory_common::marked;
+use test_memory_common::marks::{begin, end};
 use test_memory_common::outcomes::Outcome;
 
 /// What was listed, as a text.
@@ -19,13 +19,17 @@ fn shown<T: Show + Drop>(
 
 /// Lists types.
 pub fn types(rt: &HostRuntime) -> Result<Outcome, Fail> {
-    let returned = marked!(rt; tuple_meta_type!(rt.alloc(); i32, [u8; 32], String, Vec<u32>));
+    begin(rt);
+    let returned = tuple_meta_type!(rt.alloc(); i32, [u8; 32], String, Vec<u32>);
+    end(rt);
     shown(rt, returned)
 }
 
 /// Lists parameters with names.
 pub fn named_parameters(rt: &HostRuntime) -> Result<Outcome, Fail> {
-    let returned = marked!(rt; named_type_params!(rt.alloc(); (T, u8), (U, u32), (V, Vec<u32>)));
+    begin(rt);
+    let returned = named_type_params!(rt.alloc(); (T, u8), (U, u32), (V, Vec<u32>));
+    end(rt);
     shown(rt, returned)
 }
 
@@ -33,7 +37,9 @@ pub fn named_parameters(rt: &HostRuntime) -> Result<Outcome, Fail> {
 fn parameters_of<T: HasIdentity, U: HasIdentity, V: HasIdentity>(
     rt: &HostRuntime,
 ) -> Result<Outcome, Fail> {
-    let returned = marked!(rt; type_params!(rt.alloc(); T, U, V));
+    begin(rt);
+    let returned = type_params!(rt.alloc(); T, U, V);
+    end(rt);
     shown(rt, returned)
 }
 
@@ -45,13 +51,17 @@ pub fn parameters(rt: &HostRuntime) -> Result<Outcome, Fail> {
 /// Puts a type at the end of a list.
 pub fn one_type(rt: &HostRuntime) -> Result<Outcome, Fail> {
     let so_far = tuple_meta_type!(rt.alloc(); u32);
-    let returned = marked!(rt; with_type::<Vec<u32>>(rt.alloc(), so_far));
+    begin(rt);
+    let returned = with_type::<Vec<u32>>(rt.alloc(), so_far);
+    end(rt);
     shown(rt, returned)
 }
 
 /// Puts a parameter at the end of a list.
 pub fn one_parameter(rt: &HostRuntime) -> Result<Outcome, Fail> {
     let so_far = named_type_params!(rt.alloc(); (T, u8));
-    let returned = marked!(rt; with_type_param::<Vec<u32>>(rt.alloc(), so_far, "U"));
+    begin(rt);
+    let returned = with_type_param::<Vec<u32>>(rt.alloc(), so_far, "U");
+    end(rt);
     shown(rt, returned)
 }

@@ -6,7 +6,7 @@ use std::test::Fail;
 use test_common::held::Held;
 use test_common::parts;
 use test_memory_common::answers::{Answer, digits, done, encoded, failed, shown};
-use test_memory_common::marked;
+use test_memory_common::marks::{begin, end};
 use test_memory_common::outcomes::Outcome;
 use test_memory_common::texts::{all_of_program, bracketed};
 
@@ -50,7 +50,9 @@ pub fn new(rt: &HostRuntime, row: &str) -> Result<Outcome, Fail> {
     let [module_path, ident] = texts.as_slice() else {
         return Err(Fail::new("a row has a module and a name"));
     };
-    let returned = marked!(rt; Path::new(rt.alloc(), *ident, *module_path));
+    begin(rt);
+    let returned = Path::new(rt.alloc(), *ident, *module_path);
+    end(rt);
     Outcome::of(answer(rt.alloc(), returned))
 }
 
@@ -75,15 +77,18 @@ pub fn new_with_replace(rt: &HostRuntime, row: &str) -> Result<Outcome, Fail> {
         return Err(Fail::new("a row has a module and a name"));
     };
     let pairs = pairs(rt.alloc(), rest)?;
-    let pairs = pairs.as_slice();
-    let returned = marked!(rt; Path::new_with_replace(rt.alloc(), *ident, *module_path, pairs));
+    begin(rt);
+    let returned = Path::new_with_replace(rt.alloc(), *ident, *module_path, pairs.as_slice());
+    end(rt);
     Outcome::of(answer(rt.alloc(), returned))
 }
 
 /// Makes a path of segments, each of which must be an identifier.
 pub fn from_segments(rt: &HostRuntime, row: &str) -> Result<Outcome, Fail> {
     let segments = all_of_program(rt.alloc(), row)?;
-    let returned = marked!(rt; Path::from_segments(rt.alloc(), segments));
+    begin(rt);
+    let returned = Path::from_segments(rt.alloc(), segments);
+    end(rt);
     Outcome::of(answer(rt.alloc(), returned))
 }
 
@@ -91,7 +96,9 @@ pub fn from_segments(rt: &HostRuntime, row: &str) -> Result<Outcome, Fail> {
 pub fn from_segments_unchecked(rt: &HostRuntime, row: &str) -> Result<Outcome, Fail> {
     let segments = bracketed(rt.alloc(), row)?;
     let texts = parts::texts(rt.alloc(), segments.as_slice())?;
-    let returned = marked!(rt; Path::from_segments_unchecked(rt.alloc(), texts));
+    begin(rt);
+    let returned = Path::from_segments_unchecked(rt.alloc(), texts);
+    end(rt);
     Outcome::of(encoded(rt.alloc(), returned))
 }
 
@@ -99,6 +106,8 @@ pub fn from_segments_unchecked(rt: &HostRuntime, row: &str) -> Result<Outcome, F
 pub fn ident(rt: &HostRuntime, row: &str) -> Result<Outcome, Fail> {
     let segments = bracketed(rt.alloc(), row)?;
     let path = parts::path(rt.alloc(), segments.as_slice())?;
-    let returned = marked!(rt; path.ident(rt.alloc()));
+    begin(rt);
+    let returned = path.ident(rt.alloc());
+    end(rt);
     Outcome::of(shown(rt.alloc(), returned))
 }

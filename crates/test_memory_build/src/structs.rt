@@ -11,7 +11,7 @@ use test_common::lists::{list_of, with};
 use test_common::shown::text_of;
 use test_memory_common::answers::{encoded, printed};
 use test_memory_common::by_name::{Known, for_known_type, found};
-use test_memory_common::marked;
+use test_memory_common::marks::{begin, end};
 use test_memory_common::outcomes::Outcome;
 use test_memory_common::texts::bracketed;
 
@@ -57,7 +57,9 @@ impl Known for StructOf<'_> {
 
     fn of<T: HasIdentity>(self) -> Result<Outcome, Fail> {
         let rt = self.rt;
-        let returned = marked!(rt; text_of(rt.alloc(), built::<T>(rt.alloc())));
+        begin(rt);
+        let returned = text_of(rt.alloc(), built::<T>(rt.alloc()));
+        end(rt);
         Outcome::of(printed(rt.alloc(), returned))
     }
 }
@@ -111,7 +113,9 @@ fn built_enum(alloc: Global, names: &str) -> Result<Type, AllocError> {
 
 /// Builds an enum of the variants of these names.
 pub fn enumeration(rt: &HostRuntime, names: &str) -> Result<Outcome, Fail> {
-    let returned = marked!(rt; text_of(rt.alloc(), built_enum(rt.alloc(), names)));
+    begin(rt);
+    let returned = text_of(rt.alloc(), built_enum(rt.alloc(), names));
+    end(rt);
     Outcome::of(printed(rt.alloc(), returned))
 }
 
@@ -145,6 +149,8 @@ fn built_portable(alloc: Global, names: &[&str]) -> Result<Type<PortableForm>, A
 /// Builds a struct of a table, of the texts between brackets.
 pub fn portable(rt: &HostRuntime, row: &str) -> Result<Outcome, Fail> {
     let names = bracketed(rt.alloc(), row)?;
-    let returned = marked!(rt; built_portable(rt.alloc(), names.as_slice()));
+    begin(rt);
+    let returned = built_portable(rt.alloc(), names.as_slice());
+    end(rt);
     Outcome::of(encoded(rt.alloc(), returned))
 }

@@ -6,7 +6,7 @@ use std::alloc::AllocError;
 use std::test::Fail;
 use test_common::parts::text;
 use test_memory_common::answers::{digits, done, registered};
-use test_memory_common::marked;
+use test_memory_common::marks::{begin, end};
 use test_memory_common::outcomes::Outcome;
 
 /// The enum of a builder's variants.
@@ -21,20 +21,24 @@ fn enumeration(returned: Result<Variants, AllocError>) -> Result<TypeDefVariant,
 pub fn variant(rt: &HostRuntime) -> Result<Outcome, Fail> {
     let alloc = rt.alloc();
     let variants = Variants::new(alloc);
-    let returned = marked!(rt; variants.variant(alloc, "Some", |v| {
+    begin(rt);
+    let returned = variants.variant(alloc, "Some", |v| {
         let fields = Fields::unnamed::<MetaForm>(alloc);
         Ok(
             v.index(1)
                 .fields(fields.field(alloc, |f| f.ty::<Vec<u32>>(alloc))?),
         )
-    }));
+    });
+    end(rt);
     Outcome::of(registered(alloc, enumeration(returned)))
 }
 
 /// Adds a variant without fields.
 pub fn variant_unit(rt: &HostRuntime) -> Result<Outcome, Fail> {
     let variants = Variants::new(rt.alloc());
-    let returned = marked!(rt; variants.variant_unit(rt.alloc(), "None", 0));
+    begin(rt);
+    let returned = variants.variant_unit(rt.alloc(), "None", 0);
+    end(rt);
     Outcome::of(registered(rt.alloc(), enumeration(returned)))
 }
 
@@ -47,7 +51,9 @@ pub fn moved(rt: &HostRuntime) -> Result<Outcome, Fail> {
         index: IndexNotAssigned,
         fields: Items::new(rt.alloc()),
     };
-    let built = marked!(rt; builder.index(7).fields(fields));
+    begin(rt);
+    let built = builder.index(7).fields(fields);
+    end(rt);
     let fields = TypeDefComposite::<PortableForm> {
         fields: built.fields,
     };

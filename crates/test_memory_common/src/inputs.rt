@@ -24,6 +24,12 @@ pub fn is_malformed(name: &str) -> bool {
     has_row(MALFORMED, name)
 }
 
+/// The bytes of a chain of so many types, of which the last is `bool`.
+fn chain_bytes(alloc: Global, count: &str) -> Result<Vec<u8>, Fail> {
+    let count: u32 = count.parse()?;
+    into_encoding(alloc, chain_to_bool(alloc, count)?)
+}
+
 /// The bytes of the row of this name; "each kind" is a table of each kind of definition, and
 /// "chain of 3" one of two sequences and `bool`. Other names are the digits of the bytes.
 fn named_bytes(alloc: Global, name: &str) -> Result<Vec<u8>, Fail> {
@@ -36,7 +42,7 @@ fn named_bytes(alloc: Global, name: &str) -> Result<Vec<u8>, Fail> {
         }
     }
     match name.strip_prefix("chain of ") {
-        Some(count) => into_encoding(alloc, chain_to_bool(alloc, count.parse()?)?),
+        Some(count) => chain_bytes(alloc, count),
         None => row_bytes(alloc, name),
     }
 }

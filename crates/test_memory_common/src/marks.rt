@@ -4,17 +4,6 @@
 //! written at once, and neither allocates.
 use std::io::Write;
 
-/// Makes a call between the marks: it is what the call returns.
-#[macro_export]
-macro_rules! marked {
-    ($rt:expr; $call:expr) => {{
-        $crate::marks::begin($rt);
-        let returned = $call;
-        $crate::marks::end($rt);
-        returned
-    }};
-}
-
 /// Says that the call begins.
 pub fn begin(rt: &HostRuntime) {
     let _ = rt.stderr().write_all(b"begin\n");

@@ -2,7 +2,7 @@
 use std::alloc::AllocError;
 use std::test::Fail;
 use test_memory_common::answers::done;
-use test_memory_common::marked;
+use test_memory_common::marks::{begin, end};
 use test_memory_common::outcomes::Outcome;
 
 /// A value that is asked for its parts, which does not allocate.
@@ -15,7 +15,9 @@ pub trait Asked {
 pub fn ask<T: Asked + Drop>(rt: &HostRuntime, made: Result<T, Fail>) -> Result<Outcome, Fail> {
     let value = made?;
     let mut text = String::with_capacity(rt.alloc(), 1000)?;
-    let returned = marked!(rt; value.push_parts(&mut text));
+    begin(rt);
+    let returned = value.push_parts(&mut text);
+    end(rt);
     returned?;
     Outcome::of(done(Ok(text)))
 }

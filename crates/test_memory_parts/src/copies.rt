@@ -8,7 +8,7 @@ use test_common::held::Held;
 use test_common::parts;
 use test_memory_common::answers::{encoded, registered, shown};
 use test_memory_common::inputs::table_of;
-use test_memory_common::marked;
+use test_memory_common::marks::{begin, end};
 use test_memory_common::outcomes::Outcome;
 use test_memory_common::types::{
     demo_path, description_named, documented_field, documented_variant, given_parameter, type_named,
@@ -16,7 +16,9 @@ use test_memory_common::types::{
 
 /// Copies a portable value.
 fn copy_of<T: TryClone + Scale>(rt: &HostRuntime, value: &T) -> Result<Outcome, Fail> {
-    let returned = marked!(rt; value.try_clone(rt.alloc()));
+    begin(rt);
+    let returned = value.try_clone(rt.alloc());
+    end(rt);
     Outcome::of(encoded(rt.alloc(), returned))
 }
 
@@ -34,13 +36,17 @@ fn copy_meta<T: TryClone + IntoPortable + Drop>(rt: &HostRuntime, value: T) -> R
 where
     T::Output: Scale,
 {
-    let returned = marked!(rt; value.try_clone(rt.alloc()));
+    begin(rt);
+    let returned = value.try_clone(rt.alloc());
+    end(rt);
     Outcome::of(registered(rt.alloc(), returned))
 }
 
 /// Copies a value that is shown by its `Debug`.
 fn copy_shown<T: TryClone + Debug + Drop>(rt: &HostRuntime, value: &T) -> Result<Outcome, Fail> {
-    let returned = marked!(rt; value.try_clone(rt.alloc()));
+    begin(rt);
+    let returned = value.try_clone(rt.alloc());
+    end(rt);
     Outcome::of(shown(rt.alloc(), returned))
 }
 
@@ -136,26 +142,34 @@ pub fn by_form(rt: &HostRuntime, kind: &str) -> Result<Outcome, Fail> {
 /// Copies a type of the program.
 fn type_of_program(rt: &HostRuntime) -> Result<Outcome, Fail> {
     let ty = Held(type_named(rt.alloc(), "Vec<u32>")?);
-    let returned = marked!(rt; MetaForm::copy_type(rt.alloc(), &ty.0));
+    begin(rt);
+    let returned = MetaForm::copy_type(rt.alloc(), &ty.0);
+    end(rt);
     Outcome::of(registered(rt.alloc(), returned))
 }
 
 /// Copies an id.
 fn portable_type(rt: &HostRuntime) -> Result<Outcome, Fail> {
     let id = parts::id(7);
-    let returned = marked!(rt; PortableForm::copy_type(rt.alloc(), &id));
+    begin(rt);
+    let returned = PortableForm::copy_type(rt.alloc(), &id);
+    end(rt);
     Outcome::of(encoded(rt.alloc(), returned))
 }
 
 /// Copies a text of the program.
 fn text_of_program(rt: &HostRuntime) -> Result<Outcome, Fail> {
-    let returned = marked!(rt; MetaForm::copy_string(rt.alloc(), &"a text"));
+    begin(rt);
+    let returned = MetaForm::copy_string(rt.alloc(), &"a text");
+    end(rt);
     Outcome::of(shown(rt.alloc(), returned))
 }
 
 /// Copies a text of a table.
 fn portable_text(rt: &HostRuntime) -> Result<Outcome, Fail> {
     let text = parts::text(rt.alloc(), "a text")?;
-    let returned = marked!(rt; PortableForm::copy_string(rt.alloc(), &text));
+    begin(rt);
+    let returned = PortableForm::copy_string(rt.alloc(), &text);
+    end(rt);
     Outcome::of(encoded(rt.alloc(), returned))
 }

@@ -8,7 +8,6 @@ use test_common::held::Held;
 use test_common::parts::text;
 use test_common::rows::parted;
 use test_memory_common::answers::{printed, shown};
-use test_memory_common::marked;
 use test_memory_common::marks::{begin, end};
 use test_memory_common::outcomes::Outcome;
 use test_memory_common::texts::bracketed;
@@ -55,7 +54,9 @@ pub fn intern_or_get(rt: &HostRuntime, chars: &str) -> Result<Outcome, Fail> {
     let mut texts = Held(interner(rt.alloc(), FOUR)?);
     let value = text(rt.alloc(), chars)?;
     let before = state(rt.alloc(), &texts.0);
-    let returned = marked!(rt; texts.0.intern_or_get(value));
+    begin(rt);
+    let returned = texts.0.intern_or_get(value);
+    end(rt);
     let after = state(rt.alloc(), &texts.0);
     Outcome::lending(before, after, shown(rt.alloc(), numbered(returned)))
 }
@@ -63,7 +64,9 @@ pub fn intern_or_get(rt: &HostRuntime, chars: &str) -> Result<Outcome, Fail> {
 /// Interns texts, each of which is new or has a number.
 pub fn intern(rt: &HostRuntime, row: &str) -> Result<Outcome, Fail> {
     let mut texts = Held(Interner::new(rt.alloc()));
-    let returned = marked!(rt; intern_all(rt.alloc(), &mut texts.0, row));
+    begin(rt);
+    let returned = intern_all(rt.alloc(), &mut texts.0, row);
+    end(rt);
     Outcome::of(printed(rt.alloc(), returned))
 }
 

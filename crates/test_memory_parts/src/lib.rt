@@ -2,6 +2,7 @@
 #![tactic(auto)]
 
 pub mod asked;
+pub mod calls;
 pub mod copies;
 pub mod interners;
 pub mod lists;

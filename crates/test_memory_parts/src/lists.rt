@@ -6,7 +6,7 @@ use std::test::Fail;
 use test_common::parts::text;
 use test_common::rows::{numbers, parted};
 use test_memory_common::answers::{Answer, done, failed};
-use test_memory_common::marked;
+use test_memory_common::marks::{begin, end};
 use test_memory_common::outcomes::Outcome;
 
 /// Pushes numbers.
@@ -38,7 +38,9 @@ fn text_of(alloc: Global, items: Items<u32>) -> Result<String, AllocError> {
 /// Pushes the numbers of a row.
 pub fn push(rt: &HostRuntime, row: &str) -> Result<Outcome, Fail> {
     let numbers = numbers(rt.alloc(), row)?;
-    let returned = marked!(rt; pushed(rt.alloc(), &numbers));
+    begin(rt);
+    let returned = pushed(rt.alloc(), &numbers);
+    end(rt);
     Outcome::of(match returned {
         Ok(items) => done(text_of(rt.alloc(), items)),
         Err(error) => failed(rt.alloc(), &error),
@@ -83,7 +85,9 @@ fn grow<T: TryClone + Debug + Drop>(
     let [count, announced] = numbers.as_slice() else {
         return Err(Fail::new("a row has a count and an announced count"));
     };
-    let returned = marked!(rt; grown(rt.alloc(), &value, *count, *announced));
+    begin(rt);
+    let returned = grown(rt.alloc(), &value, *count, *announced);
+    end(rt);
     Outcome::of(roomy(rt.alloc(), returned))
 }
 
@@ -105,6 +109,8 @@ fn with_room(alloc: Global) -> Result<Vec<u32>, AllocError> {
 
 /// Makes a list with room for three.
 pub fn with_capacity(rt: &HostRuntime) -> Result<Outcome, Fail> {
-    let returned = marked!(rt; with_room(rt.alloc()));
+    begin(rt);
+    let returned = with_room(rt.alloc());
+    end(rt);
     Outcome::of(roomy(rt.alloc(), returned))
 }

@@ -10,7 +10,6 @@ use test_common::held::Held;
 use test_common::parts;
 use test_common::rows::row_named;
 use test_memory_common::answers::done;
-use test_memory_common::marked;
 use test_memory_common::marks::{begin, end};
 use test_memory_common::outcomes::Outcome;
 use test_memory_common::texts::bracketed;
@@ -216,6 +215,8 @@ pub fn types(rt: &HostRuntime, name: &str) -> Result<Outcome, Fail> {
 
 /// Asks whether a text is an identifier.
 pub fn identifier(rt: &HostRuntime, text: &str) -> Result<Outcome, Fail> {
-    let is_identifier = marked!(rt; is_rust_identifier(text));
+    begin(rt);
+    let is_identifier = is_rust_identifier(text);
+    end(rt);
     Outcome::of(done(format!(in rt.alloc(); "{is_identifier}")))
 }

@@ -16,7 +16,6 @@ use test_common::lists::with;
 use test_common::parts;
 use test_common::results::both;
 use test_memory_common::answers::{digits, done};
-use test_memory_common::marked;
 use test_memory_common::marks::{begin, end};
 use test_memory_common::outcomes::Outcome;
 
@@ -26,7 +25,9 @@ pub fn field(rt: &HostRuntime) -> Result<Outcome, Fail> {
         parts::text(rt.alloc(), "n")?,
         parts::texts(rt.alloc(), &["d"])?,
     );
-    let made = marked!(rt; Field::<PortableForm>::new(Some(name), parts::id(3), None, docs));
+    begin(rt);
+    let made = Field::<PortableForm>::new(Some(name), parts::id(3), None, docs);
+    end(rt);
     Outcome::of(done(digits(rt.alloc(), &made)))
 }
 
@@ -37,20 +38,26 @@ pub fn variant(rt: &HostRuntime) -> Result<Outcome, Fail> {
         parts::texts(rt.alloc(), &["v"])?,
     );
     let fields = parts::unnamed_fields(rt.alloc(), &[1, 2])?;
-    let made = marked!(rt; Variant::<PortableForm>::new(name, fields, 7, docs));
+    begin(rt);
+    let made = Variant::<PortableForm>::new(name, fields, 7, docs);
+    end(rt);
     Outcome::of(done(digits(rt.alloc(), &made)))
 }
 
 /// Makes a parameter and an entry.
 pub fn parameter(rt: &HostRuntime) -> Result<Outcome, Fail> {
     let name = parts::text(rt.alloc(), "T")?;
-    let made = marked!(rt; TypeParameter::new_portable(name, Some(parts::id(7))));
+    begin(rt);
+    let made = TypeParameter::new_portable(name, Some(parts::id(7)));
+    end(rt);
     Outcome::of(done(digits(rt.alloc(), &made)))
 }
 
 /// Makes an entry whose description has a definition alone.
 pub fn entry(rt: &HostRuntime) -> Result<Outcome, Fail> {
-    let made = marked!(rt; PortableType::new(9, Type::from_def(rt.alloc(), parts::sequence(2))));
+    begin(rt);
+    let made = PortableType::new(9, Type::from_def(rt.alloc(), parts::sequence(2)));
+    end(rt);
     Outcome::of(done(digits(rt.alloc(), &made)))
 }
 
@@ -80,7 +87,9 @@ fn all_digits(alloc: Global, definitions: &[TypeDef<PortableForm>]) -> Result<St
 
 /// Makes definitions.
 pub fn definitions(rt: &HostRuntime) -> Result<Outcome, Fail> {
-    let made = marked!(rt; six_definitions());
+    begin(rt);
+    let made = six_definitions();
+    end(rt);
     Outcome::of(done(all_digits(rt.alloc(), &made)))
 }
 
@@ -91,11 +100,13 @@ pub fn definitions_of_lists(rt: &HostRuntime) -> Result<Outcome, Fail> {
     let lists = both(parts::unnamed_fields(rt.alloc(), &[1, 2]), variants);
     let members = TypeDefTuple::new_portable(rt.alloc(), [parts::id(3), parts::id(0)]);
     let ((fields, variants), members) = both(lists, members)?;
-    let made = marked!(rt; [
+    begin(rt);
+    let made = [
         TypeDef::from(TypeDefComposite::from(fields)),
         TypeDef::from(TypeDefVariant::from(variants)),
         TypeDef::from(members),
-    ]);
+    ];
+    end(rt);
     Outcome::of(done(all_digits(rt.alloc(), &made)))
 }
 
@@ -131,7 +142,9 @@ pub fn lists(rt: &HostRuntime) -> Result<Outcome, Fail> {
 /// Makes an identity.
 pub fn identity(rt: &HostRuntime) -> Result<Outcome, Fail> {
     let nums = vec![in rt.alloc(); 4usize]?;
-    let made = marked!(rt; TypeId::new("array", nums, Vec::new(rt.alloc())));
+    begin(rt);
+    let made = TypeId::new("array", nums, Vec::new(rt.alloc()));
+    end(rt);
     Outcome::of(done(format!(in rt.alloc(); "{made:?}")))
 }
 

@@ -12,7 +12,7 @@ use std::cmp::Ordering;
 use std::test::Fail;
 use test_common::rows::{parted, row_bytes};
 use test_memory_common::answers::done;
-use test_memory_common::marked;
+use test_memory_common::marks::{begin, end};
 use test_memory_common::outcomes::Outcome;
 use test_memory_common::texts::all_of_program;
 
@@ -42,7 +42,9 @@ fn compare<T: Ord + Drop>(rt: &HostRuntime, values: Result<Vec<T>, Fail>) -> Res
     let values = values?;
     let words = values.len().saturating_mul(values.len().saturating_add(1));
     let mut signs = String::with_capacity(rt.alloc(), words)?;
-    let returned = marked!(rt; push_signs(&mut signs, values.as_slice()));
+    begin(rt);
+    let returned = push_signs(&mut signs, values.as_slice());
+    end(rt);
     returned?;
     Outcome::of(done(Ok(signs)))
 }

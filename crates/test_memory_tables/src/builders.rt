@@ -9,7 +9,6 @@ use test_common::parts::sequence;
 use test_common::rows::row_bytes;
 use test_memory_common::answers::{digits, done, encoded, failed, shown};
 use test_memory_common::inputs::table_of;
-use test_memory_common::marked;
 use test_memory_common::marks::{begin, end};
 use test_memory_common::outcomes::Outcome;
 
@@ -61,7 +60,9 @@ fn register(
     ty: Type<PortableForm>,
 ) -> Result<Outcome, Fail> {
     let before = state(rt.alloc(), &builder);
-    let returned = marked!(rt; builder.register_type(ty));
+    begin(rt);
+    let returned = builder.register_type(ty);
+    end(rt);
     let after = state(rt.alloc(), &builder);
     Outcome::lending(before, after, shown(rt.alloc(), returned))
 }
@@ -69,7 +70,7 @@ fn register(
 /// Registers the last description of a table as a call of this name does: after fifteen others,
 /// behind which there is room; after sixteen others, which leave no room for one more, and none
 /// for its index; as the first one; or where the builder has it.
-fn register_type(rt: &HostRuntime, call: &str, row: &str) -> Result<Outcome, Fail> {
+pub fn register_type(rt: &HostRuntime, call: &str, row: &str) -> Result<Outcome, Fail> {
     let ty = Held(last_of(rt.alloc(), row)?);
     let builder = match call {
         "register_type" => sequences(rt.alloc(), 1015)?,
@@ -91,9 +92,11 @@ pub fn look(rt: &HostRuntime, row: &str) -> Result<Outcome, Fail> {
 }
 
 /// Makes the table of what was registered.
-fn finish(rt: &HostRuntime, row: &str) -> Result<Outcome, Fail> {
+pub fn finish(rt: &HostRuntime, row: &str) -> Result<Outcome, Fail> {
     let builder = Held(built(rt.alloc(), table_of(rt.alloc(), row)?)?);
-    let returned = marked!(rt; builder.into_inner().finish(rt.alloc()));
+    begin(rt);
+    let returned = builder.into_inner().finish(rt.alloc());
+    end(rt);
     Outcome::of(encoded(rt.alloc(), returned))
 }
 
@@ -126,9 +129,11 @@ fn registered(
 }
 
 /// Registers descriptions, and makes the table of them.
-fn register_each(rt: &HostRuntime, row: &str) -> Result<Outcome, Fail> {
+pub fn register_each(rt: &HostRuntime, row: &str) -> Result<Outcome, Fail> {
     let types = described(rt.alloc(), row)?;
-    let returned = marked!(rt; registered(rt.alloc(), types));
+    begin(rt);
+    let returned = registered(rt.alloc(), types);
+    end(rt);
     let answer = match returned {
         Ok((ids, table)) => {
             let table = digits(rt.alloc(), &table)?;
@@ -137,13 +142,4 @@ fn register_each(rt: &HostRuntime, row: &str) -> Result<Outcome, Fail> {
         Err(error) => failed(rt.alloc(), &error),
     };
     Outcome::of(answer)
-}
-
-/// Makes the call of this name of a builder of tables.
-pub fn call(rt: &HostRuntime, name: &str, input: &str) -> Result<Outcome, Fail> {
-    match name {
-        "finish" => finish(rt, input),
-        "register_each" => register_each(rt, input),
-        _ => register_type(rt, name, input),
-    }
 }

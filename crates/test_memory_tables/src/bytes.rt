@@ -6,7 +6,7 @@ use std::test::Fail;
 use test_common::held::Held;
 use test_memory_common::answers::{Answer, digits, done, encoded, failed, shown};
 use test_memory_common::inputs::{bytes_of, output, table_of};
-use test_memory_common::marked;
+use test_memory_common::marks::{begin, end};
 use test_memory_common::outcomes::Outcome;
 
 /// Digits, and after a `+` those of the bytes that are left.
@@ -34,14 +34,18 @@ fn decoded(
 /// Decodes a table.
 pub fn decode(rt: &HostRuntime, row: &str) -> Result<Outcome, Fail> {
     let bytes = bytes_of(rt.alloc(), row)?;
-    let returned = marked!(rt; PortableRegistry::decode(rt.alloc(), &bytes));
+    begin(rt);
+    let returned = PortableRegistry::decode(rt.alloc(), &bytes);
+    end(rt);
     Outcome::of(decoded(rt.alloc(), returned))
 }
 
 /// Decodes a compact integer, and encodes it again.
 pub fn decode_compact(rt: &HostRuntime, row: &str) -> Result<Outcome, Fail> {
     let bytes = bytes_of(rt.alloc(), row)?;
-    let returned = marked!(rt; Compact::<u32>::decode_from(rt.alloc(), &bytes));
+    begin(rt);
+    let returned = Compact::<u32>::decode_from(rt.alloc(), &bytes);
+    end(rt);
     let (number, rest) = returned?;
     let digits = with_rest(digits(rt.alloc(), &number), rest)?;
     Outcome::of(done(format!(in rt.alloc(); "{} {digits}", number.0)))
@@ -52,7 +56,9 @@ pub fn encode(rt: &HostRuntime, row: &str) -> Result<Outcome, Fail> {
     let table = Held(table_of(rt.alloc(), row)?);
     let mut out = output(rt.alloc())?;
     let before = hex::encode(rt.alloc(), out.as_slice());
-    let returned = marked!(rt; table.0.encode(&mut out));
+    begin(rt);
+    let returned = table.0.encode(&mut out);
+    end(rt);
     let after = hex::encode(rt.alloc(), out.as_slice());
     Outcome::lending(before, after, shown(rt.alloc(), returned))
 }
@@ -60,13 +66,17 @@ pub fn encode(rt: &HostRuntime, row: &str) -> Result<Outcome, Fail> {
 /// Copies a table.
 pub fn try_clone(rt: &HostRuntime, row: &str) -> Result<Outcome, Fail> {
     let table = Held(table_of(rt.alloc(), row)?);
-    let returned = marked!(rt; table.0.try_clone(rt.alloc()));
+    begin(rt);
+    let returned = table.0.try_clone(rt.alloc());
+    end(rt);
     Outcome::of(encoded(rt.alloc(), returned))
 }
 
 /// Copies each entry of a table.
 pub fn try_clone_entries(rt: &HostRuntime, row: &str) -> Result<Outcome, Fail> {
     let table = Held(table_of(rt.alloc(), row)?);
-    let returned = marked!(rt; table.0.types.try_clone(rt.alloc()));
+    begin(rt);
+    let returned = table.0.types.try_clone(rt.alloc());
+    end(rt);
     Outcome::of(encoded(rt.alloc(), returned))
 }

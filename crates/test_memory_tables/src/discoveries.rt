@@ -10,7 +10,7 @@ use std::test::Fail;
 use test_common::held::Held;
 use test_common::lists::list_of;
 use test_memory_common::answers::{Answer, done, failed};
-use test_memory_common::marked;
+use test_memory_common::marks::{begin, end};
 use test_memory_common::outcomes::Outcome;
 use test_memory_common::types::{catalogue, type_named};
 
@@ -47,12 +47,14 @@ pub fn discover_type(rt: &HostRuntime, name: &str) -> Result<Outcome, Fail> {
     let mut identities = Held(Interner::new(rt.alloc()));
     let mut cache = Held(NumberCache::new(rt.alloc()));
     let pending = list_of(rt.alloc(), &ty.0)?;
-    let returned = marked!(rt; discover(
+    begin(rt);
+    let returned = discover(
         rt.alloc(),
         &mut identities.0,
         &mut cache.0,
         pending,
         &known.0,
-    ));
+    );
+    end(rt);
     Outcome::of(found(rt.alloc(), returned, &identities.0, &cache.0))
 }

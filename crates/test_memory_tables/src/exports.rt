@@ -11,7 +11,7 @@ use test_common::held::Held;
 use test_common::rows::numbers;
 use test_memory_common::answers::{Answer, done, failed};
 use test_memory_common::inputs::output;
-use test_memory_common::marked;
+use test_memory_common::marks::{begin, end};
 use test_memory_common::outcomes::Outcome;
 use test_memory_common::own::Own;
 use test_memory_common::types::{catalogue, type_named};
@@ -89,7 +89,8 @@ pub fn export_types(rt: &HostRuntime, row: &str) -> Result<Outcome, Fail> {
     let before = hex::encode(rt.alloc(), out.as_slice());
     let mut asked = 0u32;
     let noted = &mut asked;
-    let returned = marked!(rt; export(
+    begin(rt);
+    let returned = export(
         rt.alloc(),
         &known.0,
         &types.0,
@@ -99,7 +100,8 @@ pub fn export_types(rt: &HostRuntime, row: &str) -> Result<Outcome, Fail> {
             ids.contains(&id)
         },
         &mut out,
-    ));
+    );
+    end(rt);
     let after = hex::encode(rt.alloc(), out.as_slice());
     let answer = match returned {
         Ok(exported) => written(rt.alloc(), exported),

@@ -5,7 +5,6 @@ use std::alloc::{AllocError, Global};
 use std::test::Fail;
 use test_common::held::Held;
 use test_memory_common::answers::{done, shown};
-use test_memory_common::marked;
 use test_memory_common::marks::{begin, end};
 use test_memory_common::outcomes::Outcome;
 
@@ -52,7 +51,9 @@ pub fn intern_or_get_after(rt: &HostRuntime, count: &str) -> Result<Outcome, Fai
     let mut texts = Held(first_numbers(rt.alloc(), count)?);
     let value = digits_of(rt.alloc(), count)?;
     let before = state_of_numbers(rt.alloc(), &texts.0);
-    let returned = marked!(rt; texts.0.intern_or_get(value));
+    begin(rt);
+    let returned = texts.0.intern_or_get(value);
+    end(rt);
     let after = state_of_numbers(rt.alloc(), &texts.0);
     let numbered = returned.map(|(is_new, symbol)| (is_new, symbol.id()));
     Outcome::lending(before, after, shown(rt.alloc(), numbered))

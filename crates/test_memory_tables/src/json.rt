@@ -1,5 +1,5 @@
 //! Tables as JSON.
-use scale_info::{append_json, append_json_of, from_json, from_json_text, to_json};
+use scale_info::{append_json, append_json_of, from_json, to_json};
 use serde_json::Value;
 use std::alloc::Global;
 use std::fmt::Debug;
@@ -7,13 +7,15 @@ use std::test::Fail;
 use test_common::held::Held;
 use test_memory_common::answers::{done, encoded, failed};
 use test_memory_common::inputs::{bytes_of, output, table_of};
-use test_memory_common::marked;
+use test_memory_common::marks::{begin, end};
 use test_memory_common::outcomes::Outcome;
 
 /// The tree of a table.
 pub fn tree_of(rt: &HostRuntime, row: &str) -> Result<Outcome, Fail> {
     let table = Held(table_of(rt.alloc(), row)?);
-    let returned = marked!(rt; to_json(rt.alloc(), &table.0));
+    begin(rt);
+    let returned = to_json(rt.alloc(), &table.0);
+    end(rt);
     let answer = match returned {
         Ok(tree) => done(tree.to_string(rt.alloc())),
         Err(error) => failed(rt.alloc(), &error),
@@ -32,25 +34,9 @@ fn tree(alloc: Global, row: &str) -> Result<Value, Fail> {
 /// The table of a tree.
 pub fn table_from(rt: &HostRuntime, row: &str) -> Result<Outcome, Fail> {
     let tree = Held(tree(rt.alloc(), row)?);
-    let returned = marked!(rt; from_json(rt.alloc(), &tree.0));
-    Outcome::of(encoded(rt.alloc(), returned))
-}
-
-/// The text that comes after the word "text", or else that of the table of this name.
-fn text(alloc: Global, row: &str) -> Result<String, Fail> {
-    match row.strip_prefix("text ") {
-        Some(text) => Ok(String::from_str(alloc, text)?),
-        None => {
-            let text = append_json(&table_of(alloc, row)?, Vec::new(alloc))?;
-            Ok(String::from_utf8(text)?)
-        }
-    }
-}
-
-/// The table of a text.
-pub fn table_from_text(rt: &HostRuntime, row: &str) -> Result<Outcome, Fail> {
-    let text = text(rt.alloc(), row)?;
-    let returned = marked!(rt; from_json_text(rt.alloc(), text.as_str()));
+    begin(rt);
+    let returned = from_json(rt.alloc(), &tree.0);
+    end(rt);
     Outcome::of(encoded(rt.alloc(), returned))
 }
 
@@ -77,7 +63,9 @@ fn written<E: Debug + Drop>(alloc: Global, returned: Result<Vec<u8>, E>) -> Resu
 pub fn text_of(rt: &HostRuntime, row: &str) -> Result<Outcome, Fail> {
     let table = Held(table_of(rt.alloc(), row)?);
     let out = output(rt.alloc())?;
-    let returned = marked!(rt; append_json(&table.0, out));
+    begin(rt);
+    let returned = append_json(&table.0, out);
+    end(rt);
     written(rt.alloc(), returned)
 }
 
@@ -85,7 +73,9 @@ pub fn text_of(rt: &HostRuntime, row: &str) -> Result<Outcome, Fail> {
 pub fn text_of_bytes(rt: &HostRuntime, row: &str) -> Result<Outcome, Fail> {
     let bytes = bytes_of(rt.alloc(), row)?;
     let out = output(rt.alloc())?;
-    let returned = marked!(rt; append_json_of(rt.alloc(), &bytes, out));
+    begin(rt);
+    let returned = append_json_of(rt.alloc(), &bytes, out);
+    end(rt);
     let text = match returned {
         Ok((text, _)) => Ok(text),
         Err(error) => Err(error),

@@ -3,6 +3,7 @@
 
 pub mod builders;
 pub mod bytes;
+pub mod calls;
 pub mod conversions;
 pub mod discoveries;
 pub mod exports;

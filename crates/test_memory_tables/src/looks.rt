@@ -5,7 +5,6 @@ use std::test::Fail;
 use test_common::held::Held;
 use test_memory_common::answers::done;
 use test_memory_common::inputs::table_of;
-use test_memory_common::marked;
 use test_memory_common::marks::{begin, end};
 use test_memory_common::outcomes::Outcome;
 use test_memory_common::types::catalogue;
@@ -44,7 +43,9 @@ pub fn order(rt: &HostRuntime, row: &str) -> Result<Outcome, Fail> {
     let (Some(left), Some(right)) = (left.0.resolve(0), right.0.resolve(1)) else {
         return Err(Fail::new("the table is empty"));
     };
-    let order = marked!(rt; left.cmp(right));
+    begin(rt);
+    let order = left.cmp(right);
+    end(rt);
     Outcome::of(done(format!(in rt.alloc(); "{order:?}")))
 }
 
@@ -56,7 +57,9 @@ pub fn next_refs(rt: &HostRuntime, row: &str) -> Result<Outcome, Fail> {
     };
     let mut refs = Refs::of(rt.alloc(), ty)?;
     let mut steps = 0;
-    let first = marked!(rt; refs.next(&mut steps));
+    begin(rt);
+    let first = refs.next(&mut steps);
+    end(rt);
     Outcome::of(done(format!(in rt.alloc(); "{first:?} {steps}")))
 }
 

@@ -7,7 +7,7 @@ use test_common::held::Held;
 use test_common::rows::{numbers, parted};
 use test_memory_common::answers::{digits, done, failed, shown};
 use test_memory_common::inputs::{bytes_of, is_malformed, output, table_of};
-use test_memory_common::marked;
+use test_memory_common::marks::{begin, end};
 use test_memory_common::outcomes::Outcome;
 
 /// Calls of `prune` that are refused: a row is a name, a colon, the ids, a semicolon and the name
@@ -57,44 +57,46 @@ pub fn retain(rt: &HostRuntime, row: &str) -> Result<Outcome, Fail> {
     let before = digits(rt.alloc(), &table.0);
     let mut asked = 0u32;
     let noted = &mut asked;
-    let returned = marked!(rt; table.0.retain(rt.alloc(), move |_| {
+    begin(rt);
+    let returned = table.0.retain(rt.alloc(), move |_| {
         let id = *noted;
         *noted = id.saturating_add(1);
         ids.contains(&id)
-    }));
+    });
+    end(rt);
     let after = digits(rt.alloc(), &table.0);
     let outcome = Outcome::lending(before, after, shown(rt.alloc(), returned));
     Outcome::asking(outcome, asked as usize)
 }
 
-/// The bytes of a row, and the ids that they are pruned to.
-fn pruned(alloc: Global, row: &str) -> Result<(Vec<u8>, Vec<u32>), Fail> {
-    let (name, ids) = given(alloc, row)?;
-    Ok((bytes_of(alloc, name)?, ids))
-}
-
 /// Appends the table of what the given ids reach, with the new ids.
 pub fn prune_bytes(rt: &HostRuntime, row: &str) -> Result<Outcome, Fail> {
-    let (bytes, ids) = pruned(rt.alloc(), row)?;
+    let (name, ids) = given(rt.alloc(), row)?;
+    let bytes = bytes_of(rt.alloc(), name)?;
     let mut out = output(rt.alloc())?;
     let before = hex::encode(rt.alloc(), out.as_slice());
-    let returned = marked!(rt; prune(rt.alloc(), &bytes, &ids, &mut out));
+    begin(rt);
+    let returned = prune(rt.alloc(), &bytes, &ids, &mut out);
+    end(rt);
     let after = hex::encode(rt.alloc(), out.as_slice());
     Outcome::lending(before, after, shown(rt.alloc(), returned))
 }
 
 /// Appends the table of what the given ids reach.
 pub fn append_pruned_bytes(rt: &HostRuntime, row: &str) -> Result<Outcome, Fail> {
-    let (bytes, ids) = pruned(rt.alloc(), row)?;
+    let (name, ids) = given(rt.alloc(), row)?;
+    let bytes = bytes_of(rt.alloc(), name)?;
     let mut out = output(rt.alloc())?;
     let before = hex::encode(rt.alloc(), out.as_slice());
-    let returned = marked!(rt; append_pruned(rt.alloc(), &bytes, &ids, &mut out));
+    begin(rt);
+    let returned = append_pruned(rt.alloc(), &bytes, &ids, &mut out);
+    end(rt);
     let after = hex::encode(rt.alloc(), out.as_slice());
     Outcome::lending(before, after, shown(rt.alloc(), returned))
 }
 
 /// The outcome of a walk.
-pub fn walked(alloc: Global, returned: Result<Numbering, RetainError>) -> Result<Outcome, Fail> {
+fn walked(alloc: Global, returned: Result<Numbering, RetainError>) -> Result<Outcome, Fail> {
     let answer = match returned {
         Ok(found) => {
             let (order, steps) = (found.order, found.steps);
@@ -109,7 +111,9 @@ pub fn walked(alloc: Global, returned: Result<Numbering, RetainError>) -> Result
 pub fn number_table(rt: &HostRuntime, row: &str) -> Result<Outcome, Fail> {
     let (name, ids) = given(rt.alloc(), row)?;
     let table = Held(table_of(rt.alloc(), name)?);
-    let returned = marked!(rt; number(rt.alloc(), table.0.types(), &ids));
+    begin(rt);
+    let returned = number(rt.alloc(), table.0.types(), &ids);
+    end(rt);
     walked(rt.alloc(), returned)
 }
 
@@ -117,7 +121,9 @@ pub fn number_table(rt: &HostRuntime, row: &str) -> Result<Outcome, Fail> {
 pub fn number_table_recursively(rt: &HostRuntime, row: &str) -> Result<Outcome, Fail> {
     let (name, ids) = given(rt.alloc(), row)?;
     let table = Held(table_of(rt.alloc(), name)?);
-    let returned = marked!(rt; number_recursive(rt.alloc(), table.0.types(), &ids));
+    begin(rt);
+    let returned = number_recursive(rt.alloc(), table.0.types(), &ids);
+    end(rt);
     walked(rt.alloc(), returned)
 }
 
@@ -146,7 +152,9 @@ pub fn refs_of(rt: &HostRuntime, row: &str) -> Result<Outcome, Fail> {
     let Some(ty) = table.0.resolve(0) else {
         return Err(Fail::new("the table is empty"));
     };
-    let returned = marked!(rt; Refs::of(rt.alloc(), ty));
+    begin(rt);
+    let returned = Refs::of(rt.alloc(), ty);
+    end(rt);
     let answer = match returned {
         Ok(refs) => done(listed(rt.alloc(), refs)),
         Err(error) => failed(rt.alloc(), &error),
@@ -162,7 +170,9 @@ pub fn prepend(rt: &HostRuntime, row: &str) -> Result<Outcome, Fail> {
     };
     let mut refs = Refs::new(rt.alloc());
     refs.prepend(&[9])?;
-    let returned = marked!(rt; refs.prepend_of(rt.alloc(), ty));
+    begin(rt);
+    let returned = refs.prepend_of(rt.alloc(), ty);
+    end(rt);
     let before = String::from_str(rt.alloc(), "[9]");
     let after = listed(rt.alloc(), refs);
     Outcome::lending(before, after, shown(rt.alloc(), returned))

@@ -1,32 +1,26 @@
 //! Registrations of types of a program.
 use crate::registries::{described_registry_of, descriptions, listed, registry_of_u8, state};
 use scale_info::meta_type::Catalogue;
-use scale_info::{
-    Field, IntoPortable, Items, MetaType, PortableRegistry, Registry, Scale, tuple_meta_type,
-};
+use scale_info::{Field, IntoPortable, Items, MetaType, PortableRegistry, Scale, tuple_meta_type};
 use std::alloc::{AllocError, Global};
 use std::test::Fail;
 use test_common::held::Held;
 use test_common::lists::{list_of, with};
 use test_memory_common::answers::{digits, done, encoded};
-use test_memory_common::marked;
+use test_memory_common::marks::{begin, end};
 use test_memory_common::outcomes::Outcome;
 use test_memory_common::own::Missing;
 use test_memory_common::types::{catalogue, documented_field, type_named, unnamed_field};
 
-/// The catalogue of all types, and the registry of `u8` under it.
-fn begun(alloc: Global) -> Result<(Held<Catalogue>, Held<Registry>), Fail> {
-    let known = Held(catalogue(alloc)?);
-    let registry = Held(registry_of_u8(alloc, &known.0)?);
-    Ok((known, registry))
-}
-
 /// Registers a type.
 pub fn register_type(rt: &HostRuntime, name: &str) -> Result<Outcome, Fail> {
-    let (known, mut registry) = begun(rt.alloc())?;
+    let known = Held(catalogue(rt.alloc())?);
+    let mut registry = Held(registry_of_u8(rt.alloc(), &known.0)?);
     let ty = Held(type_named(rt.alloc(), name)?);
     let before = state(rt.alloc(), &registry.0, &known.0);
-    let returned = marked!(rt; registry.0.register_type(&ty.0, &known.0));
+    begin(rt);
+    let returned = registry.0.register_type(&ty.0, &known.0);
+    end(rt);
     let after = state(rt.alloc(), &registry.0, &known.0);
     Outcome::lending(before, after, encoded(rt.alloc(), returned))
 }
@@ -37,7 +31,9 @@ pub fn register_known_type(rt: &HostRuntime, name: &str) -> Result<Outcome, Fail
     let mut registry = Held(described_registry_of(rt.alloc(), name)?);
     let nothing = Held(Catalogue::new(rt.alloc()));
     let before = descriptions(rt.alloc(), &registry.0);
-    let returned = marked!(rt; registry.0.register_type(&ty.0, &nothing.0));
+    begin(rt);
+    let returned = registry.0.register_type(&ty.0, &nothing.0);
+    end(rt);
     let after = descriptions(rt.alloc(), &registry.0);
     Outcome::lending(before, after, encoded(rt.alloc(), returned))
 }
@@ -51,20 +47,26 @@ pub fn three(alloc: Global, name: &str) -> Result<Vec<MetaType>, Fail> {
 
 /// Registers three types.
 pub fn register_types(rt: &HostRuntime, name: &str) -> Result<Outcome, Fail> {
-    let (known, mut registry) = begun(rt.alloc())?;
+    let known = Held(catalogue(rt.alloc())?);
+    let mut registry = Held(registry_of_u8(rt.alloc(), &known.0)?);
     let types = Held(three(rt.alloc(), name)?);
     let before = state(rt.alloc(), &registry.0, &known.0);
-    let returned = marked!(rt; registry.0.register_types(types.into_inner(), &known.0));
+    begin(rt);
+    let returned = registry.0.register_types(types.into_inner(), &known.0);
+    end(rt);
     let after = state(rt.alloc(), &registry.0, &known.0);
     Outcome::lending(before, after, encoded(rt.alloc(), listed(returned)))
 }
 
 /// Registers three types that stay where they are.
 pub fn register_all(rt: &HostRuntime, name: &str) -> Result<Outcome, Fail> {
-    let (known, mut registry) = begun(rt.alloc())?;
+    let known = Held(catalogue(rt.alloc())?);
+    let mut registry = Held(registry_of_u8(rt.alloc(), &known.0)?);
     let types = Held(three(rt.alloc(), name)?);
     let before = state(rt.alloc(), &registry.0, &known.0);
-    let returned = marked!(rt; registry.0.register_all(&types.0, &known.0));
+    begin(rt);
+    let returned = registry.0.register_all(&types.0, &known.0);
+    end(rt);
     let after = state(rt.alloc(), &registry.0, &known.0);
     Outcome::lending(before, after, encoded(rt.alloc(), listed(returned)))
 }
@@ -81,9 +83,12 @@ fn two_fields(alloc: Global, name: &str) -> Result<Vec<Field>, AllocError> {
 /// Converts two fields.
 pub fn map_into_portable(rt: &HostRuntime, name: &str) -> Result<Outcome, Fail> {
     let fields = Held(two_fields(rt.alloc(), name)?);
-    let (known, mut registry) = begun(rt.alloc())?;
+    let known = Held(catalogue(rt.alloc())?);
+    let mut registry = Held(registry_of_u8(rt.alloc(), &known.0)?);
     let before = state(rt.alloc(), &registry.0, &known.0);
-    let returned = marked!(rt; registry.0.map_into_portable(fields.into_inner(), &known.0));
+    begin(rt);
+    let returned = registry.0.map_into_portable(fields.into_inner(), &known.0);
+    end(rt);
     let after = state(rt.alloc(), &registry.0, &known.0);
     Outcome::lending(before, after, encoded(rt.alloc(), listed(returned)))
 }
@@ -97,9 +102,12 @@ pub fn into_portable<T: IntoPortable + Drop>(
 where
     T::Output: Scale,
 {
-    let (described, mut registry) = begun(rt.alloc())?;
+    let described = Held(catalogue(rt.alloc())?);
+    let mut registry = Held(registry_of_u8(rt.alloc(), &described.0)?);
     let before = state(rt.alloc(), &registry.0, &described.0);
-    let returned = marked!(rt; value.into_portable(rt.alloc(), &mut registry.0, known));
+    begin(rt);
+    let returned = value.into_portable(rt.alloc(), &mut registry.0, known);
+    end(rt);
     let after = state(rt.alloc(), &registry.0, &described.0);
     Outcome::lending(before, after, encoded(rt.alloc(), returned))
 }
@@ -107,20 +115,26 @@ where
 /// Makes the table of a registry.
 pub fn from_registry(rt: &HostRuntime, name: &str) -> Result<Outcome, Fail> {
     let registry = Held(described_registry_of(rt.alloc(), name)?);
-    let returned = marked!(rt; PortableRegistry::from_registry(rt.alloc(), &registry.0));
+    begin(rt);
+    let returned = PortableRegistry::from_registry(rt.alloc(), &registry.0);
+    end(rt);
     Outcome::of(encoded(rt.alloc(), returned))
 }
 
 /// Makes the table of a registry that is finished.
 pub fn from_finished(rt: &HostRuntime, name: &str) -> Result<Outcome, Fail> {
     let registry = Held(described_registry_of(rt.alloc(), name)?);
-    let returned = marked!(rt; PortableRegistry::from_finished(rt.alloc(), registry.into_inner()));
+    begin(rt);
+    let returned = PortableRegistry::from_finished(rt.alloc(), registry.into_inner());
+    end(rt);
     Outcome::of(encoded(rt.alloc(), returned))
 }
 
 /// Takes the descriptions out of a registry.
 pub fn into_types(rt: &HostRuntime, name: &str) -> Result<Outcome, Fail> {
     let registry = Held(described_registry_of(rt.alloc(), name)?);
-    let types = marked!(rt; Items::from(registry.into_inner().into_types()));
+    begin(rt);
+    let types = Items::from(registry.into_inner().into_types());
+    end(rt);
     Outcome::of(done(digits(rt.alloc(), &types)))
 }

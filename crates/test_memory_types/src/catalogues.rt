@@ -7,7 +7,6 @@ use test_common::catalogues::add_own;
 use test_common::held::Held;
 use test_common::shown::Show;
 use test_memory_common::answers::{Answer, done, shown};
-use test_memory_common::marked;
 use test_memory_common::marks::{begin, end};
 use test_memory_common::outcomes::Outcome;
 use test_memory_common::own::Missing;
@@ -67,7 +66,9 @@ pub fn add<T: TypeInfo>(rt: &HostRuntime, before: &str) -> Result<Outcome, Fail>
     add_all(rt.alloc(), &mut known.0, before)?;
     let identity = T::Identity::type_id(rt.alloc())?;
     let before = state(rt.alloc(), &known.0, &identity);
-    let returned = marked!(rt; known.0.add::<T>());
+    begin(rt);
+    let returned = known.0.add::<T>();
+    end(rt);
     let after = state(rt.alloc(), &known.0, &identity);
     Outcome::lending(before, after, shown(rt.alloc(), returned))
 }
@@ -82,7 +83,9 @@ pub fn add_described_otherwise(rt: &HostRuntime) -> Result<Outcome, Fail> {
         Ok(plain(rt.alloc())),
     )?;
     let before = state(rt.alloc(), &known.0, &identity);
-    let returned = marked!(rt; known.0.add::<Pair>());
+    begin(rt);
+    let returned = known.0.add::<Pair>();
+    end(rt);
     let after = state(rt.alloc(), &known.0, &identity);
     Outcome::lending(before, after, shown(rt.alloc(), returned))
 }
@@ -91,7 +94,9 @@ pub fn add_described_otherwise(rt: &HostRuntime) -> Result<Outcome, Fail> {
 fn added(rt: &HostRuntime, known: &mut Catalogue, name: &str) -> Result<Answer, Fail> {
     let identity = Missing::type_id(rt.alloc())?;
     let description = Held(description_named(rt.alloc(), name)?);
-    let returned = marked!(rt; known.add_described(identity, description.into_inner()));
+    begin(rt);
+    let returned = known.add_described(identity, description.into_inner());
+    end(rt);
     Ok(shown(rt.alloc(), returned)?)
 }
 

@@ -12,22 +12,28 @@ use test_common::lists::{list_of, with};
 use test_common::rows::parted;
 use test_memory_common::answers::encoded;
 use test_memory_common::by_name::{Known, for_known_type, found};
-use test_memory_common::marked;
+use test_memory_common::marks::{begin, end};
 use test_memory_common::outcomes::Outcome;
 use test_memory_common::types::{description_named, type_named};
 
 /// Converts a value.
 fn convert<T: IntoPortable + Drop>(
     rt: &HostRuntime,
-    (mut registry, known): Given,
+    given: Given,
     value: Result<T, AllocError>,
 ) -> Result<Outcome, Fail>
 where
     T::Output: Scale,
 {
+    let Given {
+        mut registry,
+        known,
+    } = given;
     let value = value?;
     let before = state(rt.alloc(), &registry.0);
-    let returned = marked!(rt; value.into_portable(rt.alloc(), &mut registry.0, &known.0));
+    begin(rt);
+    let returned = value.into_portable(rt.alloc(), &mut registry.0, &known.0);
+    end(rt);
     let after = state(rt.alloc(), &registry.0);
     Outcome::lending(before, after, encoded(rt.alloc(), returned))
 }

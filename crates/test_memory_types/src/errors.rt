@@ -9,12 +9,14 @@ use std::alloc::Global;
 use std::fmt::Display;
 use std::test::Fail;
 use test_memory_common::answers::printed;
-use test_memory_common::marked;
+use test_memory_common::marks::{begin, end};
 use test_memory_common::outcomes::Outcome;
 
 /// Writes a value.
 fn text_of<T: Display + Drop>(rt: &HostRuntime, value: T) -> Result<Outcome, Fail> {
-    let text = marked!(rt; format!(in rt.alloc(); "{value}"));
+    begin(rt);
+    let text = format!(in rt.alloc(); "{value}");
+    end(rt);
     Outcome::of(printed(rt.alloc(), text))
 }
 

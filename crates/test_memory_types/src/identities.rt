@@ -8,42 +8,54 @@ use std::test::Fail;
 use test_common::shown;
 use test_memory_common::answers::{printed, registered, shown};
 use test_memory_common::by_name::{Described, for_type, found};
-use test_memory_common::marked;
+use test_memory_common::marks::{begin, end};
 use test_memory_common::outcomes::Outcome;
 
 /// Makes the identity of a type.
 fn identity<T: Identified>(rt: &HostRuntime) -> Result<Outcome, Fail> {
-    let returned = marked!(rt; T::type_id(rt.alloc()));
+    begin(rt);
+    let returned = T::type_id(rt.alloc());
+    end(rt);
     Outcome::of(shown(rt.alloc(), returned))
 }
 
 /// Makes the description of a type, which refers to types of the catalogue.
 fn description<T: TypeInfo>(rt: &HostRuntime) -> Result<Outcome, Fail> {
-    let returned = marked!(rt; T::type_info(rt.alloc()));
+    begin(rt);
+    let returned = T::type_info(rt.alloc());
+    end(rt);
     Outcome::of(registered(rt.alloc(), returned))
 }
 
 /// Makes the identities and the description of a type, as a text.
 fn text<T: TypeInfo>(rt: &HostRuntime) -> Result<Outcome, Fail> {
-    let returned = marked!(rt; shown::shown::<T>(rt.alloc()));
+    begin(rt);
+    let returned = shown::shown::<T>(rt.alloc());
+    end(rt);
     Outcome::of(printed(rt.alloc(), returned))
 }
 
 /// Makes a type by its identity.
 fn by_identity<T: HasIdentity>(rt: &HostRuntime) -> Result<Outcome, Fail> {
-    let returned = marked!(rt; MetaType::new::<T>(rt.alloc()));
+    begin(rt);
+    let returned = MetaType::new::<T>(rt.alloc());
+    end(rt);
     Outcome::of(registered(rt.alloc(), returned))
 }
 
 /// Makes a type by the function of that name.
 fn by_function<T: HasIdentity>(rt: &HostRuntime) -> Result<Outcome, Fail> {
-    let returned = marked!(rt; meta_type::<T>(rt.alloc()));
+    begin(rt);
+    let returned = meta_type::<T>(rt.alloc());
+    end(rt);
     Outcome::of(registered(rt.alloc(), returned))
 }
 
 /// Makes the definition of a sequence.
 fn sequence<T: HasIdentity>(rt: &HostRuntime) -> Result<Outcome, Fail> {
-    let returned = marked!(rt; TypeDefSequence::of::<T>(rt.alloc()));
+    begin(rt);
+    let returned = TypeDefSequence::of::<T>(rt.alloc());
+    end(rt);
     Outcome::of(registered(rt.alloc(), returned))
 }
 

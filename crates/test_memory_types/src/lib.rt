@@ -2,6 +2,7 @@
 //! of errors, and the public items. Each call is made once between marks.
 #![tactic(auto)]
 
+pub mod calls;
 pub mod catalogues;
 pub mod conversions;
 pub mod errors;

@@ -11,12 +11,18 @@ use std::alloc::{AllocError, Global};
 use std::test::Fail;
 use test_common::held::Held;
 use test_memory_common::answers::{Answer, digits, failed, printed};
-use test_memory_common::marked;
+use test_memory_common::marks::{begin, end};
 use test_memory_common::outcomes::Outcome;
 use test_memory_common::types::{catalogue, catalogue_of, type_named, types_named};
 
-/// A registry, and the catalogue by which types are added to it.
-pub type Given = (Held<Registry>, Held<Catalogue>);
+/// A registry, to which types are added by a catalogue.
+#[derive(Drop)]
+pub struct Given {
+    /// The registry.
+    pub registry: Held<Registry>,
+    /// The catalogue.
+    pub known: Held<Catalogue>,
+}
 
 /// The names before a mark, and those after it, if there is one.
 fn parts<'a>(row: &'a str, mark: &str) -> (&'a str, Option<&'a str>) {
@@ -50,7 +56,7 @@ pub fn read<'a>(alloc: Global, row: &'a str) -> Result<(Given, &'a str), Fail> {
     let (names, after) = parts(row, " after ");
     let registry = Held(registry_of(alloc, after.unwrap_or(""))?);
     let known = Held(described(alloc, under)?);
-    Ok(((registry, known), names))
+    Ok((Given { registry, known }, names))
 }
 
 /// The table of a registry, and whether each reference leads to a type.
@@ -83,37 +89,43 @@ fn listed(
 }
 
 /// Registers types, which are handed over.
-fn register_types(
-    rt: &HostRuntime,
-    (mut registry, known): Given,
-    types: Vec<MetaType>,
-) -> Result<Outcome, Fail> {
+fn register_types(rt: &HostRuntime, given: Given, types: Vec<MetaType>) -> Result<Outcome, Fail> {
+    let Given {
+        mut registry,
+        known,
+    } = given;
     let before = state(rt.alloc(), &registry.0);
-    let returned = marked!(rt; registry.0.register_types(types, &known.0));
+    begin(rt);
+    let returned = registry.0.register_types(types, &known.0);
+    end(rt);
     let after = state(rt.alloc(), &registry.0);
     Outcome::lending(before, after, listed(rt.alloc(), returned))
 }
 
 /// Registers types, which stay where they are.
-fn register_all(
-    rt: &HostRuntime,
-    (mut registry, known): Given,
-    types: &[MetaType],
-) -> Result<Outcome, Fail> {
+fn register_all(rt: &HostRuntime, given: Given, types: &[MetaType]) -> Result<Outcome, Fail> {
+    let Given {
+        mut registry,
+        known,
+    } = given;
     let before = state(rt.alloc(), &registry.0);
-    let returned = marked!(rt; registry.0.register_all(types, &known.0));
+    begin(rt);
+    let returned = registry.0.register_all(types, &known.0);
+    end(rt);
     let after = state(rt.alloc(), &registry.0);
     Outcome::lending(before, after, listed(rt.alloc(), returned))
 }
 
 /// Registers a type.
-fn register_type(
-    rt: &HostRuntime,
-    (mut registry, known): Given,
-    ty: &MetaType,
-) -> Result<Outcome, Fail> {
+fn register_type(rt: &HostRuntime, given: Given, ty: &MetaType) -> Result<Outcome, Fail> {
+    let Given {
+        mut registry,
+        known,
+    } = given;
     let before = state(rt.alloc(), &registry.0);
-    let returned = marked!(rt; registry.0.register_type(ty, &known.0));
+    begin(rt);
+    let returned = registry.0.register_type(ty, &known.0);
+    end(rt);
     let after = state(rt.alloc(), &registry.0);
     let answer = match returned {
         Ok(symbol) => printed(rt.alloc(), ids(rt.alloc(), &[symbol])),
@@ -138,5 +150,9 @@ pub fn register(rt: &HostRuntime, call: &str, row: &str) -> Result<Outcome, Fail
 pub fn register_nested(rt: &HostRuntime) -> Result<Outcome, Fail> {
     let registry = Held(Registry::new(rt.alloc()));
     let known = Held(nested::catalogue(rt.alloc())?);
-    register_types(rt, (registry, known), nested::outermost(rt.alloc())?)
+    register_types(
+        rt,
+        Given { registry, known },
+        nested::outermost(rt.alloc())?,
+    )
 }

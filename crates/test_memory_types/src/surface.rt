@@ -242,7 +242,6 @@ use std::test::Fail;
 use test_common::encodings::encoding;
 use test_common::held::Held;
 use test_memory_common::answers::done;
-use test_memory_common::marked;
 use test_memory_common::marks::begin;
 use test_memory_common::marks::end;
 use test_memory_common::outcomes::Outcome;
@@ -504,7 +503,9 @@ fn shown(alloc: Global, id: u32, table: &PortableRegistry) -> Result<String, Fai
 pub fn items(rt: &HostRuntime) -> Result<Outcome, Fail> {
     is_offered::<u32, PortableForm>(&7, None);
     is_described(&7);
-    let is_identifier = marked!(rt; is_rust_identifier("u8"));
+    begin(rt);
+    let is_identifier = is_rust_identifier("u8");
+    end(rt);
     let (id, table) = table_of_u8(rt.alloc())?;
     let table = Held(table);
     functions_are_offered(rt.alloc(), &table.0)?;

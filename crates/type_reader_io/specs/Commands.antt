@@ -2,10 +2,6 @@
 use Rattle.std.specs.Prelude.{◌≡◌, ◌≢◌, ℕ, List, [], ◌∷◌, codes}
 use Rattle.type_reader_io.specs.declared.command.Command.{Command}
 use Rattle.type_reader_io.specs.declared.command.Command.TheVariants as commands
-use Rattle.type_reader_io.specs.declared.command.Conversion.{Conversion}
-use Rattle.type_reader_io.specs.declared.command.Conversion.TheVariants as conversions
-use Rattle.type_reader_io.specs.declared.command.Request.{Request}
-use Rattle.type_reader_io.specs.declared.command.Request.TheVariants as requests
 use Rattle.type_reader_io.specs.declared.command.Word.{Word}
 use Rattle.type_reader_io.specs.declared.command.Word.TheVariants as words
 
@@ -19,28 +15,18 @@ word_of words.Prune = codes "prune"
 word_of words.Value = codes "value"
 word_of words.Encode = codes "encode"
 
--- the word of a conversion
-abbrev pub conversion_word : Conversion → Word
-conversion_word conversions.Decode = words.Value
-conversion_word conversions.Encode = words.Encode
-
--- the request has this word, and these arguments after the table: of types to prune to there is one
-abbrev pub IsRequest : Word → List (List ℕ) → Request → Type 0
-IsRequest word more requests.Table = (word ≡ words.Table) × (more ≡ [])
-IsRequest word more requests.Strip = (word ≡ words.Strip) × (more ≡ [])
-IsRequest word more (requests.List texts) = (word ≡ words.List) × (more ≡ texts.now)
-IsRequest word more (requests.Find pattern) = (word ≡ words.Find) × (more ≡ pattern.now ∷ [])
-IsRequest word more (requests.Prune texts) =
+-- the command has this word, and these arguments after the table: of types to prune to there is one
+abbrev pub IsOfWord : Word → List (List ℕ) → Command → Type 0
+IsOfWord word more commands.Table = (word ≡ words.Table) × (more ≡ [])
+IsOfWord word more commands.Strip = (word ≡ words.Strip) × (more ≡ [])
+IsOfWord word more (commands.List texts) = (word ≡ words.List) × (more ≡ texts.now)
+IsOfWord word more (commands.Find pattern) = (word ≡ words.Find) × (more ≡ pattern.now ∷ [])
+IsOfWord word more (commands.Prune texts) =
     (word ≡ words.Prune) × (more ≡ texts.now) × (texts.now ≢ [])
-IsRequest word more (requests.Convert conversion ty value) =
-    (word ≡ conversion_word conversion) × (more ≡ ty.now ∷ value.now ∷ [])
-
--- the command has this word, this table and these arguments after it; where the standard input is
--- read line by line, the table is not read from it
-abbrev pub IsOfWord : Word → (table : List ℕ) → List (List ℕ) → Command → Type 0
-IsOfWord word table more (commands.Once request) = IsRequest word more request
-IsOfWord word table more (commands.Lines conversion ty) =
-    (word ≡ conversion_word conversion) × (more ≡ ty.now ∷ []) × (table ≢ codes "-")
+IsOfWord word more (commands.Value ty digits) =
+    (word ≡ words.Value) × (more ≡ ty.now ∷ digits.now ∷ [])
+IsOfWord word more (commands.Encode ty json) =
+    (word ≡ words.Encode) × (more ≡ ty.now ∷ json.now ∷ [])
 
 -- the arguments name the command: its word, a table, and the arguments after it
 pub record Names (arguments : List (List ℕ)) (command : Command) : Type 0 where
@@ -48,7 +34,7 @@ pub record Names (arguments : List (List ℕ)) (command : Command) : Type 0 wher
   pub table : List ℕ
   pub more : List (List ℕ)
   pub parts : arguments ≡ word_of word ∷ table ∷ more
-  pub is_of_word : IsOfWord word table more command
+  pub is_of_word : IsOfWord word more command
 
 -- the arguments name a command, and the fact holds of it
 pub record HasCommand (arguments : List (List ℕ)) (P : Command → Type 0) : Type 0 where

@@ -1,4 +1,2 @@
 pub mod Commands
-pub mod Inputs
 pub mod Lines
-pub mod Reports

@@ -1,36 +1,14 @@
 //! Commands, and the arguments that name them.
-ghost use Rattle.std.specs.Prelude.{◌≡◌, ◌∷◌, [], IfSome, IfNone};
-ghost use Rattle.type_reader_io.specs.Commands.{IsCommand, IsOfWord, IsRequest, Names};
-ghost use Rattle.type_reader_io.specs.Commands.{conversion_word, word_of};
+ghost use Rattle.std.specs.Prelude.{◌≡◌, IfSome, IfNone};
+ghost use Rattle.type_reader_io.specs.Commands.{IsCommand, IsOfWord, Names, word_of};
 ghost use Rattle.type_reader_io.specs.declared.command.Command.{Command as CommandValue};
-ghost use Rattle.type_reader_io.specs.declared.command.Conversion.{Conversion as ConversionValue};
-ghost use Rattle.type_reader_io.specs.declared.command.Request.{Request as RequestValue};
 ghost use Rattle.type_reader_io.specs.declared.command.Word.{Word as WordValue};
 
 use scale_info_collections::text::Text;
 
-/// Which way a value is converted.
-#[derive(Clone, Copy, Drop)]
-pub enum Conversion {
-    /// From the hexadecimal digits of its encoding to JSON text.
-    Decode,
-    /// From JSON text to the hexadecimal digits of its encoding.
-    Encode,
-}
-
-/// What the program is asked to do.
+/// What the program is asked to do with a table.
 #[derive(Drop)]
 pub enum Command<'a> {
-    /// Write something of a table.
-    Once(Request<'a>),
-    /// Convert values of a type, which is given by its id or its path: each line of the second
-    /// input is one.
-    Lines(Conversion, &'a Text),
-}
-
-/// What the program is asked to write of a table.
-#[derive(Drop)]
-pub enum Request<'a> {
     /// Write its bytes.
     Table,
     /// Write it with all docs left out.
@@ -42,8 +20,12 @@ pub enum Request<'a> {
     Find(&'a Text),
     /// Write the table of what these types reach. Each is given by its id or its path.
     Prune(&'a [Text]),
-    /// Convert a value of a type, which is given by its id or its path. The value is the last text.
-    Convert(Conversion, &'a Text, &'a Text),
+    /// Write the JSON text of the value of a type, which is given by its id or its path, that
+    /// hexadecimal digits write.
+    Value(&'a Text, &'a Text),
+    /// Write the hexadecimal digits of the encoding of the value of a type, which is given by its
+    /// id or its path, that a JSON text gives.
+    Encode(&'a Text, &'a Text),
 }
 
 /// The first argument of a command.
@@ -89,69 +71,34 @@ fn word_of(text: &str) -> Option<Word>
     }
 }
 
-/// The request that has this word, and these arguments after the table; None where there is none.
-fn request_by(word: Word, more: &[Text]) -> Option<Request<'_>>
-    ensures some { IfSome result (IsRequest word more.now) }
-    ensures none { IfNone result ((request : RequestValue) → IsRequest word more.now request → ⊥) }
+/// The command that has this word, and these arguments after the table; None where there is none.
+fn command_by(word: Word, more: &[Text]) -> Option<Command<'_>>
+    ensures some { IfSome result (IsOfWord word more.now) }
+    ensures none { IfNone result ((command : CommandValue) → IsOfWord word more.now command → ⊥) }
 {
     match (word, more) {
-        (Word::Table, []) => Some(Request::Table),
-        (Word::Strip, []) => Some(Request::Strip),
-        (Word::List, _) => Some(Request::List(more)),
-        (Word::Find, [pattern]) => Some(Request::Find(pattern)),
-        (Word::Prune, [_, ..]) => Some(Request::Prune(more)),
-        (Word::Value, [ty, digits]) => Some(Request::Convert(Conversion::Decode, ty, digits)),
-        (Word::Encode, [ty, json]) => Some(Request::Convert(Conversion::Encode, ty, json)),
+        (Word::Table, []) => Some(Command::Table),
+        (Word::Strip, []) => Some(Command::Strip),
+        (Word::List, _) => Some(Command::List(more)),
+        (Word::Find, [pattern]) => Some(Command::Find(pattern)),
+        (Word::Prune, [_, ..]) => Some(Command::Prune(more)),
+        (Word::Value, [ty, digits]) => Some(Command::Value(ty, digits)),
+        (Word::Encode, [ty, json]) => Some(Command::Encode(ty, json)),
         _ => None,
-    }
-}
-
-/// The conversion that has this word, and the type that is the one argument after the table; None
-/// where there is none.
-fn lines_by(word: Word, more: &[Text]) -> Option<(Conversion, &Text)>
-    ensures some { IfSome result (λ found.
-        (word ≡ conversion_word found.0) × (more.now ≡ found.1.now ∷ [])) }
-    ensures none { IfNone result ((conversion : ConversionValue) → (ty : _)
-        → word ≡ conversion_word conversion → more.now ≡ ty ∷ [] → ⊥) }
-{
-    match (word, more) {
-        (Word::Value, [ty]) => Some((Conversion::Decode, ty)),
-        (Word::Encode, [ty]) => Some((Conversion::Encode, ty)),
-        _ => None,
-    }
-}
-
-/// The command that has this word, this table and these arguments after it; None where there is
-/// none.
-fn command_by<'a>(word: Word, table: &Text, more: &'a [Text]) -> Option<Command<'a>>
-    ensures some { IfSome result (IsOfWord word table.now more.now) }
-    ensures none { IfNone result
-        ((command : CommandValue) → IsOfWord word table.now more.now command → ⊥) }
-{
-    if let Some(request) = request_by(word, more) {
-        return Some(Command::Once(request));
-    }
-    if table.as_str() == "-" {
-        return None;
-    }
-    match lines_by(word, more) {
-        Some((conversion, ty)) => Some(Command::Lines(conversion, ty)),
-        None => None,
     }
 }
 
 /// The command that the arguments name; None where they name none. Does not allocate.
 ///
 /// The first argument is the command's word, and the second names the table. For example, `strip`
-/// and `table.scale` name `Command::Once(Request::Strip)`. Where a second input is read, which is
-/// the standard input, the table is not `-`.
+/// and `table.scale` name `Command::Strip`.
 pub fn command_of(arguments: &[Text]) -> Option<Command<'_>>
     ensures some { IfSome result (Names arguments.now) }
     ensures none { IfNone result (IsCommand arguments.now → ⊥) }
 {
     match arguments {
-        [word, table, more @ ..] => match word_of(word.as_str()) {
-            Some(word) => command_by(word, table, more),
+        [word, _table, more @ ..] => match word_of(word.as_str()) {
+            Some(word) => command_by(word, more),
             None => None,
         },
         _ => None,

@@ -1,6 +1,5 @@
 //! Why a command is refused.
 ghost use Rattle.std.specs.Prelude.{◌≡◌};
-ghost use Rattle.type_reader_io.specs.declared.error.LineError.TheVariants as line_error;
 ghost use Rattle.type_reader_io.specs.declared.error.ReaderError.TheVariants as error;
 
 use scale_info_collections::failure::AllocationFailure;
@@ -34,25 +33,6 @@ pub enum ValueFault {
     /// The JSON is no value of the type.
     #[error("mismatch")]
     Mismatch,
-}
-
-/// Why a text is not converted.
-#[derive(Clone, Copy, Debug, Drop, PartialEq, Eq, Error)]
-pub enum LineError {
-    /// It gives no value of the type.
-    #[error("no value: {0}")]
-    Fault(ValueFault),
-    /// An allocation failed.
-    #[error("out of memory")]
-    Memory,
-}
-
-impl<F: AllocationFailure> From<F> for LineError {
-    ghost from_gives = { λ _ e. e ≡ line_error.Memory };
-
-    fn from(_failure: F) -> LineError {
-        LineError::Memory
-    }
 }
 
 /// Why a command is refused. It is displayed as in its line, without the program's name.

@@ -4,7 +4,6 @@
 
 pub mod command;
 pub mod error;
-pub mod line;
 pub mod message;
 pub mod report;
 pub mod reporter;

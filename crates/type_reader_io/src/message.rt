@@ -1,6 +1,6 @@
 //! What a run has to say beside its output.
 
-use crate::error::{ReaderError, ValueFault};
+use crate::error::ReaderError;
 
 /// What a run has to say beside its output.
 ///
@@ -14,7 +14,4 @@ pub enum Message {
     Refused(ReaderError),
     /// The command was done, and these are lines about its output, each with a line feed.
     Notes(Vec<u8>),
-    /// The line of the second input with this number, counted from 1, gives no value. The lines
-    /// after it are still read.
-    BadLine(u64, ValueFault),
 }

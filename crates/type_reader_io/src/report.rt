@@ -1,8 +1,7 @@
 //! Messages on the writer for errors.
 ghost use Rattle.std.specs.Io.KnownBytes.{Appends};
 ghost use Rattle.std.specs.Prelude.{◌≡◌, OnOk, decimal};
-ghost use Rattle.type_reader_io.specs.Lines.{bad_line, fault_text, line_of, line_with};
-ghost use Rattle.type_reader_io.specs.Lines.{message_text};
+ghost use Rattle.type_reader_io.specs.Lines.{fault_text, line_of, line_with, message_text};
 ghost use Rattle.type_table_io.specs.Reports.{AppendsPrefix};
 
 use crate::error::{ReaderError, ValueFault};
@@ -14,7 +13,7 @@ use std::io::Write;
 use type_table_io::writing::write_all;
 
 const USAGE: &str =
-    "usage: type_reader table TABLE | strip TABLE | list TABLE [TYPE ..] | find TABLE PATTERN | prune TABLE TYPE .. | value TABLE TYPE [HEX] | encode TABLE TYPE [JSON]\n";
+    "usage: type_reader table TABLE | strip TABLE | list TABLE [TYPE ..] | find TABLE PATTERN | prune TABLE TYPE .. | value TABLE TYPE HEX | encode TABLE TYPE JSON\n";
 
 /// The writer for errors as a reporter: the text of a message is written to it.
 #[derive(Drop)]
@@ -50,37 +49,7 @@ pub fn report_message<F: Write>(errors: &mut F, message: &Message) -> io::Result
         Message::Usage => report(errors, USAGE.as_bytes()),
         Message::Refused(error) => report_error(errors, error),
         Message::Notes(notes) => report(errors, notes),
-        Message::BadLine(number, fault) => report_bad_line(errors, *number, *fault),
     }
-}
-
-/// Writes the line of a line that gives no value to the writer for errors. An Ok has written the
-/// whole line. Does not allocate.
-///
-/// Errors: as those of [`report_message`].
-fn report_bad_line<F: Write>(errors: &mut F, number: u64, fault: ValueFault) -> io::Result<()>
-    ensures line { AppendsPrefix (F.contents errors.old) (F.contents errors.new)
-        (bad_line number fault) }
-    ensures whole { OnOk result (Appends (F.contents errors.old) (F.contents errors.new)
-        (bad_line number fault)) }
-{
-    write_bad_line(errors, number, fault)?;
-    errors.flush()
-}
-
-/// Writes the line of a line that gives no value. An Ok has written all of it.
-///
-/// Errors: that of a write that fails; then a prefix was written.
-fn write_bad_line<W: Write>(writer: &mut W, number: u64, fault: ValueFault) -> io::Result<()>
-    ensures line { AppendsPrefix (W.contents writer.old) (W.contents writer.new)
-        (bad_line number fault) }
-    ensures whole { OnOk result (Appends (W.contents writer.old) (W.contents writer.new)
-        (bad_line number fault)) }
-{
-    let mut buffer = Buffer::new();
-    write_all(writer, b"type_reader: line ")?;
-    write_all(writer, buffer.format(number).as_bytes())?;
-    write_line(writer, ": no value: ", fault_text(fault))
 }
 
 /// Writes bytes to the writer for errors. An Ok has written all of them.

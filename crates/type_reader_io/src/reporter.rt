@@ -1,10 +1,10 @@
-//! Reporters: what takes the messages of a run.
+//! Reporters: what takes the message of a run.
 ghost use Rattle.std.specs.Prelude.{◌≡◌, ℕ, List};
 ghost use Rattle.type_reader_io.specs.Lines.{kept_text, message_text};
 
 use crate::message::Message;
 
-/// What takes the messages of a run.
+/// What takes the message of a run.
 ///
 /// `reported` says what a reporter is after it was given a text, by what it was before. Where a
 /// reporter takes all that it is given, `reported` says so, and a run ends with it.

@@ -1,9 +1,3 @@
-pub mod Explained
-pub mod Faults
 pub mod Known
-pub mod Outcomes
-pub mod Reports
-pub mod Runs
 pub mod Selections
-pub mod SoFar
 pub mod Tables

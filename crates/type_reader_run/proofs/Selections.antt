@@ -64,9 +64,9 @@ pub first_error :
     → AreSelected types (take i texts) ids → IsNamingError types text error
     → HasFirstError types texts error
 first_error types texts i text ids error within is so_far cause = record {
-  before = take i texts;
+  front = take i texts;
   text = text;
-  after = drop (i + 1) texts;
+  back = drop (i + 1) texts;
   parts =
       sym (take-append-drop i texts)
       ∙ ap (λ l. take i texts ++ l)

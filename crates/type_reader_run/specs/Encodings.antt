@@ -1,5 +1,5 @@
 -- Values that JSON texts give, and their encodings.
-use Rattle.std.specs.Prelude.{◌≡◌, ◌⊎◌, ◌++◌, ℕ, IsUtf8, List, Some, None, codes}
+use Rattle.std.specs.Prelude.{◌≡◌, ◌⊎◌, ◌++◌, ℕ, List, Some, None, codes}
 use Rattle.hex.specs.Hex.{encode_lower}
 use Rattle.serde_json.specs.Data.{Data}
 use Rattle.serde_json.specs.Read.{read as read_text}
@@ -10,21 +10,16 @@ use Rattle.scale_info_value.specs.declared.value.Dyn.{Dyn}
 use Rattle.scale_info_value_json.specs.Takers.{Taken, taken, refused, no_such_type, unsupported}
 use Rattle.scale_info_value_json.specs.Takers.{too_deep, mismatch}
 use Rattle.scale_info_value_json.specs.Takings.{taking}
-use Rattle.type_reader_io.specs.declared.error.LineError.{LineError}
-use Rattle.type_reader_io.specs.declared.error.LineError.TheVariants as errors
+use Rattle.type_reader_io.specs.declared.error.ReaderError.{ReaderError}
+use Rattle.type_reader_io.specs.declared.error.ReaderError.TheVariants as errors
 use Rattle.type_reader_io.specs.declared.error.ValueFault.{ValueFault}
 use Rattle.type_reader_io.specs.declared.error.ValueFault.TheVariants as faults
-
--- the bytes are JSON, of this tree; JSON is UTF-8
-pub record IsJsonOf (tree : Data) (json : List ℕ) : Type 0 where
-  pub text : IsUtf8 json
-  pub read : read_text json ≡ Some tree
 
 -- the JSON text gives a value of the type, and the line is its encoding in hexadecimal digits,
 -- after `0x`, and a line feed
 pub record IsEncodedLine (table : PortableRegistry) (id : ℕ) (json line : List ℕ) : Type 0 where
   pub tree : Data
-  pub is_json : IsJsonOf tree json
+  pub read : read_text json ≡ Some tree
   pub value : Dyn
   pub is_taken : taking table id 1 tree ≡ taken value
   pub bytes : List ℕ
@@ -43,29 +38,22 @@ IsTakingFault outcome faults.TrailingBytes = ⊥
 IsTakingFault outcome faults.Mismatch = outcome ≡ refused mismatch
 
 -- the same of an error; an allocation may fail
-abbrev pub IsTakingError : Taken Dyn → LineError → Type 0
-IsTakingError outcome (errors.Fault fault) = IsTakingFault outcome fault
-IsTakingError outcome errors.Memory = Unit {0}
+abbrev pub IsTakingError : Taken Dyn → ReaderError → Type 0
+IsTakingError outcome (errors.NoValue fault) = IsTakingFault outcome fault
+IsTakingError outcome error = error ≡ errors.Memory
 
--- the bytes are no JSON
-abbrev pub IsNoJson : List ℕ → ValueFault → Type 0
-IsNoJson json fault =
-    (fault ≡ faults.NoJson) × ((tree : Data) → IsJsonOf tree json → ⊥)
+-- why a text has no tree
+abbrev pub IsTreeError : List ℕ → ReaderError → Type 0
+IsTreeError json error =
+    (error ≡ errors.Memory) ⊎ ((error ≡ errors.NoValue faults.NoJson) × (read_text json ≡ None))
 
--- why bytes have no tree; an allocation may fail
-abbrev pub IsTreeError : List ℕ → LineError → Type 0
-IsTreeError json (errors.Fault fault) = IsNoJson json fault
-IsTreeError json errors.Memory = Unit {0}
-
--- the text has a tree, from which no value of the type is taken, for this reason
-pub record HasTakingFault (table : PortableRegistry) (id : ℕ) (json : List ℕ)
-    (fault : ValueFault) : Type 0 where
+-- the text has a tree, from which no value of the type is taken, for this error
+pub record HasTakingError (table : PortableRegistry) (id : ℕ) (json : List ℕ)
+    (error : ReaderError) : Type 0 where
   pub tree : Data
-  pub is_json : IsJsonOf tree json
-  pub cause : IsTakingFault (taking table id 1 tree) fault
+  pub read : read_text json ≡ Some tree
+  pub cause : IsTakingError (taking table id 1 tree) error
 
--- why there is no line for the JSON text; an allocation may fail
-abbrev pub IsEncodingError : PortableRegistry → ℕ → List ℕ → LineError → Type 0
-IsEncodingError table id json (errors.Fault fault) =
-    IsNoJson json fault ⊎ HasTakingFault table id json fault
-IsEncodingError table id json errors.Memory = Unit {0}
+-- why there is no line for the JSON text
+abbrev pub IsEncodingError : PortableRegistry → ℕ → List ℕ → ReaderError → Type 0
+IsEncodingError table id json error = IsTreeError json error ⊎ HasTakingError table id json error

@@ -1,15 +1,12 @@
-pub mod Conversions
 pub mod Encodings
 pub mod Listings
 pub mod Outputs
 pub mod Refusals
-pub mod Runs
+pub mod Reports
 pub mod Selections
-pub mod Steps
 pub mod Tables
 pub mod Values
 pub use Rattle.scale_info_grammar.specs.Ty
 pub use Rattle.scale_info_metadata.specs.TablesFound
 pub use Rattle.type_reader_io.specs.Commands
-pub use Rattle.type_reader_io.specs.Inputs
 pub use Rattle.type_reader_io.specs.Lines

@@ -1,5 +1,5 @@
--- What is written of a table.
-use Rattle.std.specs.Prelude.{◌≡◌, ◌++◌, ℕ, Bool, IfSome, List, [], codes, decimal, map}
+-- What each command writes for its input.
+use Rattle.std.specs.Prelude.{◌≡◌, ◌++◌, ℕ, List, [], ◌∷◌, codes, decimal, map}
 use Rattle.std.specs.declared.option.Option.{Option}
 use Rattle.std.specs.BTreeMap.{BTreeMap}
 use Rattle.std.specs.Io.KnownBytes.{Appends}
@@ -8,18 +8,15 @@ use Rattle.scale_info_describe.specs.PathSearches.{AreIdsBy, stands_in}
 use Rattle.scale_info_docs.specs.WithoutDocs.{entry_without_docs}
 use Rattle.scale_info_grammar.specs.Ty.{EncodesTypes}
 use Rattle.scale_info_prune.specs.Prunes.{HasNewIds, IsPrunedEncoding}
-use Rattle.scale_info_metadata.specs.TablesFound.{IsTableOf}
-use Rattle.scale_info_metadata.specs.declared.metadata.Source.{Source}
 use Rattle.scale_info_tables.specs.declared.portable.PortableRegistry.{PortableRegistry}
 use Rattle.scale_info_types.specs.declared.ty.PortableType.{PortableType}
-use Rattle.type_reader_io.specs.declared.command.Request.{Request}
-use Rattle.type_reader_io.specs.declared.command.Request.TheVariants as requests
-use Rattle.type_reader_run.specs.Conversions.{IsConverted}
+use Rattle.type_reader_io.specs.declared.command.Command.{Command}
+use Rattle.type_reader_io.specs.declared.command.Command.TheVariants as commands
+use Rattle.type_reader_run.specs.Encodings.{IsEncodedLine}
 use Rattle.type_reader_run.specs.Listings.{AreListed, listed_type, title_line}
-use Rattle.type_reader_run.specs.Selections.{AreSelected}
-use Rattle.type_reader_run.specs.Tables.{input_bytes, is_hexadecimal, source_line}
-use Rattle.type_reader_run.specs.declared.output.OutputBytes.{OutputBytes}
-use Rattle.type_reader_run.specs.declared.output.OutputBytes.TheVariants as output_bytes
+use Rattle.type_reader_run.specs.Selections.{AreNamed, AreSelected}
+use Rattle.type_reader_run.specs.Tables.{HasTable}
+use Rattle.type_reader_run.specs.Values.{IsValueLine}
 use Rattle.type_table_io.specs.Reports.{AppendsPrefix}
 
 -- the output encodes the table without docs
@@ -67,58 +64,55 @@ pub record IsPruning (table : List ℕ) (texts : List (List ℕ)) (output notes 
   pub selected : AreSelected types texts ids
   pub pruned : IsPruned table ids output notes
 
--- for the table, and the line that says what the input is, the request has this output and these
--- notes
-abbrev pub OutputsOf : Request → (source_line table output notes : List ℕ) → Type 0
-OutputsOf requests.Table source_line table output notes =
-    (output ≡ table) × (notes ≡ source_line)
-OutputsOf requests.Strip source_line table output notes =
-    IsStripped table output × (notes ≡ source_line)
-OutputsOf (requests.List texts) source_line table output notes =
+-- the digits write a value of the one type that the text gives, and the output is its JSON text
+-- and a line feed
+pub record IsValueOutput (table text digits output : List ℕ) : Type 0 where
+  pub registry : PortableRegistry
+  pub encodes : EncodesTypes registry.types table
+  pub id : ℕ
+  pub named : AreNamed registry.types text (id ∷ [])
+  pub line : IsValueLine registry id digits output
+
+-- the JSON text gives a value of the one type that the text gives, and the output is a line of the
+-- hexadecimal digits of its encoding
+pub record IsEncodeOutput (table text json output : List ℕ) : Type 0 where
+  pub registry : PortableRegistry
+  pub encodes : EncodesTypes registry.types table
+  pub id : ℕ
+  pub named : AreNamed registry.types text (id ∷ [])
+  pub line : IsEncodedLine registry id json output
+
+-- for the table the command has this output and these notes
+abbrev pub OutputsOf : Command → (table output notes : List ℕ) → Type 0
+OutputsOf commands.Table table output notes = (output ≡ table) × (notes ≡ [])
+OutputsOf commands.Strip table output notes = IsStripped table output × (notes ≡ [])
+OutputsOf (commands.List texts) table output notes =
     IsListing table texts.now output × (notes ≡ [])
-OutputsOf (requests.Find pattern) source_line table output notes =
+OutputsOf (commands.Find pattern) table output notes =
     IsFinding table pattern.now output × (notes ≡ [])
-OutputsOf (requests.Prune texts) source_line table output notes =
-    IsPruning table texts.now output notes
-OutputsOf (requests.Convert conversion text value) source_line table output notes =
-    IsConverted conversion table text.now value.now output × (notes ≡ [])
+OutputsOf (commands.Prune texts) table output notes = IsPruning table texts.now output notes
+OutputsOf (commands.Value text digits) table output notes =
+    IsValueOutput table text.now digits.now output × (notes ≡ [])
+OutputsOf (commands.Encode text json) table output notes =
+    IsEncodeOutput table text.now json.now output × (notes ≡ [])
 
--- the bytes have a table, for which the request has this output and these notes
-pub record MakesOf (request : Request) (is_hexadecimal : Bool) (bytes output notes : List ℕ)
-    : Type 0 where
-  pub source : Source
+-- for the whole input the command has this output and these notes
+pub record HasOutput (command : Command) (input output notes : List ℕ) : Type 0 where
   pub table : List ℕ
-  pub found : IsTableOf bytes source table
-  pub outputs : OutputsOf request (source_line source is_hexadecimal) table output notes
+  pub has_table : HasTable input table
+  pub outputs : OutputsOf command table output notes
 
--- for the whole input the request has this output and these notes
-abbrev pub HasOutput : Request → (input output notes : List ℕ) → Type 0
-HasOutput request input output notes =
-    MakesOf request (is_hexadecimal input) (input_bytes input) output notes
-
--- known bytes grow by the request's output for the input, which has these notes
-pub record Writes (request : Request) (old new : Option (List ℕ)) (notes input : List ℕ)
+-- known bytes grow by the command's output for the input, which has these notes
+pub record Writes (command : Command) (old new : Option (List ℕ)) (notes input : List ℕ)
     : Type 0 where
   pub output : List ℕ
-  pub has_output : HasOutput request input output notes
+  pub has_output : HasOutput command input output notes
   pub appends : Appends old new output
 
--- known bytes grow by the request's output for the whole input, which has these notes
-pub record WritesWhole (request : Request) (input old new : Option (List ℕ)) (notes : List ℕ)
-    : Type 0 where
-  pub whole : List ℕ
-  pub is_whole : IfSome input (λ bytes. whole ≡ bytes)
-  pub writes : Writes request old new notes whole
-
--- the request has an output for the input, and known bytes grow by a prefix of it
-pub record WritesPrefix (request : Request) (old new : Option (List ℕ)) (input : List ℕ)
+-- the command has an output for the input, and known bytes grow by a prefix of it
+pub record WritesPrefix (command : Command) (old new : Option (List ℕ)) (input : List ℕ)
     : Type 0 where
   pub output : List ℕ
   pub notes : List ℕ
-  pub has_output : HasOutput request input output notes
+  pub has_output : HasOutput command input output notes
   pub appends : AppendsPrefix old new output
-
--- the bytes of an output that is lent or was made
-abbrev pub bytes_of : OutputBytes → List ℕ
-bytes_of (output_bytes.Lent bytes) = bytes.now
-bytes_of (output_bytes.Made bytes) = bytes.items

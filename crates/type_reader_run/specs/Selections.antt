@@ -28,11 +28,18 @@ AreSelected types (text ∷ texts) ids =
 
 -- why a text gives no type
 abbrev pub IsNamingError : List PortableType → List ℕ → ReaderError → Type 0
+IsNamingError types text errors.Malformed = ⊥
+IsNamingError types text errors.TrailingBytes = ⊥
+IsNamingError types text (errors.Version version) = ⊥
 IsNamingError types text (errors.NoSuchType id) =
     IsIdText text × (id ≡ id_in text) × (length types ≤ id)
 IsNamingError types text (errors.NoSuchPath path) = (path ≡ text) × AreWithPath types text []
+IsNamingError types text (errors.SharedPath path) = ⊥
+IsNamingError types text (errors.NoValue fault) = ⊥
+IsNamingError types text (errors.Dangling id) = ⊥
 IsNamingError types text errors.Memory = Unit {0}
-IsNamingError types text error = ⊥
+IsNamingError types text errors.Input = ⊥
+IsNamingError types text errors.Output = ⊥
 
 -- the text gives several types
 pub record AreSeveral (types : List PortableType) (text : List ℕ) : Type 0 where
@@ -48,19 +55,26 @@ IsChoiceError types text error = IsNamingError types text error
 -- the first of the texts that gives no type does so for this error
 pub record HasFirstError (types : List PortableType) (texts : List (List ℕ)) (error : ReaderError)
     : Type 0 where
-  pub before : List (List ℕ)
+  pub front : List (List ℕ)
   pub text : List ℕ
-  pub after : List (List ℕ)
-  pub parts : texts ≡ before ++ text ∷ after
+  pub back : List (List ℕ)
+  pub parts : texts ≡ front ++ text ∷ back
   pub ids : List ℕ
-  pub selected : AreSelected types before ids
+  pub selected : AreSelected types front ids
   pub cause : IsNamingError types text error
 
 -- why texts give no types
 abbrev pub IsSelectionError : List PortableType → List (List ℕ) → ReaderError → Type 0
+IsSelectionError types texts errors.Malformed = ⊥
+IsSelectionError types texts errors.TrailingBytes = ⊥
+IsSelectionError types texts (errors.Version version) = ⊥
 IsSelectionError types texts (errors.NoSuchType id) =
     HasFirstError types texts (errors.NoSuchType id)
 IsSelectionError types texts (errors.NoSuchPath path) =
     HasFirstError types texts (errors.NoSuchPath path)
+IsSelectionError types texts (errors.SharedPath path) = ⊥
+IsSelectionError types texts (errors.NoValue fault) = ⊥
+IsSelectionError types texts (errors.Dangling id) = ⊥
 IsSelectionError types texts errors.Memory = Unit {0}
-IsSelectionError types texts error = ⊥
+IsSelectionError types texts errors.Input = ⊥
+IsSelectionError types texts errors.Output = ⊥

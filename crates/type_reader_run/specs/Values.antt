@@ -9,8 +9,8 @@ use Rattle.scale_info_value.specs.Outcomes.{malformed}
 use Rattle.scale_info_value.specs.Readings.{reading}
 use Rattle.scale_info_value.specs.declared.value.Dyn.{Dyn}
 use Rattle.scale_info_value_text.specs.ValueTexts.{HasBytesLeft, IsTextOf}
-use Rattle.type_reader_io.specs.declared.error.LineError.{LineError}
-use Rattle.type_reader_io.specs.declared.error.LineError.TheVariants as errors
+use Rattle.type_reader_io.specs.declared.error.ReaderError.{ReaderError}
+use Rattle.type_reader_io.specs.declared.error.ReaderError.TheVariants as errors
 use Rattle.type_reader_io.specs.declared.error.ValueFault.{ValueFault}
 use Rattle.type_reader_io.specs.declared.error.ValueFault.TheVariants as faults
 
@@ -39,23 +39,23 @@ IsReadingFault outcome faults.TrailingBytes = HasBytesLeft outcome
 IsReadingFault outcome faults.Mismatch = ⊥
 
 -- the same of an error; an allocation may fail
-abbrev pub IsReadingError : Outcome Dyn → LineError → Type 0
-IsReadingError outcome (errors.Fault fault) = IsReadingFault outcome fault
-IsReadingError outcome errors.Memory = Unit {0}
+abbrev pub IsReadingError : Outcome Dyn → ReaderError → Type 0
+IsReadingError outcome (errors.NoValue fault) = IsReadingFault outcome fault
+IsReadingError outcome error = error ≡ errors.Memory
 
--- the digits write bytes that are not one value of the type, for this reason
-pub record HasReadingFault (table : PortableRegistry) (id : ℕ) (digits : List ℕ)
-    (fault : ValueFault) : Type 0 where
+-- the digits write bytes that are not one value of the type, for this error
+pub record HasReadingError (table : PortableRegistry) (id : ℕ) (digits : List ℕ)
+    (error : ReaderError) : Type 0 where
   pub bytes : List ℕ
   pub written_by : bytes_by_digits digits ≡ Some bytes
-  pub cause : IsReadingFault (reading table id 1 bytes) fault
+  pub cause : IsReadingError (reading table id 1 bytes) error
 
 -- the text is no even number of digits
-abbrev pub IsNoDigits : List ℕ → ValueFault → Type 0
-IsNoDigits digits fault = (fault ≡ faults.NoDigits) × (bytes_by_digits digits ≡ None)
+abbrev pub IsNoDigits : List ℕ → ReaderError → Type 0
+IsNoDigits digits error =
+    (error ≡ errors.NoValue faults.NoDigits) × (bytes_by_digits digits ≡ None)
 
 -- why there is no line for the digits; an allocation may fail
-abbrev pub IsValueError : PortableRegistry → ℕ → List ℕ → LineError → Type 0
-IsValueError table id digits (errors.Fault fault) =
-    IsNoDigits digits fault ⊎ HasReadingFault table id digits fault
-IsValueError table id digits errors.Memory = Unit {0}
+abbrev pub IsValueError : PortableRegistry → ℕ → List ℕ → ReaderError → Type 0
+IsValueError table id digits error =
+    (error ≡ errors.Memory) ⊎ (IsNoDigits digits error ⊎ HasReadingError table id digits error)

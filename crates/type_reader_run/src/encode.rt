@@ -1,15 +1,17 @@
 //! Values from JSON text, as lines of hexadecimal digits.
-ghost use Rattle.std.specs.Prelude.{◌≡◌, ◌++◌, IfOk, IfErr, codes};
+ghost use Rattle.std.specs.Prelude.{◌≡◌, ◌++◌, IfOk, IfErr, Some, codes};
 ghost use Rattle.hex.specs.Hex.{encode_lower};
+ghost use Rattle.serde_json.specs.Read.{read as read_text};
 ghost use Rattle.serde_json.specs.View.{view};
 ghost use Rattle.scale_info_encode.specs.Writers.{written};
 ghost use Rattle.scale_info_encode.specs.Writings.{writing};
 ghost use Rattle.scale_info_value.specs.declared.value.Dyn.{Dyn as DynValue};
 ghost use Rattle.scale_info_value_json.specs.Takers.{IsErrorOf, Taken};
-ghost use Rattle.type_reader_io.specs.declared.error.LineError.TheVariants as line_error;
-ghost use Rattle.type_reader_run.specs.Encodings.{IsEncodedLine, IsEncodingError, IsJsonOf};
+ghost use Rattle.type_reader_io.specs.declared.error.ReaderError.TheVariants as reader_error;
+ghost use Rattle.type_reader_run.specs.Encodings.{IsEncodedLine, IsEncodingError};
 ghost use Rattle.type_reader_run.specs.Encodings.{IsTakingError, IsTreeError};
 
+use scale_info_collections::text::Text;
 use scale_info_encode::encode::encode_value;
 use scale_info_tables::portable::PortableRegistry;
 use scale_info_value::value::Dyn;
@@ -17,39 +19,35 @@ use scale_info_value_json::error::ValueJsonError;
 use scale_info_value_json::take::from_json;
 use serde_json::Value;
 use std::alloc::{AllocError, Global};
-use std::str;
-use type_reader_io::error::{LineError, ValueFault};
+use type_reader_io::error::{ReaderError, ValueFault};
 
 /// The tree of a JSON text.
 ///
-/// Errors: `Fault(NoJson)`, where the bytes are no JSON; `Memory`, if an allocation failed.
-fn tree_of(alloc: Global, json: &[u8]) -> Result<Value, LineError>
-    ensures ok { IfOk result (λ tree. IsJsonOf (view tree) json.now) }
+/// Errors: `NoValue(NoJson)`, where the text is no JSON; `Memory`, if an allocation failed.
+fn tree_of(alloc: Global, json: &str) -> Result<Value, ReaderError>
+    ensures ok { IfOk result (λ tree. read_text json.now ≡ Some (view tree)) }
     ensures err { IfErr result (IsTreeError json.now) }
 {
-    let Ok(text) = str::from_utf8(json) else {
-        return Err(LineError::Fault(ValueFault::NoJson));
-    };
-    match Value::from_str(alloc, text) {
+    match Value::from_str(alloc, json) {
         Ok(tree) => Ok(tree),
-        Err(error) if error.is_memory() => Err(LineError::Memory),
-        Err(_) => Err(LineError::Fault(ValueFault::NoJson)),
+        Err(error) if error.is_memory() => Err(ReaderError::Memory),
+        Err(_) => Err(ReaderError::NoValue(ValueFault::NoJson)),
     }
 }
 
-/// The error of a line for one of taking a value from a tree.
-fn error_of(error: ValueJsonError) -> LineError
+/// The program's error for one of taking a value from a tree.
+fn error_of(error: ValueJsonError) -> ReaderError
     ensures { (outcome : Taken DynValue) → IsErrorOf outcome error
         → IsTakingError outcome result }
 {
     let fault = match error {
-        ValueJsonError::Memory => return LineError::Memory,
+        ValueJsonError::Memory => return ReaderError::Memory,
         ValueJsonError::NoSuchType => ValueFault::NoSuchType,
         ValueJsonError::Unsupported => ValueFault::Unsupported,
         ValueJsonError::TooDeep => ValueFault::TooDeep,
         ValueJsonError::Mismatch => ValueFault::Mismatch,
     };
-    LineError::Fault(fault)
+    ReaderError::NoValue(fault)
 }
 
 /// The encoding of a value that was taken from a tree.
@@ -61,14 +59,14 @@ fn encoding_of(
     table: &PortableRegistry,
     id: u32,
     value: &Dyn,
-) -> Result<Vec<u8>, LineError>
+) -> Result<Vec<u8>, ReaderError>
     ensures ok { IfOk result (λ bytes. writing table.now id 1 value.now ≡ written bytes.items) }
-    ensures err { IfErr result (λ e. e ≡ line_error.Memory) }
+    ensures err { IfErr result (λ e. e ≡ reader_error.Memory) }
 {
     let mut bytes = Vec::new(alloc);
     match encode_value(table, id, value, &mut bytes) {
         Ok(()) => Ok(bytes),
-        Err(_) => Err(LineError::Memory),
+        Err(_) => Err(ReaderError::Memory),
     }
 }
 
@@ -87,18 +85,18 @@ fn digits_line(alloc: Global, bytes: &[u8]) -> Result<Vec<u8>, AllocError>
 /// The encoding of the value of this type that the JSON text gives, as a line of hexadecimal
 /// digits.
 ///
-/// Errors: `Fault`, where the text is no JSON, or gives no value of the type; `Memory`, if an
+/// Errors: `NoValue`, where the text is no JSON, or gives no value of the type; `Memory`, if an
 /// allocation failed.
 pub fn encoded_line(
     alloc: Global,
     table: &PortableRegistry,
     id: u32,
-    json: &[u8],
-) -> Result<Vec<u8>, LineError>
+    json: &Text,
+) -> Result<Vec<u8>, ReaderError>
     ensures ok { IfOk result (λ line. IsEncodedLine table.now id json.now line.items) }
     ensures err { IfErr result (IsEncodingError table.now id json.now) }
 {
-    let tree = tree_of(alloc, json)?;
+    let tree = tree_of(alloc, json.as_str())?;
     match from_json(alloc, table, id, &tree) {
         Ok(value) => {
             let bytes = encoding_of(alloc, table, id, &value)?;

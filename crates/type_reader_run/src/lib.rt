@@ -1,23 +1,18 @@
-//! The program `type_reader` over any readers and any writers.
+//! The program `type_reader` over any reader and any writers.
 #![tactic(auto)]
 
-mod convert;
 mod encode;
-mod lines;
 mod listing;
 mod output;
 mod program;
 mod pruning;
 mod selection;
-mod source;
 mod strip;
 mod table;
 mod value;
-mod writing;
 
-pub use output::{Output, OutputBytes, output_of};
+pub use output::{Output, output_of};
 pub use program::{run, run_with};
-pub use table::{Input, input_of};
 pub use type_reader_io::error::ReaderError;
 pub use type_reader_io::message::Message;
 pub use type_reader_io::reporter::{Kept, Reporter};

@@ -1,85 +1,55 @@
-//! What is written of a table.
+//! What a command writes for its input.
 ghost use Rattle.std.specs.Prelude.{◌≡◌, [], IfOk, IfErr};
-ghost use Rattle.type_reader_io.specs.declared.error.ReaderError.TheVariants as reader_error;
 ghost use Rattle.type_reader_run.specs.Listings.{AreListed};
-ghost use Rattle.type_reader_run.specs.Outputs.{IsFinding, IsListing, IsPruning, MakesOf};
-ghost use Rattle.type_reader_run.specs.Outputs.{OutputsOf, bytes_of};
-ghost use Rattle.type_reader_run.specs.Refusals.{HasSelectionError, IsMakingError, IsOutputError};
-ghost use Rattle.type_reader_run.specs.Refusals.{IsPruningError};
+ghost use Rattle.type_reader_run.specs.Outputs.{HasOutput, IsFinding, IsListing, IsPruning};
+ghost use Rattle.type_reader_run.specs.Outputs.{IsEncodeOutput, IsValueOutput, OutputsOf};
+ghost use Rattle.type_reader_run.specs.Refusals.{HasSelectionError, IsCommandError, IsOutputError};
+ghost use Rattle.type_reader_run.specs.Refusals.{HasEncodingError, HasValueError, IsPruningError};
 ghost use Rattle.type_reader_run.specs.Selections.{IsSelectionError};
-ghost use Rattle.type_reader_run.specs.Tables.{IsOneTable, source_line};
+ghost use Rattle.type_reader_run.specs.Tables.{IsOneTable};
+ghost use Rattle.type_reader_io.specs.declared.error.ReaderError.TheVariants as reader_error;
 
-use crate::convert::converted;
+use crate::encode::encoded_line;
 use crate::listing::{all_ids, list_of, titles_of};
 use crate::pruning::pruned;
-use crate::selection::selected;
-use crate::source::source_line;
+use crate::selection::{one_named, selected};
 use crate::strip::stripped;
-use crate::table::{Input, find_table, registry_of};
+use crate::table::{bytes_behind, find_table, registry_of};
+use crate::value::value_line;
 use scale_info_collections::text::Text;
 use scale_info_describe::search::find_containing;
-use scale_info_metadata::metadata::Source;
 use scale_info_tables::portable::PortableRegistry;
 use std::alloc::{AllocError, Global};
-use type_reader_io::command::Request;
+use type_reader_io::command::Command;
 use type_reader_io::error::ReaderError;
 
-/// The bytes of an output.
+/// What a command writes.
 #[derive(Drop)]
-pub enum OutputBytes<'a> {
-    /// They stand in the input.
-    Lent(&'a [u8]),
-    /// They were made.
-    Made(Vec<u8>),
-}
-
-impl OutputBytes<'_> {
-    /// The bytes.
-    pub fn as_slice(&self) -> &[u8]
-        ensures { result.now ≡ bytes_of self.now }
-    {
-        match self {
-            OutputBytes::Lent(bytes) => bytes,
-            OutputBytes::Made(bytes) => bytes,
-        }
-    }
-}
-
-/// What is written of a table.
-#[derive(Drop)]
-pub struct Output<'a> {
+pub struct Output {
     /// The bytes of the output.
-    pub bytes: OutputBytes<'a>,
+    pub bytes: Vec<u8>,
     /// Lines about it, each with a line feed.
     pub notes: Vec<u8>,
 }
 
-/// An output of these bytes, which were made, and of which there is nothing to note.
-fn without_notes(alloc: Global, bytes: Vec<u8>) -> Output<'static>
-    ensures bytes { bytes_of result.bytes ≡ bytes.items }
+/// An output of these bytes, of which there is nothing to note.
+fn without_notes(alloc: Global, bytes: Vec<u8>) -> Output
+    ensures bytes { result.bytes ≡ bytes }
     ensures notes { result.notes.items ≡ [] }
 {
     Output {
-        bytes: OutputBytes::Made(bytes),
+        bytes,
         notes: Vec::new(alloc),
     }
 }
 
-/// An output of these bytes, of which it is noted what the input is.
-fn with_source(
-    alloc: Global,
-    bytes: OutputBytes<'_>,
-    source: Source,
-    is_hexadecimal: bool,
-) -> Result<Output<'_>, AllocError>
-    ensures bytes { IfOk result (λ output. bytes_of output.bytes ≡ bytes_of bytes.entry) }
-    ensures notes { IfOk result
-        (λ output. output.notes.items ≡ source_line source is_hexadecimal) }
+/// A copy of bytes.
+fn copy_of(alloc: Global, bytes: &[u8]) -> Result<Vec<u8>, AllocError>
+    ensures { IfOk result (λ copy. copy.items ≡ bytes.now) }
 {
-    Ok(Output {
-        bytes,
-        notes: source_line(alloc, source, is_hexadecimal)?,
-    })
+    let mut copy = Vec::with_capacity(alloc, bytes.len())?;
+    copy.extend_from_slice(bytes)?;
+    Ok(copy)
 }
 
 /// The ids of the types that are listed for these texts: those that they give, and all, where there
@@ -127,10 +97,10 @@ fn found(alloc: Global, table: &[u8], pattern: &Text) -> Result<Vec<u8>, ReaderE
 /// The table of what the types reach that the texts give.
 ///
 /// Errors: as [`selected`] and [`pruned`].
-fn pruned_to(alloc: Global, table: &[u8], texts: &[Text]) -> Result<Output<'static>, ReaderError>
+fn pruned_to(alloc: Global, table: &[u8], texts: &[Text]) -> Result<Output, ReaderError>
     requires { IsOneTable table.now }
     ensures ok { IfOk result
-        (λ output. IsPruning table.now texts.now (bytes_of output.bytes) output.notes.items) }
+        (λ output. IsPruning table.now texts.now output.bytes.items output.notes.items) }
     ensures err { IfErr result (IsPruningError table.now texts.now) }
 {
     let registry = registry_of(alloc, table)?;
@@ -138,41 +108,60 @@ fn pruned_to(alloc: Global, table: &[u8], texts: &[Text]) -> Result<Output<'stat
     pruned(alloc, table, &ids)
 }
 
-/// The output of a request for a table, which was found in such an input.
-fn output_for<'a>(
-    alloc: Global,
-    request: &Request,
-    source: Source,
-    is_hexadecimal: bool,
-    table: &'a [u8],
-) -> Result<Output<'a>, ReaderError>
+/// The JSON text of the value of the one type that the text gives, and a line feed.
+///
+/// Errors: as [`one_named`] and [`value_line`].
+fn value_of(alloc: Global, table: &[u8], text: &Text, digits: &Text) -> Result<Vec<u8>, ReaderError>
     requires { IsOneTable table.now }
-    ensures ok { IfOk result (λ output. OutputsOf request.now (source_line source is_hexadecimal)
-        table.now (bytes_of output.bytes) output.notes.items) }
-    ensures err { IfErr result (IsOutputError request.now table.now) }
+    ensures ok { IfOk result (λ line. IsValueOutput table.now text.now digits.now line.items) }
+    ensures err { IfErr result (HasValueError table.now text.now digits.now) }
 {
-    let bytes = match request {
-        Request::Table => {
-            let bytes = OutputBytes::Lent(table);
-            return Ok(with_source(alloc, bytes, source, is_hexadecimal)?);
-        }
-        Request::Strip => {
-            let bytes = OutputBytes::Made(stripped(alloc, table)?);
-            return Ok(with_source(alloc, bytes, source, is_hexadecimal)?);
-        }
-        Request::Prune(texts) => return pruned_to(alloc, table, texts),
-        Request::List(texts) => listed(alloc, table, texts)?,
-        Request::Find(pattern) => found(alloc, table, pattern)?,
-        Request::Convert(conversion, text, value) => {
-            converted(alloc, *conversion, table, text, value)?
-        }
+    let registry = registry_of(alloc, table)?;
+    let id = one_named(alloc, &registry, text)?;
+    value_line(alloc, &registry, id, digits)
+}
+
+/// The encoding of the value of the one type that the text gives, as a line of hexadecimal digits.
+///
+/// Errors: as [`one_named`] and [`encoded_line`].
+fn encoding_of(
+    alloc: Global,
+    table: &[u8],
+    text: &Text,
+    json: &Text,
+) -> Result<Vec<u8>, ReaderError>
+    requires { IsOneTable table.now }
+    ensures ok { IfOk result (λ line. IsEncodeOutput table.now text.now json.now line.items) }
+    ensures err { IfErr result (HasEncodingError table.now text.now json.now) }
+{
+    let registry = registry_of(alloc, table)?;
+    let id = one_named(alloc, &registry, text)?;
+    encoded_line(alloc, &registry, id, json)
+}
+
+/// The output of a command for a table.
+fn output_for(alloc: Global, command: &Command, table: &[u8]) -> Result<Output, ReaderError>
+    requires { IsOneTable table.now }
+    ensures ok { IfOk result (λ output. OutputsOf command.now table.now output.bytes.items
+        output.notes.items) }
+    ensures err { IfErr result (IsOutputError command.now table.now) }
+{
+    let bytes = match command {
+        Command::Table => copy_of(alloc, table)?,
+        Command::Strip => stripped(alloc, table)?,
+        Command::List(texts) => listed(alloc, table, texts)?,
+        Command::Find(pattern) => found(alloc, table, pattern)?,
+        Command::Value(text, digits) => value_of(alloc, table, text, digits)?,
+        Command::Encode(text, json) => encoding_of(alloc, table, text, json)?,
+        Command::Prune(texts) => return pruned_to(alloc, table, texts),
     };
     Ok(without_notes(alloc, bytes))
 }
 
-/// The whole output of a request for an input.
+/// The whole output of a command for its whole input.
 ///
-/// The input is a table and nothing else, or a node's metadata.
+/// The input is a table and nothing else, or a node's metadata, or such bytes in hexadecimal
+/// digits.
 ///
 /// Errors: `Malformed`, where there is no table in the input; `TrailingBytes`, where it is no
 /// metadata and more comes after its table; `Version`, where it is metadata of a version that is
@@ -180,15 +169,12 @@ fn output_for<'a>(
 /// where a given type reaches an id that is no index; `SharedPath`, where one type is to be given,
 /// and several have its path; `NoValue`, where a text gives no value; `Memory`, if an allocation
 /// failed.
-pub fn output_of<'a>(
-    alloc: Global,
-    request: &Request,
-    input: &'a Input,
-) -> Result<Output<'a>, ReaderError>
-    ensures ok { IfOk result (λ output. MakesOf request.now input.now.is_hexadecimal
-        input.now.bytes.items (bytes_of output.bytes) output.notes.items) }
-    ensures err { IfErr result (IsMakingError request.now input.now.bytes.items) }
+pub fn output_of(alloc: Global, command: &Command, input: Vec<u8>) -> Result<Output, ReaderError>
+    ensures ok { IfOk result (λ output. HasOutput command.now input.items output.bytes.items
+        output.notes.items) }
+    ensures err { IfErr result (IsCommandError command.now input.items) }
 {
-    let (source, table) = find_table(&input.bytes)?;
-    output_for(alloc, request, source, input.is_hexadecimal, table)
+    let bytes = bytes_behind(alloc, input)?;
+    let (_, table) = find_table(&bytes)?;
+    output_for(alloc, command, table)
 }

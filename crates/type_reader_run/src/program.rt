@@ -1,39 +1,28 @@
-//! The program over any readers and any writers.
-ghost use Rattle.std.specs.Prelude.{◌≡◌, ◌≢◌, ◌≤◌, ◌⊎◌, IfSome, IfOk, IfErr, OnOk, Some, []};
-ghost use Rattle.std.specs.Prelude.{true};
-ghost use Rattle.std.specs.Io.KnownBytes.{IsAtEnd, Keeps};
+//! The program over any reader and any writers.
+ghost use Rattle.std.specs.Prelude.{◌≡◌, ◌≢◌, ◌≤◌, IfSome, IfOk, IfErr, OnOk};
+ghost use Rattle.std.specs.Io.KnownBytes.{Appends, IsAtEnd};
 ghost use Rattle.type_reader_io.specs.Commands.{HasCommand, IsCommand};
-ghost use Rattle.type_reader_io.specs.Inputs.{IsReadError};
-ghost use Rattle.type_reader_io.specs.Lines.{HasSmallNumber, line_of, usage_line};
-ghost use Rattle.type_reader_io.specs.declared.error.ReaderError.{ReaderError as ReaderErrorValue};
+ghost use Rattle.type_reader_io.specs.Lines.{usage_line};
 ghost use Rattle.type_reader_io.specs.declared.error.ReaderError.TheVariants as reader_error;
-ghost use Rattle.type_reader_run.specs.Conversions.{HasType, IsTypeError};
-ghost use Rattle.type_reader_run.specs.Outputs.{WritesWhole};
-ghost use Rattle.type_reader_run.specs.Refusals.{Explains};
-ghost use Rattle.type_reader_io.specs.Reports.{ReportsEach};
-ghost use Rattle.type_reader_run.specs.Runs.{ConvertsAll, Does, DoesOnce, EndsSecond};
-ghost use Rattle.type_reader_run.specs.Runs.{IsSo, KeepsSecond, Refuses, RefusesLines};
-ghost use Rattle.type_reader_run.specs.Runs.{RefusesOnce};
-ghost use Rattle.type_reader_run.specs.Tables.{input_bytes};
-ghost use Rattle.type_table_io.specs.Reports.{AppendsPrefix, Reported};
+ghost use Rattle.type_reader_run.specs.Outputs.{Writes};
+ghost use Rattle.type_reader_run.specs.Refusals.{Explains, IsReadError};
+ghost use Rattle.type_reader_run.specs.Reports.{Does, RefusesBy, ReportsNotes};
+ghost use Rattle.type_table_io.specs.Reports.{AppendsPrefix};
 
-use crate::convert::Converter;
-use crate::lines::convert_lines;
 use crate::output::output_of;
-use crate::table::{Input, find_table, input_of};
-use crate::writing::write_output;
 use scale_info_collections::text::Text;
 use std::alloc::Global;
-use std::io::{BufRead, Read, Write};
-use type_reader_io::command::{Command, Conversion, Request, command_of};
+use std::io::{Read, Write};
+use type_reader_io::command::{Command, command_of};
 use type_reader_io::error::ReaderError;
 use type_reader_io::message::Message;
 use type_reader_io::report::ErrorWriter;
 use type_reader_io::reporter::Reporter;
 use type_table_io::error::RunError;
 use type_table_io::reading::read_to_end;
+use type_table_io::writing::write_all;
 
-/// Reads an input to its end.
+/// Reads the input to its end.
 ///
 /// Errors: `Memory`, if an allocation failed; `Input`, if a read fails.
 fn read_input<R: Read>(alloc: Global, reader: &mut R) -> Result<Vec<u8>, ReaderError>
@@ -49,147 +38,54 @@ fn read_input<R: Read>(alloc: Global, reader: &mut R) -> Result<Vec<u8>, ReaderE
     }
 }
 
-/// Reads the input whole, writes what the request writes for it, and returns the notes.
+/// Writes the output whole.
+///
+/// Errors: `Output`, if a write or a flush fails; then a prefix was written.
+fn write_output<W: Write>(output: &mut W, bytes: &[u8]) -> Result<(), ReaderError>
+    ensures ok { OnOk result (Appends (W.contents output.old) (W.contents output.new) bytes.now) }
+    ensures prefix { AppendsPrefix (W.contents output.old) (W.contents output.new) bytes.now }
+    ensures err { IfErr result (λ e. e ≡ reader_error.Output) }
+{
+    if write_all(output, bytes).is_err() {
+        return Err(ReaderError::Output);
+    }
+    match output.flush() {
+        Ok(()) => Ok(()),
+        Err(_) => Err(ReaderError::Output),
+    }
+}
+
+/// Reads the input whole, writes what the command writes for it, and returns the notes.
 ///
 /// The output is made whole before anything of it is written.
 fn perform<R: Read, W: Write>(
     alloc: Global,
-    request: &Request,
+    command: &Command,
     reader: &mut R,
     output: &mut W,
 ) -> Result<Vec<u8>, ReaderError>
-    ensures ok { IfOk result (λ notes. WritesWhole request.now (R.remaining reader.old)
-        (W.contents output.old) (W.contents output.new) notes.items) }
+    ensures ok { IfOk result (λ notes. IfSome (R.remaining reader.old)
+        (Writes command.now (W.contents output.old) (W.contents output.new) notes.items)) }
     ensures end { OnOk result (IsAtEnd (R.remaining reader.new)) }
-    ensures err { IfErr result (Explains request.now (R.remaining reader.old)
+    ensures err { IfErr result (Explains command.now (R.remaining reader.old)
         (W.contents output.old) (W.contents output.new)) }
 {
-    let input = input_of(alloc, read_input(alloc, reader)?)?;
-    let made = output_of(alloc, request, &input)?;
-    write_output(output, made.bytes.as_slice())?;
+    let input = read_input(alloc, reader)?;
+    let made = output_of(alloc, command, input)?;
+    write_output(output, &made.bytes)?;
     Ok(made.notes)
 }
 
-/// Does what a request asks, and returns the status.
-fn run_once<R: Read, W: Write, T: Reporter>(
-    alloc: Global,
-    request: &Request,
-    reader: &mut R,
-    output: &mut W,
-    reporter: &mut T,
-) -> u8
-    ensures status { result ≤ 1 }
-    ensures read { result ≡ 0 → IsAtEnd (R.remaining reader.new) }
-    ensures done { result ≡ 0 → DoesOnce request.now (R.remaining reader.old)
-        (W.contents output.old) (W.contents output.new)
-        (ReportsEach T.reported reporter.old reporter.new) }
-    ensures refused { result ≡ 1 → RefusesOnce request.now (R.remaining reader.old)
-        (W.contents output.old) (W.contents output.new)
-        (ReportsEach T.reported reporter.old reporter.new) }
-{
-    match perform(alloc, request, reader, output) {
-        Ok(notes) => {
-            if !notes.is_empty() {
-                reporter.report(Message::Notes(notes));
-            }
-            0
-        }
-        Err(error) => {
-            reporter.report(Message::Refused(error));
-            1
-        }
-    }
-}
-
-/// What converts values of the type that the text gives of the table of an input.
-///
-/// Errors: there is no table, or not one such type; `Memory`, if an allocation failed.
-fn converter_in(
-    alloc: Global,
-    conversion: Conversion,
-    text: &Text,
-    input: &Input,
-) -> Result<Converter, ReaderError>
-    ensures ok { IfOk result (λ converter.
-        HasType input.now.bytes.items text.now converter.registry converter.id) }
-    ensures way { IfOk result (λ converter. converter.conversion ≡ conversion) }
-    ensures err { IfErr result (IsTypeError input.now.bytes.items text.now) }
-{
-    let (_, table) = find_table(&input.bytes)?;
-    Converter::new(alloc, conversion, table, text)
-}
-
-/// Reads the input whole; returns what converts values of the type that the text gives of its
-/// table.
-///
-/// Errors: as [`converter_in`]; `Input`, if a read fails.
-fn read_converter<R: Read>(
-    alloc: Global,
-    conversion: Conversion,
-    text: &Text,
-    reader: &mut R,
-) -> Result<Converter, ReaderError>
-    ensures ok { IfOk result (λ converter. IfSome (R.remaining reader.old) (λ bytes.
-        HasType (input_bytes bytes) text.now converter.registry converter.id)) }
-    ensures way { IfOk result (λ converter. converter.conversion ≡ conversion) }
-    ensures end { OnOk result (IsAtEnd (R.remaining reader.new)) }
-    ensures err { IfErr result (λ e. (e ≡ reader_error.Input)
-        ⊎ IfSome (R.remaining reader.old) (λ bytes. IsTypeError (input_bytes bytes) text.now e)) }
-{
-    let input = input_of(alloc, read_input(alloc, reader)?)?;
-    converter_in(alloc, conversion, text, &input)
-}
-
-/// Converts the lines of the second input, which are values of the type that the text gives of the
-/// table of the first, and returns the status.
-fn run_lines<R: Read, S: BufRead, W: Write, T: Reporter>(
-    alloc: Global,
-    conversion: Conversion,
-    text: &Text,
-    reader: &mut R,
-    second: &mut S,
-    output: &mut W,
-    reporter: &mut T,
-) -> u8
-    ensures status { result ≤ 1 }
-    ensures read { result ≡ 0 → IsAtEnd (R.remaining reader.new) }
-    ensures end { result ≡ 0
-        → IfSome (S.remaining second.old) (λ bytes. S.remaining second.new ≡ Some []) }
-    ensures done { result ≡ 0 → ConvertsAll conversion text.now (R.remaining reader.old)
-        (S.remaining second.old) (W.contents output.old) (W.contents output.new)
-        (ReportsEach T.reported reporter.old reporter.new) true }
-    ensures refused { result ≡ 1 → RefusesLines conversion text.now (R.remaining reader.old)
-        (S.remaining second.old) (W.contents output.old) (W.contents output.new)
-        (ReportsEach T.reported reporter.old reporter.new) }
-{
-    let converter = match read_converter(alloc, conversion, text, reader) {
-        Ok(converter) => converter,
-        Err(error) => {
-            reporter.report(Message::Refused(error));
-            return 1;
-        }
-    };
-    match convert_lines(alloc, &converter, second, output, reporter) {
-        Ok(true) => 0,
-        Ok(false) => 1,
-        Err(error) => {
-            reporter.report(Message::Refused(error));
-            1
-        }
-    }
-}
-
-/// Runs the command that the arguments name, as [`run`], and gives its messages to any reporter in
+/// Runs the command that the arguments name, as [`run`], and gives its message to any reporter in
 /// the place of a writer for errors.
 ///
-/// The status is that of [`run`]. The reporter is given [`Message::Usage`] at status 2, and at
-/// status 0 the notes, if there are any. At status 1 it is given [`Message::BadLine`] for each bad
-/// line, and then the error, if there is one.
-pub fn run_with<R: Read, S: BufRead, W: Write, T: Reporter>(
+/// The status is that of [`run`]. The reporter is given at most one message, in one call:
+/// [`Message::Usage`] at status 2, the error at status 1, and at status 0 the notes, if there are
+/// any.
+pub fn run_with<R: Read, W: Write, T: Reporter>(
     alloc: Global,
     arguments: &[Text],
     reader: &mut R,
-    second: &mut S,
     output: &mut W,
     reporter: &mut T,
 ) -> u8
@@ -198,29 +94,21 @@ pub fn run_with<R: Read, S: BufRead, W: Write, T: Reporter>(
     // Arguments that name no command: nothing is read, and nothing is written to the output.
     ensures usage { result ≡ 2 → ¬ IsCommand arguments.now }
     ensures command { result ≢ 2 → IsCommand arguments.now }
-    ensures unread { result ≡ 2 → (reader.new ≡ reader.old) × (second.new ≡ second.old) }
+    ensures unread { result ≡ 2 → reader.new ≡ reader.old }
     ensures unwritten { result ≡ 2 → output.new ≡ output.old }
     ensures usage_reported { result ≡ 2 → T.reported reporter.old reporter.new usage_line }
 
-    // The second input is read only where the command has no last argument.
-    ensures second_unread { result ≢ 2 → HasCommand arguments.now
-        (λ command. KeepsSecond command second.old second.new) }
-
-    // A command that was done: the inputs were read to their ends, the output grew by exactly what
-    // the command writes for them, and the notes were reported.
+    // A command that was done: the output grew by exactly what the command writes for the input,
+    // and the notes on it were reported.
     ensures read { result ≡ 0 → IsAtEnd (R.remaining reader.new) }
-    ensures second_read { result ≡ 0 → HasCommand arguments.now
-        (λ command. EndsSecond command (S.remaining second.old) (S.remaining second.new)) }
     ensures done { result ≡ 0 → HasCommand arguments.now (λ command. Does command
-        (R.remaining reader.old) (S.remaining second.old)
-        (W.contents output.old) (W.contents output.new)
-        (ReportsEach T.reported reporter.old reporter.new)) }
+        (R.remaining reader.old) (W.contents output.old) (W.contents output.new)
+        (ReportsNotes T.reported reporter.old reporter.new)) }
 
-    // A command that is refused, or of which lines are bad: what was reported is so.
-    ensures refused { result ≡ 1 → HasCommand arguments.now (λ command. Refuses command
-        (R.remaining reader.old) (S.remaining second.old)
-        (W.contents output.old) (W.contents output.new)
-        (ReportsEach T.reported reporter.old reporter.new)) }
+    // A command that is refused: one error is so, and its line was reported.
+    ensures refused { result ≡ 1 → HasCommand arguments.now (λ command. RefusesBy command
+        (R.remaining reader.old) (W.contents output.old) (W.contents output.new)
+        (T.reported reporter.old reporter.new)) }
 {
     let command = match command_of(arguments) {
         Some(command) => command,
@@ -229,10 +117,17 @@ pub fn run_with<R: Read, S: BufRead, W: Write, T: Reporter>(
             return 2;
         }
     };
-    match command {
-        Command::Once(request) => run_once(alloc, &request, reader, output, reporter),
-        Command::Lines(conversion, text) => {
-            run_lines(alloc, conversion, text, reader, second, output, reporter)
+    match perform(alloc, &command, reader, output) {
+        Ok(notes) => {
+            if notes.is_empty() {
+                return 0;
+            }
+            reporter.report(Message::Notes(notes));
+            0
+        }
+        Err(error) => {
+            reporter.report(Message::Refused(error));
+            1
         }
     }
 }
@@ -244,33 +139,25 @@ pub fn run_with<R: Read, S: BufRead, W: Write, T: Reporter>(
 /// must be a table, with nothing after it, or a node's metadata, or such bytes in hexadecimal
 /// digits. The commands:
 ///
-/// - `table TABLE`: the bytes of the table are written to the output, and a line that says what the
-///   input is to `errors`.
-/// - `strip TABLE`: the table is written with all docs left out, and such a line to `errors`.
+/// - `table TABLE`: the bytes of the table are written to the output.
+/// - `strip TABLE`: the table is written with all docs left out.
 /// - `list TABLE [TYPE ..]`: the types are written as Rust declares them, each after a line with
 ///   its id and its path; all types, where none is given.
 /// - `find TABLE PATTERN`: a line with its id and its path is written for each type in whose path
 ///   the segments of the pattern, its pieces around `::`, stand in a row.
 /// - `prune TABLE TYPE ..`: the table of what the types reach is written, and a line of each old id
 ///   that is kept and its new one to `errors`.
-/// - `value TABLE TYPE [HEX]`: the JSON text of the value of the type that the hexadecimal digits
+/// - `value TABLE TYPE HEX`: the JSON text of the value of the type that the hexadecimal digits
 ///   write, and a line feed, are written.
-/// - `encode TABLE TYPE [JSON]`: the hexadecimal digits of the encoding of the value of the type
-///   that the JSON text gives, after `0x`, and a line feed, are written.
+/// - `encode TABLE TYPE JSON`: the hexadecimal digits of the encoding of the value of the type that
+///   the JSON text gives, after `0x`, and a line feed, are written.
 ///
 /// A type is given by its id, which is one ASCII digit or more, of a number up to 4294967295, or
 /// else by its path, which gives each type that has it.
 ///
-/// Where `value` or `encode` has no last argument, each line of `second` is one value, and TABLE is
-/// not `-`. A line ends with a line feed, which the last one may lack; a carriage return before a
-/// line feed is no part of the line. The output of a line is written before the next line is read.
-/// A bad line has no output, and is reported by its number, counted from 1; the lines after it are
-/// still converted. The other commands read nothing of `second`.
-///
-/// The status is 0 if that was done, and no line was bad. It is 2 if the arguments are not a
-/// command: then the usage line is written to `errors`. It is 1 if a line was bad, or an error came
-/// up: then these lines are written to `errors`, and nothing to the output but what good lines
-/// give.
+/// The status is 0 if that was done. It is 2 if the arguments are not a command: then the usage
+/// line is written to `errors`. It is 1 if an error came up: then one of these lines is written to
+/// `errors`, and nothing to the output.
 ///
 /// - `type_reader: malformed`: there is no table in the input.
 /// - `type_reader: trailing bytes`: the input is no metadata, and bytes come after its table.
@@ -281,20 +168,18 @@ pub fn run_with<R: Read, S: BufRead, W: Write, T: Reporter>(
 /// - `type_reader: no value: no hexadecimal digits`, or `no JSON`, `no such type`, `unsupported`,
 ///   `too deep`, `malformed`, `trailing bytes` or `mismatch` in their place: the last argument
 ///   gives no value of the type.
-/// - `type_reader: line N: no value: mismatch`, or one of the others: the line N is bad.
 /// - `type_reader: dangling id N`: N is reached from the given types, and is no index of the
 ///   table.
 /// - `type_reader: out of memory`: an allocation failed.
-/// - `type_reader: input failed`: a read failed, or an input did not end within 4294967296 reads.
-/// - `type_reader: output failed`: a write or a flush of the output failed. Where there is no
-///   second input, this line alone may come after a prefix of the output was written.
+/// - `type_reader: input failed`: a read failed, or the input did not end within 4294967296 reads.
+/// - `type_reader: output failed`: a write or a flush of the output failed. This line alone may
+///   come after a prefix of the output was written.
 ///
 /// Each line ends with a line feed. If it can't be written, the status is the same.
-pub fn run<R: Read, S: BufRead, W: Write, F: Write>(
+pub fn run<R: Read, W: Write, F: Write>(
     alloc: Global,
     arguments: &[Text],
     reader: &mut R,
-    second: &mut S,
     output: &mut W,
     errors: &mut F,
 ) -> u8
@@ -303,39 +188,25 @@ pub fn run<R: Read, S: BufRead, W: Write, F: Write>(
     // Arguments that name no command: nothing is read, and nothing is written but the usage line.
     ensures usage { result ≡ 2 → ¬ IsCommand arguments.now }
     ensures command { result ≢ 2 → IsCommand arguments.now }
-    ensures unread { result ≡ 2 → (reader.new ≡ reader.old) × (second.new ≡ second.old) }
+    ensures unread { result ≡ 2 → reader.new ≡ reader.old }
     ensures unwritten { result ≡ 2 → output.new ≡ output.old }
     ensures usage_reported { result ≡ 2
         → AppendsPrefix (F.contents errors.old) (F.contents errors.new) usage_line }
 
-    // The second input is read only where the command has no last argument.
-    ensures second_unread { result ≢ 2 → HasCommand arguments.now
-        (λ command. KeepsSecond command second.old second.new) }
-
-    // A command that was done: the inputs were read to their ends, the output grew by exactly what
-    // the command writes for them, and `errors` by the notes, or a prefix of them.
+    // A command that was done: the output grew by exactly what the command writes for the input,
+    // and `errors` by the notes on it, or a prefix of them.
     ensures read { result ≡ 0 → IsAtEnd (R.remaining reader.new) }
-    ensures second_read { result ≡ 0 → HasCommand arguments.now
-        (λ command. EndsSecond command (S.remaining second.old) (S.remaining second.new)) }
     ensures done { result ≡ 0 → HasCommand arguments.now (λ command. Does command
-        (R.remaining reader.old) (S.remaining second.old)
-        (W.contents output.old) (W.contents output.new)
-        (ReportsEach AppendsPrefix (F.contents errors.old) (F.contents errors.new))) }
+        (R.remaining reader.old) (W.contents output.old) (W.contents output.new)
+        (AppendsPrefix (F.contents errors.old) (F.contents errors.new))) }
 
-    // A command that is refused, or of which lines are bad: what is reported is so, and of each
-    // text a prefix was written.
-    ensures refused { result ≡ 1 → HasCommand arguments.now (λ command. Refuses command
-        (R.remaining reader.old) (S.remaining second.old)
-        (W.contents output.old) (W.contents output.new)
-        (ReportsEach AppendsPrefix (F.contents errors.old) (F.contents errors.new))) }
-    ensures explained { (error : ReaderErrorValue) → HasSmallNumber error
-        → Reported (F.contents errors.old) (F.contents errors.new) (line_of error)
-        → HasCommand arguments.now (λ command. IsSo command
-        (R.remaining reader.old) (S.remaining second.old)
-        (W.contents output.old) (W.contents output.new) error) }
+    // A command that is refused reports one error, and what it reports is so.
+    ensures refused { result ≡ 1 → HasCommand arguments.now (λ command. RefusesBy command
+        (R.remaining reader.old) (W.contents output.old) (W.contents output.new)
+        (AppendsPrefix (F.contents errors.old) (F.contents errors.new))) }
 {
     let mut reporter = ErrorWriter { errors };
-    let status = run_with(alloc, arguments, reader, second, output, &mut reporter);
+    let status = run_with(alloc, arguments, reader, output, &mut reporter);
     // No effect at run time. The proof reads what `errors` holds from this use.
     let _ = &*reporter.errors;
     status

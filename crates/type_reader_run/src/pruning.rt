@@ -3,10 +3,10 @@ ghost use Rattle.std.specs.Prelude.{◌≡◌, IfOk, IfErr, List, ℕ};
 ghost use Rattle.std.specs.List.{flat_map};
 ghost use Rattle.scale_info_describe.specs.TypeNames.{Appends};
 ghost use Rattle.scale_info_prune.specs.Prunes.{IsPruneError};
-ghost use Rattle.type_reader_run.specs.Outputs.{IsPruned, bytes_of, id_line};
+ghost use Rattle.type_reader_run.specs.Outputs.{IsPruned, id_line};
 ghost use Rattle.type_reader_run.specs.Refusals.{IsReachingError};
 
-use crate::output::{Output, OutputBytes};
+use crate::output::Output;
 use itoa::Buffer;
 use scale_info_prune::prune::{PruneError, prune};
 use scale_info_walk::walk::RetainError;
@@ -51,15 +51,15 @@ fn error_of(error: PruneError) -> ReaderError
 /// The table of what the ids reach, with a note of each old id and its new one.
 ///
 /// Errors: `Dangling`, where an id is reached that is no index; `Memory`, if an allocation failed.
-pub fn pruned(alloc: Global, table: &[u8], ids: &[u32]) -> Result<Output<'static>, ReaderError>
+pub fn pruned(alloc: Global, table: &[u8], ids: &[u32]) -> Result<Output, ReaderError>
     ensures ok { IfOk result
-        (λ output. IsPruned table.now ids.now (bytes_of output.bytes) output.notes.items) }
+        (λ output. IsPruned table.now ids.now output.bytes.items output.notes.items) }
     ensures err { IfErr result (IsReachingError table.now ids.now) }
 {
     let mut bytes = Vec::new(alloc);
     match prune(alloc, table, ids, &mut bytes) {
         Ok(new_ids) => Ok(Output {
-            bytes: OutputBytes::Made(bytes),
+            bytes,
             notes: lines_of(alloc, &new_ids)?,
         }),
         Err(error) => Err(error_of(error)),

@@ -3,8 +3,7 @@ ghost use Rattle.std.specs.Prelude.{◌≡◌, IfOk, IfErr};
 ghost use Rattle.scale_info_grammar.specs.Ty.{EncodesTypes};
 ghost use Rattle.scale_info_metadata.specs.TablesFound.{IsTableOf};
 ghost use Rattle.type_reader_io.specs.declared.error.ReaderError.TheVariants as reader_error;
-ghost use Rattle.type_reader_run.specs.Tables.{IsOneTable, IsFoundError, error_of, input_bytes};
-ghost use Rattle.type_reader_run.specs.Tables.{is_hexadecimal};
+ghost use Rattle.type_reader_run.specs.Tables.{IsOneTable, IsFoundError, bytes_behind, error_of};
 
 use scale_info_metadata::hexadecimal::bytes_of_text;
 use scale_info_metadata::metadata::{MetadataError, Source, table_of};
@@ -12,31 +11,14 @@ use scale_info_tables::portable::PortableRegistry;
 use std::alloc::{AllocError, Global};
 use type_reader_io::error::ReaderError;
 
-/// An input.
-#[derive(Drop)]
-pub struct Input {
-    /// Its bytes: those that it writes in hexadecimal digits, or its own.
-    pub bytes: Vec<u8>,
-    /// Whether it writes them in hexadecimal digits.
-    pub is_hexadecimal: bool,
-}
-
-/// The input that has these bytes of its own.
-///
-/// Errors: an allocation failed.
-pub fn input_of(alloc: Global, input: Vec<u8>) -> Result<Input, AllocError>
-    ensures bytes { IfOk result (λ found. found.bytes.items ≡ input_bytes input.items) }
-    ensures form { IfOk result (λ found. found.is_hexadecimal ≡ is_hexadecimal input.items) }
+/// The bytes that the input writes in hexadecimal digits; the input itself, where it is no such
+/// text.
+pub fn bytes_behind(alloc: Global, input: Vec<u8>) -> Result<Vec<u8>, AllocError>
+    ensures { IfOk result (λ bytes. bytes.items ≡ bytes_behind input.items) }
 {
     match bytes_of_text(alloc, &input)? {
-        Some(bytes) => Ok(Input {
-            bytes,
-            is_hexadecimal: true,
-        }),
-        None => Ok(Input {
-            bytes: input,
-            is_hexadecimal: false,
-        }),
+        Some(bytes) => Ok(bytes),
+        None => Ok(input),
     }
 }
 

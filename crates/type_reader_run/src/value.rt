@@ -8,11 +8,12 @@ ghost use Rattle.type_reader_run.specs.Values.{IsReadingError, IsValueError, IsV
 ghost use Rattle.type_reader_run.specs.Values.{bytes_by_digits};
 
 use hex::FromHexError;
+use scale_info_collections::text::Text;
 use scale_info_tables::portable::PortableRegistry;
 use scale_info_value::value::ValueError;
 use scale_info_value_text::value_text::{ValueTextError, value_json};
 use std::alloc::{AllocError, Global};
-use type_reader_io::error::{LineError, ValueFault};
+use type_reader_io::error::{ReaderError, ValueFault};
 
 /// The digits without the mark `0x` before them.
 fn without_mark(text: &[u8]) -> &[u8]
@@ -37,20 +38,20 @@ fn bytes_by_digits(alloc: Global, text: &[u8]) -> Result<Option<Vec<u8>>, AllocE
     }
 }
 
-/// The error of a line for one of the text of a value.
-fn error_of(error: ValueTextError) -> LineError
+/// The program's error for one of the text of a value.
+fn error_of(error: ValueTextError) -> ReaderError
     ensures { (outcome : Outcome DynValue) → IsTextErrorOf outcome error
         → IsReadingError outcome result }
 {
     let fault = match error {
-        ValueTextError::Value(ValueError::Memory) => return LineError::Memory,
+        ValueTextError::Value(ValueError::Memory) => return ReaderError::Memory,
         ValueTextError::Value(ValueError::NoSuchType) => ValueFault::NoSuchType,
         ValueTextError::Value(ValueError::Unsupported) => ValueFault::Unsupported,
         ValueTextError::Value(ValueError::TooDeep) => ValueFault::TooDeep,
         ValueTextError::Value(ValueError::Malformed) => ValueFault::Malformed,
         ValueTextError::Trailing => ValueFault::TrailingBytes,
     };
-    LineError::Fault(fault)
+    ReaderError::NoValue(fault)
 }
 
 /// A line: the text and a line feed.
@@ -64,19 +65,19 @@ fn line_of(text: String) -> Result<Vec<u8>, AllocError>
 
 /// The JSON text of the value of this type that the digits write, and a line feed.
 ///
-/// Errors: `Fault`, where the digits write no value of the type, with nothing after it; `Memory`,
+/// Errors: `NoValue`, where the digits write no value of the type, with nothing after it; `Memory`,
 /// if an allocation failed.
 pub fn value_line(
     alloc: Global,
     table: &PortableRegistry,
     id: u32,
-    digits: &[u8],
-) -> Result<Vec<u8>, LineError>
+    digits: &Text,
+) -> Result<Vec<u8>, ReaderError>
     ensures ok { IfOk result (λ line. IsValueLine table.now id digits.now line.items) }
     ensures err { IfErr result (IsValueError table.now id digits.now) }
 {
-    let Some(bytes) = bytes_by_digits(alloc, digits)? else {
-        return Err(LineError::Fault(ValueFault::NoDigits));
+    let Some(bytes) = bytes_by_digits(alloc, digits.as_str().as_bytes())? else {
+        return Err(ReaderError::NoValue(ValueFault::NoDigits));
     };
     match value_json(alloc, table, id, &bytes) {
         Ok(text) => Ok(line_of(text)?),

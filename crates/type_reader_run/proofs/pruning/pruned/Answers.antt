@@ -1,5 +1,5 @@
 use Rattle.type_reader_run.proofs.pruning.pruned.Goals as goal
 
-pub returns-clause-err : goal.returns-clause-err
-returns-clause-err c =
+pub returns-in-Err-clause-err : goal.returns-in-Err-clause-err
+returns-in-Err-clause-err c =
     c.error_of.ensures c.args.table.now c.args.ids.now c.in-Err.ensures.cause

@@ -1,2 +1,0 @@
-pub mod OwnedDescriptions
-pub mod OwnedParts
