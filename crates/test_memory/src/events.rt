@@ -56,7 +56,7 @@ impl EventVisitor for Words {
     }
 }
 
-/// The answer of a visit: a word for each event, and what is left.
+/// The outcome of a visit: a word for each event, and what is left.
 fn answer(
     alloc: Global,
     returned: Result<&[u8], VisitError<AllocError>>,

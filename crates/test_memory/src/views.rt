@@ -48,7 +48,7 @@ fn indexed(alloc: Global, row: &str) -> Result<(u32, Vec<u8>), Fail> {
     Ok((index.parse()?, bytes_of(alloc, input.trim())?))
 }
 
-/// The answer of a part that may be there, which is shown by its encoding.
+/// The outcome of a part that may be there, which is shown by its encoding.
 fn found<T: Scale>(
     alloc: Global,
     returned: Result<Option<T>, AllocError>,

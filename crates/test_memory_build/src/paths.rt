@@ -36,7 +36,7 @@ fn text_of(alloc: Global, path: Path) -> Result<String, AllocError> {
     format!(in alloc; "{parts} {portable}")
 }
 
-/// The answer of a path.
+/// The outcome of a path.
 fn answer(alloc: Global, returned: Result<Path, PathError>) -> Result<Answer, AllocError> {
     match returned {
         Ok(path) => done(text_of(alloc, path)),

@@ -14,17 +14,17 @@ pub enum Answer {
     Failed(String),
 }
 
-/// The answer that this text shows.
+/// The outcome that this text shows.
 pub fn done(text: Result<String, AllocError>) -> Result<Answer, AllocError> {
     Ok(Answer::Done(text?))
 }
 
-/// The answer of this error.
+/// The outcome of this error.
 pub fn failed<E: Debug>(alloc: Global, error: &E) -> Result<Answer, AllocError> {
     Ok(Answer::Failed(format!(in alloc; "{error:?}")?))
 }
 
-/// The answer of a value that is shown by its `Debug`, or of an error.
+/// The outcome of a value that is shown by its `Debug`, or of an error.
 pub fn shown<T: Debug + Drop, E: Debug + Drop>(
     alloc: Global,
     returned: Result<T, E>,
@@ -35,7 +35,7 @@ pub fn shown<T: Debug + Drop, E: Debug + Drop>(
     }
 }
 
-/// The answer of a text, or of an error.
+/// The outcome of a text, or of an error.
 pub fn printed<E: Debug + Drop>(
     alloc: Global,
     returned: Result<String, E>,
@@ -55,7 +55,7 @@ pub fn digits<T: Scale>(alloc: Global, value: &T) -> Result<String, AllocError> 
     }
 }
 
-/// The answer of a portable value, which is shown by its encoding, or of an error.
+/// The outcome of a portable value, which is shown by its encoding, or of an error.
 pub fn encoded<T: Scale, E: Debug + Drop>(
     alloc: Global,
     returned: Result<T, E>,
@@ -66,7 +66,7 @@ pub fn encoded<T: Scale, E: Debug + Drop>(
     }
 }
 
-/// The answer of a value that holds types, which is shown by the encoding of its portable form.
+/// The outcome of a value that holds types, which is shown by the encoding of its portable form.
 fn converted<T: IntoPortable + Drop>(alloc: Global, value: T) -> Result<Answer, AllocError>
 where
     T::Output: Scale,
@@ -80,7 +80,7 @@ where
     }
 }
 
-/// The answer of a value that holds types, or of an error.
+/// The outcome of a value that holds types, or of an error.
 pub fn registered<T: IntoPortable + Drop, E: Debug + Drop>(
     alloc: Global,
     returned: Result<T, E>,

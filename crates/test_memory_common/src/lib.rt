@@ -1,4 +1,4 @@
-//! What the libraries of refused requests share: marks around a call, answers, inputs and types.
+//! What the libraries of refused requests share: marks around a call, outcomes, inputs and types.
 #![tactic(auto)]
 
 pub mod answers;

@@ -20,7 +20,7 @@ pub fn with_rest(digits: Result<String, AllocError>, rest: &[u8]) -> Result<Stri
     Ok(text)
 }
 
-/// The answer of a table that was decoded, and of what is left.
+/// The outcome of a table that was decoded, and of what is left.
 fn decoded(
     alloc: Global,
     returned: Result<(PortableRegistry, &[u8]), DecodeError>,

@@ -78,7 +78,7 @@ fn chosen(alloc: Global, row: &str) -> Result<(Vec<u32>, Vec<MetaType>), Fail> {
     }
 }
 
-/// Writes what the chosen types reach. The filter answers by how often it was asked, so that it
+/// Writes what the chosen types reach. The filter goes by how often it was asked, so that it
 /// chooses these only where it is asked once for each id from 0 up.
 pub fn export_types(rt: &HostRuntime, row: &str) -> Result<Outcome, Fail> {
     let mut known = Held(catalogue(rt.alloc())?);

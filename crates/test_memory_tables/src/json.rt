@@ -64,7 +64,7 @@ pub fn appended(alloc: Global, bytes: &[u8]) -> Result<String, Fail> {
     Ok(format!(in alloc; "{first} {text}")?)
 }
 
-/// The answer of a text that was appended, or of an error.
+/// The outcome of a text that was appended, or of an error.
 fn written<E: Debug + Drop>(alloc: Global, returned: Result<Vec<u8>, E>) -> Result<Outcome, Fail> {
     let answer = match returned {
         Ok(bytes) => done(Ok(appended(alloc, &bytes)?)),

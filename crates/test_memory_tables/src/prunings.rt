@@ -49,7 +49,7 @@ fn chosen(alloc: Global, table: &PortableRegistry) -> Result<Vec<u32>, Fail> {
     Ok(ids)
 }
 
-/// Keeps what the given ids reach. The filter answers by how often it was asked, so that it chooses
+/// Keeps what the given ids reach. The filter goes by how often it was asked, so that it chooses
 /// these ids only where it is asked once for each id from 0 up.
 pub fn retain(rt: &HostRuntime, row: &str) -> Result<Outcome, Fail> {
     let (name, ids) = given(rt.alloc(), row)?;

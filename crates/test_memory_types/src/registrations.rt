@@ -71,7 +71,7 @@ fn ids(alloc: Global, symbols: &[UntrackedSymbol<TypeId>]) -> Result<String, All
     Ok(text)
 }
 
-/// The answer of the ids of types.
+/// The outcome of the ids of types.
 fn listed(
     alloc: Global,
     returned: Result<Vec<UntrackedSymbol<TypeId>>, RegisterError>,
