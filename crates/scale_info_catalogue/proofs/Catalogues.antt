@@ -1,6 +1,7 @@
 -- Identities with one term are one key of a catalogue.
 use Rattle.std.proofs.Common.{◌≡◌, ◌↔◌, ◌∙◌, Bool, true, false, IsTrue, List, [], ◌∷◌, Some}
-use Rattle.std.proofs.Common.{None, ap, length, refl, suc, sym}
+use Rattle.std.proofs.Common.{None, ap, length, option_map, refl, suc, sym}
+use Rattle.std.proofs.lemmas.Option.{none-some, same_Some}
 use Rattle.std.specs.BTreeMap.{get, is_at, IsUnchanged, Updates}
 use Rattle.std.specs.Map.{lookup}
 use Rattle.std.specs.Ordering.{is_eq}
@@ -10,9 +11,10 @@ use Rattle.scale_info_identities.specs.TypeIds.{terms_of}
 use Rattle.scale_info_identities.specs.contracts.type_id.TypeIdOrd.TheImpl.{ghosts}
 use Rattle.scale_info_identities.specs.contracts.type_id.TypeIdOrd.TheImpl.Laws.{matches_eq-law}
 use Rattle.scale_info_identities.specs.declared.type_id.TypeId.{TypeId}
-use Rattle.scale_info_catalogue.specs.Catalogues.{AreSame, HasOneMore, described}
+use Rattle.scale_info_catalogue.specs.Catalogues.{AreSame, HasOneMore, HasOther, contents_of}
+use Rattle.scale_info_catalogue.specs.Catalogues.{described}
 use Rattle.scale_info_catalogue.specs.Catalogues.{identities_of, identity_of, size}
-use Rattle.scale_info_types.specs.MetaDescriptions.{MetaDescription}
+use Rattle.scale_info_types.specs.MetaDescriptions.{MetaDescription, meta_content}
 use Rattle.scale_info_catalogue.specs.declared.catalogue.Catalogue.{Catalogue}
 
 mutual
@@ -61,6 +63,61 @@ pub described_by_term :
     (c : Catalogue) (id : TypeId) → get ghosts.cmp c.entries id ≡ described c (term_of id)
 described_by_term c id =
     lookup_same c.entries.entries id (identity_of (term_of id)) (sym (term_of_identity (term_of id)))
+
+-- the contents of what is found under an identity are those of its term
+pub contents_by_term :
+    (c : Catalogue) (id : TypeId)
+    → option_map meta_content (get ghosts.cmp c.entries id) ≡ contents_of c (term_of id)
+contents_by_term c id = ap (option_map meta_content) (described_by_term c id)
+
+-- where nothing is found under an identity, its term has no contents
+pub no_contents :
+    (c : Catalogue) (id : TypeId) → get ghosts.cmp c.entries id ≡ None
+    → contents_of c (term_of id) ≡ None
+no_contents c id none = sym (contents_by_term c id) ∙ ap (option_map meta_content) none
+
+-- the contents of what is found under an identity
+pub found_contents :
+    (c : Catalogue) (id : TypeId) (d : MetaDescription)
+    → get ghosts.cmp c.entries id ≡ Some d → contents_of c (term_of id) ≡ Some (meta_content d)
+found_contents c id d found = sym (contents_by_term c id) ∙ ap (option_map meta_content) found
+
+-- where nothing is found, there are neither these contents nor others
+pub nothing_there :
+    (c : Catalogue) (id : TypeId) (d : MetaDescription) → get ghosts.cmp c.entries id ≡ None
+    → (contents_of c (term_of id) ≡ Some (meta_content d) → ⊥)
+    × (HasOther c (term_of id) (meta_content d) → ⊥)
+nothing_there c id d none = (
+  (λ there. none-some (meta_content d) (sym (no_contents c id none) ∙ there)),
+  (λ other. none-some other.known (sym (no_contents c id none) ∙ other.there)),
+)
+
+-- where a description of these contents is found, there are no others
+pub same_there :
+    (c : Catalogue) (id : TypeId) (d known : MetaDescription)
+    → get ghosts.cmp c.entries id ≡ Some known → meta_content known ≡ meta_content d
+    → (contents_of c (term_of id) ≡ Some (meta_content d))
+    × (HasOther c (term_of id) (meta_content d) → ⊥)
+same_there c id d known found same =
+    let there = found_contents c id known found ∙ ap Some same in (
+      there,
+      (λ other. other.apart (same_Some _ _ (sym other.there ∙ there))),
+    )
+
+-- where a description of other contents is found, there are others, and not these
+pub other_there :
+    (c : Catalogue) (id : TypeId) (d known : MetaDescription)
+    → get ghosts.cmp c.entries id ≡ Some known → (meta_content known ≡ meta_content d → ⊥)
+    → (contents_of c (term_of id) ≡ Some (meta_content d) → ⊥)
+    × HasOther c (term_of id) (meta_content d)
+other_there c id d known found apart = (
+  (λ there. apart (same_Some _ _ (sym (found_contents c id known found) ∙ there))),
+  record {
+    known = meta_content known;
+    there = found_contents c id known found;
+    apart = apart;
+  },
+)
 
 -- a catalogue whose map is unchanged is the same
 pub same_catalogue :

@@ -1,7 +1,7 @@
 //! Descriptions by identity.
 ghost use Rattle.std.specs.BTreeMap.{IsUnchanged, Updates, btree_map_len, get};
 ghost use Rattle.std.specs.Option.{option_copied};
-ghost use Rattle.std.specs.Prelude.{◌≡◌, ◌≢◌, ◌↔◌, None, Ok, Some, IfErr, IfOk, IsErrOf, IsNone};
+ghost use Rattle.std.specs.Prelude.{◌≡◌, ◌≢◌, ◌↔◌, Bool, None, Ok, Some, IfOk, IsErrOf, IsSome};
 ghost use Rattle.std.specs.Prelude.{OnErr, OnOk, false, suc, true};
 ghost use Rattle.scale_info_identities.specs.TypeIds.{term_of};
 ghost use Rattle.scale_info_catalogue.specs.Catalogues.{AreSame, HasOneMore, HasOther};
@@ -20,6 +20,7 @@ use scale_info_types::meta_type::Describes;
 use scale_info_types::ty::Type;
 use std::alloc::{AllocError, AllocFailed, Global};
 use std::collections::BTreeMap;
+use std::collections::btree_map::Entry;
 use thiserror::Error;
 
 /// Why a description could not be added. It is displayed as the name of the variant alone.
@@ -148,31 +149,17 @@ impl Catalogue {
             → described self.old (term_of identity) ≡ None }
         ensures err { OnErr result (AreSame self.old self.new) }
     {
-        let Some(same) = self.is_described_as(&identity, &description) else {
-            insert_new(&mut self.entries, identity, description)?;
+        equal_contents::<MetaForm>();
+        let Ok(found) = insert_or_compare(&mut self.entries, identity, description) else {
+            return Err(CatalogueError::Memory);
+        };
+        let Some(same) = found else {
             return Ok(true);
         };
-        drop(identity);
-        drop(description);
         if same {
             Ok(false)
         } else {
             Err(CatalogueError::Conflict)
-        }
-    }
-
-    /// Whether the identity has this description; None if it has none.
-    fn is_described_as(&self, identity: &TypeId, description: &Type) -> Option<bool>
-        ensures none { IsNone result → described self.now (term_of identity.now) ≡ None }
-        ensures same { result ≡ Some true → contents_of self.now (term_of identity.now)
-            ≡ Some (meta_content description.now) }
-        ensures other { result ≡ Some false
-            → HasOther self.now (term_of identity.now) (meta_content description.now) }
-    {
-        equal_contents::<MetaForm>();
-        match self.get(identity) {
-            Some(known) => Some(known == description),
-            None => None,
         }
     }
 
@@ -199,20 +186,30 @@ impl Describes for Catalogue {
     }
 }
 
-/// Puts a value under a key that has none.
+/// Puts a value under a key that has none, and returns None; else returns whether the value that
+/// the key has equals it. The key is searched once.
 ///
-/// Errors: `Memory`, if an allocation failed; then the map is as before.
-fn insert_new<K: Ord + Drop, V: Drop>(
+/// Errors: `AllocError`, if the key has no value and an allocation failed. On an Err, and on a
+/// Some, the map is as before.
+fn insert_or_compare<K: Ord + Drop, V: PartialEq + Drop>(
     entries: &mut BTreeMap<K, V>,
     key: K,
     value: V,
-) -> Result<(), CatalogueError>
-    requires new { get K.cmp entries.old key ≡ None }
-    ensures ok { OnOk result (Updates K.cmp entries.old entries.new key (Some value)) }
-    ensures len { OnOk result (btree_map_len entries.new ≡ suc (btree_map_len entries.old)) }
+) -> Result<Option<bool>, AllocError>
+    ensures new { result ≡ Ok None → (get K.cmp entries.old key ≡ None)
+        × Updates K.cmp entries.old entries.new key (Some value)
+        × (btree_map_len entries.new ≡ suc (btree_map_len entries.old)) }
+    ensures same { (same : Bool) → result ≡ Ok (Some same) → (known : V)
+        × (get K.cmp entries.old key ≡ Some known) × (V.eq known value ≡ same) }
+    ensures kept { IfOk result (λ found. IsSome found → IsUnchanged entries.old entries.new) }
     ensures err { OnErr result (IsUnchanged entries.old entries.new) }
-    ensures memory { IfErr result (λ e. e ≡ error.Memory) }
+    ensures absent { OnErr result (get K.cmp entries.old key ≡ None) }
 {
-    entries.insert(key, value)?;
-    Ok(())
+    match entries.entry(key)? {
+        Entry::Vacant(place) => {
+            place.insert(value);
+            Ok(None)
+        }
+        Entry::Occupied(known) => Ok(Some(*known.get() == value)),
+    }
 }

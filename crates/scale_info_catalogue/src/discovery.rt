@@ -1,9 +1,8 @@
 //! The new identities of a registration, numbered in depth-first order by a list of work.
 ghost use Rattle.std.specs.Option.{option_copied};
 ghost use Rattle.std.specs.Prelude.{◌≡◌, ◌++◌, ◌∷◌, [], List, OnErr, OnOk, IfErr, IfOk, IfSome};
-ghost use Rattle.std.specs.Prelude.{◌↔◌, IsSome};
-ghost use Rattle.std.specs.Prelude.{reverse};
-ghost use Rattle.scale_info_interner.specs.Interned.{IsIndexOf, IsKnown};
+ghost use Rattle.std.specs.Prelude.{◌↔◌, ◌⊎◌, IsSome, false, length, reverse, true};
+ghost use Rattle.scale_info_interner.specs.Interned.{IsIndexOf, IsKnown, IsNew};
 ghost use Rattle.scale_info_identities.specs.declared.type_id.TypeId.{TypeId};
 ghost use Rattle.scale_info_numberings.specs.Extensions.{IsExtension};
 ghost use Rattle.scale_info_catalogue.specs.CatalogueSystems.{catalogue_system};
@@ -108,7 +107,7 @@ pub fn number_of(identities: &Interner<TypeId>, cache: &NumberCache, id: &TypeId
 {
     match cache.known(identities, id) {
         Some(number) => Some(number),
-        None => Some(identities.get(id)?.into_untracked().id),
+        None => searched(identities, id),
     }
 }
 
@@ -169,14 +168,59 @@ fn number_new<'a>(
     ensures err { OnErr result (identities.new ≡ identities.old) }
     ensures cause { IfErr result (IsNumberError catalogue.now identities.old id.now) }
 {
-    if let Some(symbol) = identities.get(id) {
-        return Ok((symbol.into_untracked().id, None));
-    }
     let Some(described) = catalogue.get(id) else {
-        return Err(RegisterError::Undescribed(id.try_clone(alloc)?));
+        let Some(number) = searched(identities, id) else {
+            return Err(RegisterError::Undescribed(id.try_clone(alloc)?));
+        };
+        return Ok((number, None));
     };
-    match identities.intern_or_get(id.try_clone(alloc)?) {
-        Ok((_, symbol)) => Ok((symbol.id, Some(described))),
+    match interned(alloc, identities, id)? {
+        (true, number) => Ok((number, Some(described))),
+        (false, number) => Ok((number, None)),
+    }
+}
+
+/// The number of an identity, by a search; None if it has none. Does not allocate.
+fn searched(identities: &Interner<TypeId>, id: &TypeId) -> Option<u32>
+    ensures found { IfSome result
+        (IsIndexOf ⟦<TypeId as PartialEq>⟧.eq identities.now id.now) }
+    ensures known { IsSome result
+        ↔ IsKnown ⟦<TypeId as PartialEq>⟧.eq identities.now id.now }
+{
+    Some(identities.get(id)?.into_untracked().id)
+}
+
+/// The number of an identity, and whether it is new; then it gets the next one. It is searched
+/// once, by a copy, which only a new one needs: a known one does not fail.
+///
+/// Errors: `Full`, if it is new, and there are 4294967295 identities; `Memory`, if it is new, and
+/// an allocation failed. On an Err no number was given.
+fn interned(
+    alloc: Global,
+    identities: &mut Interner<TypeId>,
+    id: &TypeId,
+) -> Result<(bool, u32), RegisterError>
+    ensures new { IfOk result (λ found. found.0 ≡ true
+        → IsNew ⟦<TypeId as PartialEq>⟧.eq identities.old id.now
+        × (identities.new ≡ identities.old ++ id.now ∷ [])) }
+    ensures known { IfOk result (λ found. found.0 ≡ false
+        → IsKnown ⟦<TypeId as PartialEq>⟧.eq identities.old id.now
+        × (identities.new ≡ identities.old)) }
+    ensures index { IfOk result (λ found.
+        IsIndexOf ⟦<TypeId as PartialEq>⟧.eq identities.new id.now found.1) }
+    ensures err { OnErr result (identities.new ≡ identities.old) }
+    ensures cause { IfErr result (λ e. (e ≡ error.Full) × (length identities.old ≡ 4294967295)
+        ⊎ (e ≡ error.Memory)) }
+    ensures unknown { OnErr result (IsNew ⟦<TypeId as PartialEq>⟧.eq identities.old id.now) }
+{
+    let Ok(copy) = id.try_clone(alloc) else {
+        let Some(number) = searched(identities, id) else {
+            return Err(RegisterError::Memory);
+        };
+        return Ok((false, number));
+    };
+    match identities.intern_or_get(copy) {
+        Ok((is_new, symbol)) => Ok((is_new, symbol.id)),
         Err(InternError::Full) => Err(RegisterError::Full),
         Err(InternError::Memory) => Err(RegisterError::Memory),
     }

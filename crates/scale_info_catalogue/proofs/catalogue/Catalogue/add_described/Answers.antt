@@ -1,20 +1,82 @@
-use Rattle.std.proofs.Common.{rules, ◌∙◌}
-use Rattle.scale_info_catalogue.proofs.Catalogues.{described_by_term, one_more}
+use Rattle.std.proofs.Common.{rules, ap, refl, sym, Ok, ◌∙◌, ◌≡◌}
+use Rattle.std.proofs.lemmas.Bool.{true≢false}
+use Rattle.scale_info_catalogue.proofs.Catalogues.{described_by_term, nothing_there, one_more}
+use Rattle.scale_info_catalogue.proofs.Catalogues.{other_there, same_there}
+use Rattle.scale_info_types.specs.MetaDescriptions.{meta_content}
 use Rattle.scale_info_catalogue.proofs.catalogue.Catalogue.add_described.Goals as goal
 
-pub insert_new-requires : goal.insert_new-requires
-insert_new-requires c =
-    let absent = c.in_default.ensures.none (search rules) in
-    record { new = described_by_term c.args.self.now c.args.identity ∙ absent }
+pub returns-in_default-clause-known : goal.returns-in_default-clause-known
+returns-in_default-clause-known c =
+    let nothing =
+    nothing_there c.args.self.now c.args.identity c.args.description c.in_default.ensures.absent in
+    ((λ is. search rules), (λ there. absurd (nothing.0 there)))
 
-pub returns-in_default-clause-new : goal.returns-in_default-clause-new
-returns-in_default-clause-new c = λ _.
-    let absent = c.in_default.ensures.none (search rules) in
-    one_more c.args.self.now (record { entries = c.insert_new.new.entries; alloc = c.args.self.now.alloc }) c.args.identity
-    c.args.description absent (search rules) (search rules)
+pub returns-in_default-clause-conflict : goal.returns-in_default-clause-conflict
+returns-in_default-clause-conflict c =
+    let nothing =
+    nothing_there c.args.self.now c.args.identity c.args.description c.in_default.ensures.absent in
+    ((λ is. search rules), (λ other. absurd (nothing.1 other)))
 
-pub returns-else-same-clause-err : goal.returns-else-same-clause-err
-returns-else-same-clause-err c = search rules
+pub returns-in_default-clause-memory : goal.returns-in_default-clause-memory
+returns-in_default-clause-memory c _ =
+    sym (described_by_term c.args.self.now c.args.identity) ∙ c.in_default.ensures.absent
 
-pub returns-then-same-clause-known_same : goal.returns-then-same-clause-known_same
-returns-then-same-clause-known_same c = search rules
+pub returns-in_default-found-clause-new : goal.returns-in_default-found-clause-new
+returns-in_default-found-clause-new c _ =
+    let new = c.in-Ok.ensures.new (ap Ok c.in_default-found.is) in
+    one_more c.args.self.now
+    (record { entries = c.insert_or_compare.new.entries; alloc = c.args.self.now.alloc })
+    c.args.identity c.args.description
+    (sym (described_by_term c.args.self.now c.args.identity) ∙ new.0) new.1 new.2
+
+pub returns-in_default-found-clause-known : goal.returns-in_default-found-clause-known
+returns-in_default-found-clause-known c =
+    let new = c.in-Ok.ensures.new (ap Ok c.in_default-found.is) in
+    let nothing = nothing_there c.args.self.now c.args.identity c.args.description new.0 in
+    ((λ is. search rules), (λ there. absurd (nothing.0 there)))
+
+pub returns-in_default-found-clause-conflict : goal.returns-in_default-found-clause-conflict
+returns-in_default-found-clause-conflict c =
+    let new = c.in-Ok.ensures.new (ap Ok c.in_default-found.is) in
+    let nothing = nothing_there c.args.self.now c.args.identity c.args.description new.0 in
+    ((λ is. search rules), (λ other. absurd (nothing.1 other)))
+
+pub returns-then-same-clause-known : goal.returns-then-same-clause-known
+returns-then-same-clause-known c =
+    let found = c.in-Ok.ensures.same c.in-Some.same (ap Ok c.in-Some.is) in
+    let same =
+    (c.equal_contents.ensures found.0 c.args.description).0 (found.2 ∙ c.if-same.true) in
+    let there =
+    same_there c.args.self.now c.args.identity c.args.description found.0 found.1 same in
+    ((λ is. there.0), (λ is. refl))
+
+pub returns-then-same-clause-conflict : goal.returns-then-same-clause-conflict
+returns-then-same-clause-conflict c =
+    let found = c.in-Ok.ensures.same c.in-Some.same (ap Ok c.in-Some.is) in
+    let same =
+    (c.equal_contents.ensures found.0 c.args.description).0 (found.2 ∙ c.if-same.true) in
+    let there =
+    same_there c.args.self.now c.args.identity c.args.description found.0 found.1 same in
+    ((λ is. search rules), (λ other. absurd (there.1 other)))
+
+pub returns-else-same-clause-known : goal.returns-else-same-clause-known
+returns-else-same-clause-known c =
+    let found = c.in-Ok.ensures.same c.in-Some.same (ap Ok c.in-Some.is) in
+    let apart : meta_content found.0 ≡ meta_content c.args.description → ⊥ =
+    λ same. true≢false
+    (sym ((c.equal_contents.ensures found.0 c.args.description).1 same)
+    ∙ (found.2 ∙ c.if-same.false)) in
+    let there =
+    other_there c.args.self.now c.args.identity c.args.description found.0 found.1 apart in
+    ((λ is. search rules), (λ is. absurd (there.0 is)))
+
+pub returns-else-same-clause-conflict : goal.returns-else-same-clause-conflict
+returns-else-same-clause-conflict c =
+    let found = c.in-Ok.ensures.same c.in-Some.same (ap Ok c.in-Some.is) in
+    let apart : meta_content found.0 ≡ meta_content c.args.description → ⊥ =
+    λ same. true≢false
+    (sym ((c.equal_contents.ensures found.0 c.args.description).1 same)
+    ∙ (found.2 ∙ c.if-same.false)) in
+    let there =
+    other_there c.args.self.now c.args.identity c.args.description found.0 found.1 apart in
+    ((λ is. there.1), (λ is. search rules))
