@@ -1,3 +1,4 @@
+pub mod Differences
 pub mod Explained
 pub mod Faults
 pub mod Known
