@@ -1,6 +1,7 @@
 //! The program `type_reader`: reads a table of descriptions of types from a file or from the
 //! standard input, and writes what a command makes of it to the standard output. Where a command
-//! converts lines, they are those of the standard input.
+//! converts lines, they are those of the standard input. Where it compares two tables, the second
+//! one is read from a file or from the standard input too.
 #![tactic(auto)]
 
 mod source;
@@ -10,7 +11,7 @@ use scale_info_collections::text::Text;
 use std::io::{BufRead, BufReader, ErrorKind, Input, Write};
 use std::process::ExitCode;
 use std::{env, io};
-use type_reader_io::command::{Command, command_of};
+use type_reader_io::command::{Command, Comparison, command_of};
 use type_reader_run::run;
 
 /// The arguments after the program's name.
@@ -22,9 +23,13 @@ fn arguments_of(rt: &HostRuntime) -> io::Result<Vec<Text>> {
     Ok(arguments)
 }
 
-/// Runs the command over this second input, and returns the exit code.
-fn run_over<S: BufRead>(rt: &HostRuntime, arguments: &[Text], second: &mut S) -> ExitCode {
-    let mut table = Source::of_arguments(rt, arguments);
+/// Runs the command over these inputs, and returns the exit code.
+fn run_over<S: BufRead>(
+    rt: &HostRuntime,
+    arguments: &[Text],
+    mut table: Source,
+    second: &mut S,
+) -> ExitCode {
     let (mut output, mut errors) = (rt.stdout(), rt.stderr());
     ExitCode::from(run(
         rt.alloc(),
@@ -36,24 +41,42 @@ fn run_over<S: BufRead>(rt: &HostRuntime, arguments: &[Text], second: &mut S) ->
     ))
 }
 
+/// Says that an allocation failed, and returns the exit code.
+fn out_of_memory(rt: &HostRuntime) -> ExitCode {
+    let _ = rt.stderr().write_all(b"type_reader: out of memory\n");
+    ExitCode::FAILURE
+}
+
+/// Runs the command that compares two tables, and returns the exit code.
+fn run_diff(rt: &HostRuntime, arguments: &[Text], comparison: &Comparison<'_>) -> ExitCode {
+    let old = Source::of_name(rt, comparison.old.as_str());
+    match BufReader::new(rt.alloc(), Source::of_name(rt, comparison.new.as_str())) {
+        Ok(mut new) => run_over(rt, arguments, old, &mut new),
+        Err(_) => out_of_memory(rt),
+    }
+}
+
 fn main(rt: HostRuntime) -> ExitCode {
     let arguments = match arguments_of(&rt) {
         Ok(arguments) => arguments,
         Err(e) => {
             if e.kind() == ErrorKind::OutOfMemory {
-                let _ = rt.stderr().write_all(b"type_reader: out of memory\n");
-                return ExitCode::FAILURE;
+                return out_of_memory(&rt);
             }
             // An argument that is not UTF-8: no command has one, so `run` prints the usage line.
             Vec::new(rt.alloc())
         }
     };
-    let is_by_line = matches!(command_of(&arguments), Some(Command::Lines(..)));
-    if is_by_line {
+    let command = command_of(&arguments);
+    if let Some(Command::Diff(comparison)) = &command {
+        return run_diff(&rt, &arguments, comparison);
+    }
+    let table = Source::of_arguments(&rt, &arguments);
+    if matches!(command, Some(Command::Lines(..))) {
         if let Ok(mut second) = BufReader::new(rt.alloc(), rt.stdin()) {
-            return run_over(&rt, &arguments, &mut second);
+            return run_over(&rt, &arguments, table, &mut second);
         }
     }
     // Nothing is read, or it is read without a buffer, where there is no memory for one.
-    run_over(&rt, &arguments, &mut rt.reader())
+    run_over(&rt, &arguments, table, &mut rt.reader())
 }

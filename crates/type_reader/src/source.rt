@@ -31,7 +31,7 @@ impl Source {
     }
 
     /// The standard input for `-`, and else the file with this name.
-    fn of_name(rt: &HostRuntime, name: &str) -> Source {
+    pub fn of_name(rt: &HostRuntime, name: &str) -> Source {
         if name == "-" {
             return Source::Stdin(rt.stdin());
         }

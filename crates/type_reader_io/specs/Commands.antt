@@ -2,8 +2,11 @@
 use Rattle.std.specs.Prelude.{◌≡◌, ◌≢◌, ℕ, List, [], ◌∷◌, codes}
 use Rattle.type_reader_io.specs.declared.command.Command.{Command}
 use Rattle.type_reader_io.specs.declared.command.Command.TheVariants as commands
+use Rattle.type_reader_io.specs.declared.command.Comparison.{Comparison}
 use Rattle.type_reader_io.specs.declared.command.Conversion.{Conversion}
 use Rattle.type_reader_io.specs.declared.command.Conversion.TheVariants as conversions
+use Rattle.type_reader_io.specs.declared.command.Docs.{Docs}
+use Rattle.type_reader_io.specs.declared.command.Docs.TheVariants as docs
 use Rattle.type_reader_io.specs.declared.command.Request.{Request}
 use Rattle.type_reader_io.specs.declared.command.Request.TheVariants as requests
 use Rattle.type_reader_io.specs.declared.command.Word.{Word}
@@ -16,6 +19,8 @@ word_of words.Strip = codes "strip"
 word_of words.List = codes "list"
 word_of words.Find = codes "find"
 word_of words.Prune = codes "prune"
+word_of words.Graph = codes "graph"
+word_of words.Diff = codes "diff"
 word_of words.Value = codes "value"
 word_of words.Encode = codes "encode"
 
@@ -24,7 +29,8 @@ abbrev pub conversion_word : Conversion → Word
 conversion_word conversions.Decode = words.Value
 conversion_word conversions.Encode = words.Encode
 
--- the request has this word, and these arguments after the table: of types to prune to there is one
+-- the request has this word, and these arguments after the table: of types to prune to, and of those
+-- of a graph, there is one
 abbrev pub IsRequest : Word → List (List ℕ) → Request → Type 0
 IsRequest word more requests.Table = (word ≡ words.Table) × (more ≡ [])
 IsRequest word more requests.Strip = (word ≡ words.Strip) × (more ≡ [])
@@ -32,15 +38,41 @@ IsRequest word more (requests.List texts) = (word ≡ words.List) × (more ≡ t
 IsRequest word more (requests.Find pattern) = (word ≡ words.Find) × (more ≡ pattern.now ∷ [])
 IsRequest word more (requests.Prune texts) =
     (word ≡ words.Prune) × (more ≡ texts.now) × (texts.now ≢ [])
+IsRequest word more (requests.Graph texts) =
+    (word ≡ words.Graph) × (more ≡ texts.now) × (texts.now ≢ [])
 IsRequest word more (requests.Convert conversion ty value) =
     (word ≡ conversion_word conversion) × (more ≡ ty.now ∷ value.now ∷ [])
 
+-- the first argument after `diff`, and those after it: where docs count, `--docs`, and then the
+-- tables and the paths; else the tables and the paths
+abbrev pub AreOperandsBy : Docs → (old new : List ℕ) → (paths : List (List ℕ)) → (first : List ℕ)
+    → (more : List (List ℕ)) → Type 0
+AreOperandsBy docs.LeftOut old new paths first more =
+    (first ≢ codes "--docs") × (first ≡ old) × (more ≡ new ∷ paths)
+AreOperandsBy docs.Compared old new paths first more =
+    (first ≡ codes "--docs") × (more ≡ old ∷ new ∷ paths)
+
+-- the same of a comparison
+abbrev pub AreOperands : (first : List ℕ) → (more : List (List ℕ)) → Comparison → Type 0
+AreOperands first more comparison =
+    AreOperandsBy comparison.docs comparison.old.now comparison.new.now comparison.paths.now first
+    more
+
+-- the same, where one table at most is read from the standard input
+pub record IsComparison (first : List ℕ) (more : List (List ℕ)) (comparison : Comparison)
+    : Type 0 where
+  pub operands : AreOperands first more comparison
+  pub one : comparison.old.now ≡ codes "-" → comparison.new.now ≢ codes "-"
+
 -- the command has this word, this table and these arguments after it; where the standard input is
--- read line by line, the table is not read from it
+-- read line by line, the table is not read from it; where tables are compared, what stands in the
+-- place of the table may be `--docs`
 abbrev pub IsOfWord : Word → (table : List ℕ) → List (List ℕ) → Command → Type 0
 IsOfWord word table more (commands.Once request) = IsRequest word more request
 IsOfWord word table more (commands.Lines conversion ty) =
     (word ≡ conversion_word conversion) × (more ≡ ty.now ∷ []) × (table ≢ codes "-")
+IsOfWord word table more (commands.Diff comparison) =
+    (word ≡ words.Diff) × IsComparison table more comparison
 
 -- the arguments name the command: its word, a table, and the arguments after it
 pub record Names (arguments : List (List ℕ)) (command : Command) : Type 0 where

@@ -12,7 +12,7 @@ use Rattle.type_reader_io.specs.declared.message.Message.TheVariants as messages
 abbrev pub usage_line : List ℕ
 usage_line =
     codes
-    "usage: type_reader table TABLE | strip TABLE | list TABLE [TYPE ..] | find TABLE PATTERN | prune TABLE TYPE .. | value TABLE TYPE [HEX] | encode TABLE TYPE [JSON]\n"
+    "usage: type_reader table TABLE | strip TABLE | list TABLE [TYPE ..] | find TABLE PATTERN | prune TABLE TYPE .. | graph TABLE TYPE .. | diff [--docs] OLD NEW [PATH ..] | value TABLE TYPE [HEX] | encode TABLE TYPE [JSON]\n"
 
 -- a line that ends with a text
 abbrev pub line_with : List ℕ → List ℕ → List ℕ

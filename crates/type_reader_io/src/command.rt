@@ -1,8 +1,9 @@
 //! Commands, and the arguments that name them.
 ghost use Rattle.std.specs.Prelude.{◌≡◌, ◌∷◌, [], IfSome, IfNone};
-ghost use Rattle.type_reader_io.specs.Commands.{IsCommand, IsOfWord, IsRequest, Names};
-ghost use Rattle.type_reader_io.specs.Commands.{conversion_word, word_of};
+ghost use Rattle.type_reader_io.specs.Commands.{AreOperands, IsCommand, IsComparison, IsOfWord};
+ghost use Rattle.type_reader_io.specs.Commands.{IsRequest, Names, conversion_word, word_of};
 ghost use Rattle.type_reader_io.specs.declared.command.Command.{Command as CommandValue};
+ghost use Rattle.type_reader_io.specs.declared.command.Comparison.{Comparison as ComparisonValue};
 ghost use Rattle.type_reader_io.specs.declared.command.Conversion.{Conversion as ConversionValue};
 ghost use Rattle.type_reader_io.specs.declared.command.Request.{Request as RequestValue};
 ghost use Rattle.type_reader_io.specs.declared.command.Word.{Word as WordValue};
@@ -26,6 +27,30 @@ pub enum Command<'a> {
     /// Convert values of a type, which is given by its id or its path: each line of the second
     /// input is one.
     Lines(Conversion, &'a Text),
+    /// Write what changed between two tables.
+    Diff(Comparison<'a>),
+}
+
+/// Whether docs count where tables are compared.
+#[derive(Clone, Copy, Drop)]
+pub enum Docs {
+    /// They are left out.
+    LeftOut,
+    /// They are compared.
+    Compared,
+}
+
+/// Two tables that are compared.
+#[derive(Drop)]
+pub struct Comparison<'a> {
+    /// Whether docs count.
+    pub docs: Docs,
+    /// The name of the old table: that of a file, or `-`.
+    pub old: &'a Text,
+    /// The name of the new table: that of a file, or `-`.
+    pub new: &'a Text,
+    /// The paths of which changes are written; of all, where none is given.
+    pub paths: &'a [Text],
 }
 
 /// What the program is asked to write of a table.
@@ -42,6 +67,8 @@ pub enum Request<'a> {
     Find(&'a Text),
     /// Write the table of what these types reach. Each is given by its id or its path.
     Prune(&'a [Text]),
+    /// Write what these types reach as a graph. Each is given by its id or its path.
+    Graph(&'a [Text]),
     /// Convert a value of a type, which is given by its id or its path. The value is the last text.
     Convert(Conversion, &'a Text, &'a Text),
 }
@@ -59,6 +86,10 @@ enum Word {
     Find,
     /// `prune`
     Prune,
+    /// `graph`
+    Graph,
+    /// `diff`
+    Diff,
     /// `value`
     Value,
     /// `encode`
@@ -80,6 +111,10 @@ fn word_of(text: &str) -> Option<Word>
         Some(Word::Find)
     } else if text == "prune" {
         Some(Word::Prune)
+    } else if text == "graph" {
+        Some(Word::Graph)
+    } else if text == "diff" {
+        Some(Word::Diff)
     } else if text == "value" {
         Some(Word::Value)
     } else if text == "encode" {
@@ -100,6 +135,7 @@ fn request_by(word: Word, more: &[Text]) -> Option<Request<'_>>
         (Word::List, _) => Some(Request::List(more)),
         (Word::Find, [pattern]) => Some(Request::Find(pattern)),
         (Word::Prune, [_, ..]) => Some(Request::Prune(more)),
+        (Word::Graph, [_, ..]) => Some(Request::Graph(more)),
         (Word::Value, [ty, digits]) => Some(Request::Convert(Conversion::Decode, ty, digits)),
         (Word::Encode, [ty, json]) => Some(Request::Convert(Conversion::Encode, ty, json)),
         _ => None,
@@ -121,13 +157,62 @@ fn lines_by(word: Word, more: &[Text]) -> Option<(Conversion, &Text)>
     }
 }
 
-/// The command that has this word, this table and these arguments after it; None where there is
-/// none.
-fn command_by<'a>(word: Word, table: &Text, more: &'a [Text]) -> Option<Command<'a>>
+/// The comparison for which these are the first argument after `diff` and those after it, where the
+/// old table and the new one may both be read from the standard input; None where there is none.
+fn operands_by<'a>(first: &'a Text, more: &'a [Text]) -> Option<Comparison<'a>>
+    ensures some { IfSome result (AreOperands first.now more.now) }
+    ensures none { IfNone result
+        ((comparison : ComparisonValue) → AreOperands first.now more.now comparison → ⊥) }
+{
+    if first.as_str() == "--docs" {
+        let [old, new, paths @ ..] = more else {
+            return None;
+        };
+        return Some(Comparison {
+            docs: Docs::Compared,
+            old,
+            new,
+            paths,
+        });
+    }
+    let [new, paths @ ..] = more else {
+        return None;
+    };
+    Some(Comparison {
+        docs: Docs::LeftOut,
+        old: first,
+        new,
+        paths,
+    })
+}
+
+/// The comparison for which these are the first argument after `diff` and those after it; None
+/// where there is none.
+fn comparison_by<'a>(first: &'a Text, more: &'a [Text]) -> Option<Comparison<'a>>
+    ensures some { IfSome result (IsComparison first.now more.now) }
+    ensures none { IfNone result
+        ((comparison : ComparisonValue) → IsComparison first.now more.now comparison → ⊥) }
+{
+    let comparison = operands_by(first, more)?;
+    if comparison.old.as_str() == "-" && comparison.new.as_str() == "-" {
+        return None;
+    }
+    Some(comparison)
+}
+
+/// The command that has this word, this argument after it and these further ones; None where there
+/// is none.
+fn command_by<'a>(word: Word, table: &'a Text, more: &'a [Text]) -> Option<Command<'a>>
     ensures some { IfSome result (IsOfWord word table.now more.now) }
     ensures none { IfNone result
         ((command : CommandValue) → IsOfWord word table.now more.now command → ⊥) }
 {
+    if matches!(word, Word::Diff) {
+        return match comparison_by(table, more) {
+            Some(comparison) => Some(Command::Diff(comparison)),
+            None => None,
+        };
+    }
     if let Some(request) = request_by(word, more) {
         return Some(Command::Once(request));
     }
@@ -143,8 +228,9 @@ fn command_by<'a>(word: Word, table: &Text, more: &'a [Text]) -> Option<Command<
 /// The command that the arguments name; None where they name none. Does not allocate.
 ///
 /// The first argument is the command's word, and the second names the table. For example, `strip`
-/// and `table.scale` name `Command::Once(Request::Strip)`. Where a second input is read, which is
-/// the standard input, the table is not `-`.
+/// and `table.scale` name `Command::Once(Request::Strip)`. Where lines of the standard input are
+/// read, the table is not `-`. After `diff`, and after `--docs` if that follows it, come the names
+/// of two tables, of which one at most is `-`.
 pub fn command_of(arguments: &[Text]) -> Option<Command<'_>>
     ensures some { IfSome result (Names arguments.now) }
     ensures none { IfNone result (IsCommand arguments.now → ⊥) }

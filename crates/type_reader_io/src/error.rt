@@ -70,7 +70,7 @@ pub enum ReaderError {
     /// This id is no index of the table.
     #[error("no such type {0}")]
     NoSuchType(u32),
-    /// No type of the table has this path.
+    /// No type of the table has this path, or none of two tables that are compared.
     #[error("no such path {0}")]
     NoSuchPath(Text),
     /// Several types of the table have this path, where one is to be given.
@@ -79,7 +79,8 @@ pub enum ReaderError {
     /// The given text gives no value of the given type.
     #[error("no value: {0}")]
     NoValue(ValueFault),
-    /// This id is reached from the given types, and is no index of the table.
+    /// This id is reached from the given types, or a table that is compared refers to it, and it is
+    /// no index of the table.
     #[error("dangling id {0}")]
     Dangling(u32),
     /// An allocation failed.

@@ -18,7 +18,7 @@ use Rattle.type_reader_io.specs.declared.error.ReaderError.TheVariants as errors
 use Rattle.type_reader_run.specs.Conversions.{Outcome, bad, made, reports_from}
 use Rattle.type_reader_run.specs.Outputs.{OutputsOf, id_line}
 use Rattle.type_reader_run.specs.Runs.{Does, ExplainsStop, IsSo, Refuses, RefusesLines, bad_lines}
-use Rattle.type_reader_run.specs.Runs.{no_type, stopped}
+use Rattle.type_reader_run.specs.Runs.{has_changes, no_type, not_compared, stopped}
 use Rattle.type_reader_run.specs.Tables.{source_line}
 use Rattle.type_table_io.specs.Reports.{AppendsPrefix, Reported}
 
@@ -82,6 +82,7 @@ other_notes (requests.List texts) line table output notes other h = no_notes not
 other_notes (requests.Find pattern) line table output notes other h = no_notes notes h.1
 other_notes (requests.Prune texts) line table output notes other h =
     subst IsOther (sym h.pruned.lines) (other_lines h.pruned.new_ids.entries)
+other_notes (requests.Graph texts) line table output notes other h = no_notes notes h.1
 other_notes (requests.Convert conversion text value) line table output notes other h =
     no_notes notes h.1
 
@@ -128,8 +129,10 @@ not_done (commands.Once request) input second old new told_old told_new error do
 not_done (commands.Lines conversion text) input second old new told_old told_new error does reported =
     not_bad_lines error _ (are_bad 1 does.outcomes)
     (reported_pieces told_old told_new _ (line_of error) does.reports reported)
+not_done (commands.Diff comparison) input second old new told_old told_new error does reported =
+    not_nothing error (reported_pieces told_old told_new [] (line_of error) does.1 reported)
 
--- an error that was reported where lines were to be converted
+-- an error that was reported where the command is refused
 so_of_lines :
     (command : Command) (input second old new told_old told_new : Option (List ℕ))
     (error : ReaderError) → HasSmallNumber error
@@ -157,6 +160,15 @@ so_of_lines (commands.Lines conversion text) input second old new told_old told_
       (small_stop old new _ cause stops.explains) small (are_bad 1 outcomes)
       (reported_pieces told_old told_new _ (line_of error) reports reported),
   inr (outcomes, stops),
+)
+so_of_lines (commands.Diff comparison) input second old new told_old told_new error small (has_changes writes reports) reported =
+    absurd
+    (not_nothing error (reported_pieces told_old told_new [] (line_of error) reports reported))
+so_of_lines (commands.Diff comparison) input second old new told_old told_new error small (not_compared cause small_cause explains reports) reported = (
+  cause,
+  last_reported error cause [] small_cause small tt
+      (reported_pieces told_old told_new (line_of cause ∷ []) (line_of error) reports reported),
+  explains,
 )
 
 -- an error whose line was reported is so, by what is known of each status

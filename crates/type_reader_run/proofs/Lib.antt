@@ -1,3 +1,4 @@
+pub mod Differences
 pub mod Explained
 pub mod Faults
 pub mod Known
@@ -7,3 +8,4 @@ pub mod Runs
 pub mod Selections
 pub mod SoFar
 pub mod Tables
+pub mod Told

@@ -11,8 +11,8 @@ use Rattle.type_reader_io.specs.declared.error.ReaderError.{ReaderError}
 use Rattle.scale_info_tables.specs.declared.portable.PortableRegistry.{PortableRegistry}
 use Rattle.type_reader_run.specs.Conversions.{AreOutcomes, HasOutcomes, HasType, Outcome}
 use Rattle.type_reader_run.specs.Conversions.{reports_from}
-use Rattle.type_reader_run.specs.Runs.{ConvertsAll, Does, Refuses, StopsAfter, bad_lines, no_type}
-use Rattle.type_reader_run.specs.Runs.{stopped}
+use Rattle.type_reader_run.specs.Runs.{ConvertsAll, Does, Refuses, StopsAfter, bad_lines}
+use Rattle.type_reader_run.specs.Runs.{has_changes, no_type, not_compared, stopped}
 use Rattle.type_reader_run.specs.Steps.{HasConvertedLines, HasStopped}
 use Rattle.type_reader_run.specs.Tables.{input_bytes}
 use Rattle.type_reader_run.specs.declared.convert.Converter.{Converter}
@@ -93,6 +93,7 @@ does_by (commands.Lines conversion text) input second old new P Q by h = record 
   reports = by (reports_from 1 h.outcomes) h.reports;
   good = h.good;
 }
+does_by (commands.Diff comparison) input second old new P Q by h = (h.0, by [] h.1)
 
 -- what a command refuses, by what follows from its reports
 pub refuses_by :
@@ -120,6 +121,10 @@ refuses_by (commands.Lines conversion text) input second old new P Q by (bad_lin
     })
 refuses_by (commands.Lines conversion text) input second old new P Q by (stopped {outcomes = outcomes} {error = error} stops reports) =
     stopped stops (by (reports_from 1 outcomes ++ line_of error ∷ []) reports)
+refuses_by (commands.Diff comparison) input second old new P Q by (has_changes writes reports) =
+    has_changes writes (by [] reports)
+refuses_by (commands.Diff comparison) input second old new P Q by (not_compared error small explains reports) =
+    not_compared error small explains (by (line_of error ∷ []) reports)
 
 -- the same of a command that the arguments name
 pub done_by :

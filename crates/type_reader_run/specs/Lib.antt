@@ -1,4 +1,5 @@
 pub mod Conversions
+pub mod Differences
 pub mod Encodings
 pub mod Listings
 pub mod Outputs

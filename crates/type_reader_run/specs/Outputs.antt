@@ -7,6 +7,7 @@ use Rattle.std.specs.List.{flat_map}
 use Rattle.scale_info_describe.specs.PathSearches.{AreIdsBy, stands_in}
 use Rattle.scale_info_docs.specs.WithoutDocs.{entry_without_docs}
 use Rattle.scale_info_grammar.specs.Ty.{EncodesTypes}
+use Rattle.scale_info_graph.specs.GraphTexts.{AppendsGraph}
 use Rattle.scale_info_prune.specs.Prunes.{HasNewIds, IsPrunedEncoding}
 use Rattle.scale_info_metadata.specs.TablesFound.{IsTableOf}
 use Rattle.scale_info_metadata.specs.declared.metadata.Source.{Source}
@@ -67,6 +68,14 @@ pub record IsPruning (table : List ℕ) (texts : List (List ℕ)) (output notes 
   pub selected : AreSelected types texts ids
   pub pruned : IsPruned table ids output notes
 
+-- the output is the graph of what the types reach that the texts give
+pub record IsGraph (table : List ℕ) (texts : List (List ℕ)) (output : List ℕ) : Type 0 where
+  pub registry : PortableRegistry
+  pub encodes : EncodesTypes registry.types table
+  pub ids : List ℕ
+  pub selected : AreSelected registry.types texts ids
+  pub graph : AppendsGraph registry ids [] output
+
 -- for the table, and the line that says what the input is, the request has this output and these
 -- notes
 abbrev pub OutputsOf : Request → (source_line table output notes : List ℕ) → Type 0
@@ -80,6 +89,8 @@ OutputsOf (requests.Find pattern) source_line table output notes =
     IsFinding table pattern.now output × (notes ≡ [])
 OutputsOf (requests.Prune texts) source_line table output notes =
     IsPruning table texts.now output notes
+OutputsOf (requests.Graph texts) source_line table output notes =
+    IsGraph table texts.now output × (notes ≡ [])
 OutputsOf (requests.Convert conversion text value) source_line table output notes =
     IsConverted conversion table text.now value.now output × (notes ≡ [])
 

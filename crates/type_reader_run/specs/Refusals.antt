@@ -1,10 +1,12 @@
 -- Why a command is refused, and what is reported of it.
-use Rattle.std.specs.Prelude.{◌≡◌, ◌⊎◌, ℕ, List, IfSome}
+use Rattle.std.specs.Prelude.{◌≡◌, ◌≤◌, ◌⊎◌, ℕ, List, IfSome, length}
 use Rattle.std.specs.declared.option.Option.{Option}
 use Rattle.std.specs.Io.KnownBytes.{Keeps}
 use Rattle.scale_info_grammar.specs.Ty.{EncodesTypes}
+use Rattle.scale_info_numberings.specs.Systems.{IsReached}
 use Rattle.scale_info_prune.specs.Prunes.{HasDangling}
 use Rattle.scale_info_types.specs.declared.ty.PortableType.{PortableType}
+use Rattle.scale_info_walk.specs.TypeSystems.{types_system}
 use Rattle.type_reader_io.specs.declared.command.Request.{Request}
 use Rattle.type_reader_io.specs.declared.command.Request.TheVariants as requests
 use Rattle.type_reader_io.specs.declared.error.ReaderError.{ReaderError}
@@ -45,6 +47,35 @@ IsPruningError table texts (errors.Dangling id) = ReachesOutside table texts id
 IsPruningError table texts errors.Memory = Unit {0}
 IsPruningError table texts error = ⊥
 
+-- the types with these ids lead, by references, to this id, which is no index
+pub record LeadOutside (types : List PortableType) (ids : List ℕ) (id : ℕ) : Type 0 where
+  pub reached : IsReached (types_system types) ids id
+  pub outside : length types ≤ id
+
+-- so do the types of the table that the texts give
+pub record LeadsOutside (table : List ℕ) (texts : List (List ℕ)) (id : ℕ) : Type 0 where
+  pub types : List PortableType
+  pub encodes : EncodesTypes types table
+  pub ids : List ℕ
+  pub selected : AreSelected types texts ids
+  pub lead : LeadOutside types ids id
+
+-- why there is no graph of what the types with these ids reach, which are all indices
+abbrev pub IsLeadingError : List PortableType → List ℕ → ReaderError → Type 0
+IsLeadingError types ids (errors.Dangling id) = LeadOutside types ids id
+IsLeadingError types ids errors.Memory = Unit {0}
+IsLeadingError types ids error = ⊥
+
+-- why there is no graph of what the types reach that the texts give
+abbrev pub IsGraphingError : List ℕ → List (List ℕ) → ReaderError → Type 0
+IsGraphingError table texts (errors.NoSuchType id) =
+    HasSelectionError table texts (errors.NoSuchType id)
+IsGraphingError table texts (errors.NoSuchPath path) =
+    HasSelectionError table texts (errors.NoSuchPath path)
+IsGraphingError table texts (errors.Dangling id) = LeadsOutside table texts id
+IsGraphingError table texts errors.Memory = Unit {0}
+IsGraphingError table texts error = ⊥
+
 -- why the request has no output for the table; an allocation may fail
 abbrev pub IsOutputError : Request → (table : List ℕ) → ReaderError → Type 0
 IsOutputError requests.Table table error = error ≡ errors.Memory
@@ -52,6 +83,7 @@ IsOutputError requests.Strip table error = error ≡ errors.Memory
 IsOutputError (requests.List texts) table error = HasSelectionError table texts.now error
 IsOutputError (requests.Find pattern) table error = error ≡ errors.Memory
 IsOutputError (requests.Prune texts) table error = IsPruningError table texts.now error
+IsOutputError (requests.Graph texts) table error = IsGraphingError table texts.now error
 IsOutputError (requests.Convert conversion text value) table error =
     IsConversionError conversion table text.now value.now error
 

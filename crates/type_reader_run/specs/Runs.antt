@@ -3,11 +3,12 @@
 -- and `new` those after.
 use Rattle.std.specs.Prelude.{◌≡◌, ◌⊎◌, ◌++◌, ℕ, List, [], ◌∷◌, Bool, true, false, IfSome, Some}
 use Rattle.std.specs.declared.option.Option.{Option}
-use Rattle.std.specs.Io.KnownBytes.{Appends, Keeps}
+use Rattle.std.specs.Io.KnownBytes.{Appends, IsAtEnd, Keeps}
 use Rattle.std.specs.List.{flat_map}
 use Rattle.std.specs.Str.Lines.{lines}
 use Rattle.type_reader_io.specs.declared.command.Command.{Command}
 use Rattle.type_reader_io.specs.declared.command.Command.TheVariants as commands
+use Rattle.type_reader_io.specs.declared.command.Comparison.{Comparison}
 use Rattle.type_reader_io.specs.declared.command.Conversion.{Conversion}
 use Rattle.type_reader_io.specs.declared.command.Request.{Request}
 use Rattle.type_reader_io.specs.declared.error.ReaderError.{ReaderError}
@@ -15,6 +16,7 @@ use Rattle.type_reader_io.specs.declared.error.ReaderError.TheVariants as errors
 use Rattle.type_reader_io.specs.Lines.{HasSmallNumber, IsReportedAs, line_of}
 use Rattle.type_reader_run.specs.Conversions.{HasOutcomes, IsTypeError, Outcome, are_good}
 use Rattle.type_reader_run.specs.Conversions.{output_of, reports_from}
+use Rattle.type_reader_run.specs.Differences.{ExplainsDiff, WritesChanges, WritesSomeChange}
 use Rattle.type_reader_run.specs.Outputs.{WritesWhole}
 use Rattle.type_reader_run.specs.Refusals.{Explains}
 use Rattle.type_reader_io.specs.Reports.{texts_of}
@@ -97,31 +99,50 @@ pub data RefusesLines (conversion : Conversion) (text : List ℕ)
       → IsReported (reports_from 1 outcomes ++ line_of error ∷ [])
       → RefusesLines conversion text input second old new IsReported
 
--- the command was done
+-- Why the status of a comparison is 1: something changed, and nothing was reported; or one error
+-- holds, and its line was reported.
+pub data RefusesDiff (comparison : Comparison) (input second old new : Option (List ℕ))
+    (IsReported : List (List ℕ) → Type 0) : Type 0 where
+  has_changes :
+      WritesSomeChange comparison input second old new → IsReported []
+      → RefusesDiff comparison input second old new IsReported
+  not_compared :
+      (error : ReaderError)
+      → HasSmallNumber error → ExplainsDiff comparison input second old new error
+      → IsReported (line_of error ∷ [])
+      → RefusesDiff comparison input second old new IsReported
+
+-- the command was done; of tables that are compared, nothing changed
 abbrev pub Does : Command → (input second old new : Option (List ℕ))
     → (IsReported : List (List ℕ) → Type 0) → Type 0
 Does (commands.Once request) input second old new IsReported =
     DoesOnce request input old new IsReported
 Does (commands.Lines conversion text) input second old new IsReported =
     ConvertsAll conversion text.now input second old new IsReported true
+Does (commands.Diff comparison) input second old new IsReported =
+    WritesChanges comparison input second old new [] × IsReported []
 
--- the command was not done, or not of all lines
+-- the command was not done, or not of all lines; or something changed
 abbrev pub Refuses : Command → (input second old new : Option (List ℕ))
     → (IsReported : List (List ℕ) → Type 0) → Type 0
 Refuses (commands.Once request) input second old new IsReported =
     RefusesOnce request input old new IsReported
 Refuses (commands.Lines conversion text) input second old new IsReported =
     RefusesLines conversion text.now input second old new IsReported
+Refuses (commands.Diff comparison) input second old new IsReported =
+    RefusesDiff comparison input second old new IsReported
 
 -- the second input is as it was, where the command does not read it
 abbrev pub KeepsSecond : {S : Type 0} → Command → (old new : S) → Type 0
 KeepsSecond (commands.Once request) old new = new ≡ old
 KeepsSecond (commands.Lines conversion text) old new = Unit {0}
+KeepsSecond (commands.Diff comparison) old new = Unit {0}
 
 -- the second input was read to its end, where the command reads it
 abbrev pub EndsSecond : Command → (old new : Option (List ℕ)) → Type 0
 EndsSecond (commands.Once request) old new = Unit {0}
 EndsSecond (commands.Lines conversion text) old new = IfSome old (λ bytes. new ≡ Some [])
+EndsSecond (commands.Diff comparison) old new = IsAtEnd new
 
 -- what an error says of the command that is refused for it
 abbrev pub Explained : Command → (input second old new : Option (List ℕ)) → ReaderError → Type 0
@@ -131,6 +152,8 @@ Explained (commands.Lines conversion text) input second old new error =
     IsWithoutType text.now input old new error
     ⊎ ((outcomes : List Outcome)
     × StopsAfter conversion text.now input second old new outcomes error)
+Explained (commands.Diff comparison) input second old new error =
+    ExplainsDiff comparison input second old new error
 
 -- the error that this one reports is so
 abbrev pub IsSo : Command → (input second old new : Option (List ℕ)) → ReaderError → Type 0

@@ -1,13 +1,17 @@
 //! The program `type_reader` over any readers and any writers.
 #![tactic(auto)]
 
+mod compare;
 mod convert;
+mod diff;
 mod encode;
+mod graph;
 mod lines;
 mod listing;
 mod output;
 mod program;
 mod pruning;
+mod reading;
 mod selection;
 mod source;
 mod strip;

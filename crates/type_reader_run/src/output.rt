@@ -2,14 +2,15 @@
 ghost use Rattle.std.specs.Prelude.{◌≡◌, [], IfOk, IfErr};
 ghost use Rattle.type_reader_io.specs.declared.error.ReaderError.TheVariants as reader_error;
 ghost use Rattle.type_reader_run.specs.Listings.{AreListed};
-ghost use Rattle.type_reader_run.specs.Outputs.{IsFinding, IsListing, IsPruning, MakesOf};
+ghost use Rattle.type_reader_run.specs.Outputs.{IsFinding, IsGraph, IsListing, IsPruning, MakesOf};
 ghost use Rattle.type_reader_run.specs.Outputs.{OutputsOf, bytes_of};
-ghost use Rattle.type_reader_run.specs.Refusals.{HasSelectionError, IsMakingError, IsOutputError};
-ghost use Rattle.type_reader_run.specs.Refusals.{IsPruningError};
+ghost use Rattle.type_reader_run.specs.Refusals.{HasSelectionError, IsGraphingError};
+ghost use Rattle.type_reader_run.specs.Refusals.{IsMakingError, IsOutputError, IsPruningError};
 ghost use Rattle.type_reader_run.specs.Selections.{IsSelectionError};
 ghost use Rattle.type_reader_run.specs.Tables.{IsOneTable, source_line};
 
 use crate::convert::converted;
+use crate::graph::graph_of;
 use crate::listing::{all_ids, list_of, titles_of};
 use crate::pruning::pruned;
 use crate::selection::selected;
@@ -138,6 +139,19 @@ fn pruned_to(alloc: Global, table: &[u8], texts: &[Text]) -> Result<Output<'stat
     pruned(alloc, table, &ids)
 }
 
+/// The graph of what the types reach that the texts give.
+///
+/// Errors: as [`selected`] and [`graph_of`].
+fn graphed(alloc: Global, table: &[u8], texts: &[Text]) -> Result<Vec<u8>, ReaderError>
+    requires { IsOneTable table.now }
+    ensures ok { IfOk result (λ output. IsGraph table.now texts.now output.items) }
+    ensures err { IfErr result (IsGraphingError table.now texts.now) }
+{
+    let registry = registry_of(alloc, table)?;
+    let ids = selected(alloc, &registry, texts)?;
+    graph_of(alloc, &registry, &ids)
+}
+
 /// The output of a request for a table, which was found in such an input.
 fn output_for<'a>(
     alloc: Global,
@@ -163,6 +177,7 @@ fn output_for<'a>(
         Request::Prune(texts) => return pruned_to(alloc, table, texts),
         Request::List(texts) => listed(alloc, table, texts)?,
         Request::Find(pattern) => found(alloc, table, pattern)?,
+        Request::Graph(texts) => graphed(alloc, table, texts)?,
         Request::Convert(conversion, text, value) => {
             converted(alloc, *conversion, table, text, value)?
         }

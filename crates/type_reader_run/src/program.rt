@@ -3,7 +3,6 @@ ghost use Rattle.std.specs.Prelude.{◌≡◌, ◌≢◌, ◌≤◌, ◌⊎◌, 
 ghost use Rattle.std.specs.Prelude.{true};
 ghost use Rattle.std.specs.Io.KnownBytes.{IsAtEnd, Keeps};
 ghost use Rattle.type_reader_io.specs.Commands.{HasCommand, IsCommand};
-ghost use Rattle.type_reader_io.specs.Inputs.{IsReadError};
 ghost use Rattle.type_reader_io.specs.Lines.{HasSmallNumber, line_of, usage_line};
 ghost use Rattle.type_reader_io.specs.declared.error.ReaderError.{ReaderError as ReaderErrorValue};
 ghost use Rattle.type_reader_io.specs.declared.error.ReaderError.TheVariants as reader_error;
@@ -17,9 +16,11 @@ ghost use Rattle.type_reader_run.specs.Runs.{RefusesOnce};
 ghost use Rattle.type_reader_run.specs.Tables.{input_bytes};
 ghost use Rattle.type_table_io.specs.Reports.{AppendsPrefix, Reported};
 
+use crate::compare::run_diff;
 use crate::convert::Converter;
 use crate::lines::convert_lines;
 use crate::output::output_of;
+use crate::reading::read_input;
 use crate::table::{Input, find_table, input_of};
 use crate::writing::write_output;
 use scale_info_collections::text::Text;
@@ -30,24 +31,6 @@ use type_reader_io::error::ReaderError;
 use type_reader_io::message::Message;
 use type_reader_io::report::ErrorWriter;
 use type_reader_io::reporter::Reporter;
-use type_table_io::error::RunError;
-use type_table_io::reading::read_to_end;
-
-/// Reads an input to its end.
-///
-/// Errors: `Memory`, if an allocation failed; `Input`, if a read fails.
-fn read_input<R: Read>(alloc: Global, reader: &mut R) -> Result<Vec<u8>, ReaderError>
-    ensures whole { IfOk result (λ input.
-        IfSome (R.remaining reader.old) (λ bytes. input.items ≡ bytes)) }
-    ensures end { OnOk result (IsAtEnd (R.remaining reader.new)) }
-    ensures error { IfErr result IsReadError }
-{
-    match read_to_end(alloc, reader) {
-        Ok(input) => Ok(input),
-        Err(RunError::Memory) => Err(ReaderError::Memory),
-        Err(_) => Err(ReaderError::Input),
-    }
-}
 
 /// Reads the input whole, writes what the request writes for it, and returns the notes.
 ///
@@ -184,7 +167,8 @@ fn run_lines<R: Read, S: BufRead, W: Write, T: Reporter>(
 ///
 /// The status is that of [`run`]. The reporter is given [`Message::Usage`] at status 2, and at
 /// status 0 the notes, if there are any. At status 1 it is given [`Message::BadLine`] for each bad
-/// line, and then the error, if there is one.
+/// line, and then the error, if there is one; where tables were compared and something changed, it
+/// is given nothing.
 pub fn run_with<R: Read, S: BufRead, W: Write, T: Reporter>(
     alloc: Global,
     arguments: &[Text],
@@ -202,7 +186,7 @@ pub fn run_with<R: Read, S: BufRead, W: Write, T: Reporter>(
     ensures unwritten { result ≡ 2 → output.new ≡ output.old }
     ensures usage_reported { result ≡ 2 → T.reported reporter.old reporter.new usage_line }
 
-    // The second input is read only where the command has no last argument.
+    // The second input is read only where the command has no last argument, or compares tables.
     ensures second_unread { result ≢ 2 → HasCommand arguments.now
         (λ command. KeepsSecond command second.old second.new) }
 
@@ -234,15 +218,18 @@ pub fn run_with<R: Read, S: BufRead, W: Write, T: Reporter>(
         Command::Lines(conversion, text) => {
             run_lines(alloc, conversion, text, reader, second, output, reporter)
         }
+        Command::Diff(comparison) => {
+            run_diff(alloc, &comparison, reader, second, output, reporter)
+        }
     }
 }
 
 /// Runs the command that the arguments name, and returns the status.
 ///
 /// The arguments are looked at before anything is read and before memory is asked for. The reader
-/// gives what the second argument names, which the caller has opened; it is read to its end. It
-/// must be a table, with nothing after it, or a node's metadata, or such bytes in hexadecimal
-/// digits. The commands:
+/// gives what TABLE or OLD names, which the caller has opened; it is read to its end. It must be a
+/// table, with nothing after it, or a node's metadata, or such bytes in hexadecimal digits. The
+/// commands:
 ///
 /// - `table TABLE`: the bytes of the table are written to the output, and a line that says what the
 ///   input is to `errors`.
@@ -253,6 +240,12 @@ pub fn run_with<R: Read, S: BufRead, W: Write, T: Reporter>(
 ///   the segments of the pattern, its pieces around `::`, stand in a row.
 /// - `prune TABLE TYPE ..`: the table of what the types reach is written, and a line of each old id
 ///   that is kept and its new one to `errors`.
+/// - `graph TABLE TYPE ..`: what the types reach is written as a graph in the DOT language, which
+///   Graphviz draws.
+/// - `diff [--docs] OLD NEW [PATH ..]`: a line is written for each path of types that are only in
+///   the table of OLD, `- PATH`, only in that of NEW, `+ PATH`, or in both and not the same,
+///   `~ PATH`: first the paths of the old table, in order, and then the added ones. Where paths are
+///   given, only the lines of these are written. Docs count only after `--docs`.
 /// - `value TABLE TYPE [HEX]`: the JSON text of the value of the type that the hexadecimal digits
 ///   write, and a line feed, are written.
 /// - `encode TABLE TYPE [JSON]`: the hexadecimal digits of the encoding of the value of the type
@@ -265,29 +258,30 @@ pub fn run_with<R: Read, S: BufRead, W: Write, T: Reporter>(
 /// not `-`. A line ends with a line feed, which the last one may lack; a carriage return before a
 /// line feed is no part of the line. The output of a line is written before the next line is read.
 /// A bad line has no output, and is reported by its number, counted from 1; the lines after it are
-/// still converted. The other commands read nothing of `second`.
+/// still converted. For `diff`, `second` gives what NEW names, which is as OLD must be, and is read
+/// to its end; one of the two at most is `-`. The other commands read nothing of `second`.
 ///
-/// The status is 0 if that was done, and no line was bad. It is 2 if the arguments are not a
-/// command: then the usage line is written to `errors`. It is 1 if a line was bad, or an error came
-/// up: then these lines are written to `errors`, and nothing to the output but what good lines
-/// give.
+/// The status is 0 if that was done, no line was bad, and nothing changed. It is 2 if the arguments
+/// are not a command: then the usage line is written to `errors`. It is 1 if something changed, as
+/// the lines on the output say; or if a line was bad, or an error came up: then these lines are
+/// written to `errors`, and nothing to the output but what good lines give.
 ///
-/// - `type_reader: malformed`: there is no table in the input.
+/// - `type_reader: malformed`: there is no table in the input, or in one of two.
 /// - `type_reader: trailing bytes`: the input is no metadata, and bytes come after its table.
 /// - `type_reader: metadata of version N`: N is none of 14, 15 and 16.
 /// - `type_reader: no such type N`: N is a given id, and no index of the table.
-/// - `type_reader: no such path PATH`: no type has this path.
+/// - `type_reader: no such path PATH`: no type has this path; where tables are compared, of either.
 /// - `type_reader: several types with path PATH`: one type is to be given.
 /// - `type_reader: no value: no hexadecimal digits`, or `no JSON`, `no such type`, `unsupported`,
 ///   `too deep`, `malformed`, `trailing bytes` or `mismatch` in their place: the last argument
 ///   gives no value of the type.
 /// - `type_reader: line N: no value: mismatch`, or one of the others: the line N is bad.
-/// - `type_reader: dangling id N`: N is reached from the given types, and is no index of the
-///   table.
+/// - `type_reader: dangling id N`: N is reached from the given types, or an entry of a table that
+///   is compared refers to it, and it is no index of the table.
 /// - `type_reader: out of memory`: an allocation failed.
 /// - `type_reader: input failed`: a read failed, or an input did not end within 4294967296 reads.
-/// - `type_reader: output failed`: a write or a flush of the output failed. Where there is no
-///   second input, this line alone may come after a prefix of the output was written.
+/// - `type_reader: output failed`: a write or a flush of the output failed. Where no lines are
+///   converted, this line alone may come after a prefix of the output was written.
 ///
 /// Each line ends with a line feed. If it can't be written, the status is the same.
 pub fn run<R: Read, S: BufRead, W: Write, F: Write>(
@@ -308,7 +302,7 @@ pub fn run<R: Read, S: BufRead, W: Write, F: Write>(
     ensures usage_reported { result ≡ 2
         → AppendsPrefix (F.contents errors.old) (F.contents errors.new) usage_line }
 
-    // The second input is read only where the command has no last argument.
+    // The second input is read only where the command has no last argument, or compares tables.
     ensures second_unread { result ≢ 2 → HasCommand arguments.now
         (λ command. KeepsSecond command second.old second.new) }
 

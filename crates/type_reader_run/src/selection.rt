@@ -1,5 +1,6 @@
 //! Types that are given by their ids or their paths.
-ghost use Rattle.std.specs.Prelude.{◌≡◌, [], ◌∷◌, IfOk, IfErr};
+ghost use Rattle.std.specs.Prelude.{◌≡◌, ◌⊎◌, [], ◌∷◌, IfOk, IfErr};
+ghost use Rattle.type_reader_io.specs.declared.error.ReaderError.TheVariants as reader_error;
 ghost use Rattle.type_reader_run.specs.Selections.{AreNamed, AreSelected, AreWithPath};
 ghost use Rattle.type_reader_run.specs.Selections.{AreSeveral, IsChoiceError, IsNamingError};
 ghost use Rattle.type_reader_run.specs.Selections.{IsSelectionError};
@@ -20,9 +21,11 @@ fn only(alloc: Global, id: u32) -> Result<Vec<u32>, AllocError>
     Ok(ids)
 }
 
-/// The error that no type has this path.
-fn no_such_path(alloc: Global, path: &Text) -> ReaderError
-    ensures { (types : _) → AreWithPath types path.now [] → IsNamingError types path.now result }
+/// The error that no type has this path; that of an allocation, where one failed.
+pub fn no_such_path(alloc: Global, path: &Text) -> ReaderError
+    ensures is { (result ≡ reader_error.NoSuchPath path.now) ⊎ (result ≡ reader_error.Memory) }
+    ensures cause { (types : _)
+        → AreWithPath types path.now [] → IsNamingError types path.now result }
 {
     match Text::from_str(alloc, path.as_str()) {
         Ok(path) => ReaderError::NoSuchPath(path),

@@ -1,0 +1,168 @@
+-- What changed between the tables of two inputs.
+use Rattle.std.specs.Prelude.{◌≡◌, ◌≢◌, ◌++◌, ◌⊎◌, ℕ, List, [], ◌∷◌, All, Bool, true, IfSome, codes}
+use Rattle.std.specs.Prelude.{filter, if◌then◌else◌}
+use Rattle.std.specs.declared.option.Option.{Option}
+use Rattle.std.specs.Io.KnownBytes.{Appends, Keeps}
+use Rattle.std.specs.List.{flat_map, list_any}
+use Rattle.std.specs.Str.{bytes_eq}
+use Rattle.scale_info_diff.specs.TableChanges.{AreTableChanges, AreTableChangesWithDocs}
+use Rattle.scale_info_diff.specs.TableChanges.{HasDanglingReference}
+use Rattle.scale_info_diff.specs.TypesByPath.{ids_of}
+use Rattle.scale_info_diff.specs.declared.change.Change.{Change}
+use Rattle.scale_info_diff.specs.declared.change.Change.TheVariants.{Removed, Added, Changed}
+use Rattle.scale_info_grammar.specs.Ty.{EncodesTypes}
+use Rattle.scale_info_types.specs.declared.ty.PortableType.{PortableType}
+use Rattle.type_reader_io.specs.declared.command.Comparison.{Comparison}
+use Rattle.type_reader_io.specs.declared.command.Docs.{Docs}
+use Rattle.type_reader_io.specs.declared.command.Docs.TheVariants as docs
+use Rattle.type_reader_io.specs.declared.error.ReaderError.{ReaderError}
+use Rattle.type_reader_io.specs.declared.error.ReaderError.TheVariants as errors
+use Rattle.type_reader_run.specs.Tables.{HasTable, IsFoundError, input_bytes}
+use Rattle.type_table_io.specs.Reports.{AppendsPrefix}
+
+-- the path of a change
+abbrev pub path_of : Change → List ℕ
+path_of (Removed path) = path
+path_of (Added path) = path
+path_of (Changed path) = path
+
+-- the line of a change: a sign, a blank and its path
+abbrev pub change_line : Change → List ℕ
+change_line (Removed path) = codes "- " ++ path ++ codes "\n"
+change_line (Added path) = codes "+ " ++ path ++ codes "\n"
+change_line (Changed path) = codes "~ " ++ path ++ codes "\n"
+
+-- whether the change is one of these paths; of any, where there is no path
+abbrev pub is_of : List (List ℕ) → Change → Bool
+is_of [] change = true
+is_of (path ∷ paths) change = list_any (λ p. bytes_eq p (path_of change)) (path ∷ paths)
+
+-- the line of a change that is one of these paths; nothing, where it is none of them
+abbrev pub told_line : List (List ℕ) → Change → List ℕ
+told_line paths change = if is_of paths change then change_line change else []
+
+-- a type of the table has the path
+pub record HasPath (table path : List ℕ) : Type 0 where
+  pub types : List PortableType
+  pub encodes : EncodesTypes types table
+  pub some : ids_of path types ≢ []
+
+-- no type of the table has the path
+pub record LacksPath (table path : List ℕ) : Type 0 where
+  pub types : List PortableType
+  pub encodes : EncodesTypes types table
+  pub none : ids_of path types ≡ []
+
+-- one of the two tables has the path
+abbrev pub IsInEither : (old new path : List ℕ) → Type 0
+IsInEither old new path = HasPath old path ⊎ HasPath new path
+
+-- the changes between the two tables, by whether docs count
+abbrev pub AreChangesBy : Docs → (old new : List ℕ) → List Change → Type 0
+AreChangesBy docs.LeftOut old new changes = AreTableChanges old new changes
+AreChangesBy docs.Compared old new changes = AreTableChangesWithDocs old new changes
+
+-- the bytes have tables, of which one or the other has each path of the comparison, and these are
+-- the changes of its paths between them, in order
+pub record AreTold (comparison : Comparison) (bytes others : List ℕ) (told : List Change)
+    : Type 0 where
+  pub old : List ℕ
+  pub new : List ℕ
+  pub has_old : HasTable bytes old
+  pub has_new : HasTable others new
+  pub known : All (IsInEither old new) comparison.paths.now
+  pub changes : List Change
+  pub changed : AreChangesBy comparison.docs old new changes
+  pub chosen : told ≡ filter (is_of comparison.paths.now) changes
+
+-- so it is, and the output is the lines of these changes
+pub record AreLines (comparison : Comparison) (bytes others output : List ℕ) : Type 0 where
+  pub told : List Change
+  pub are_told : AreTold comparison bytes others told
+  pub lines : output ≡ flat_map change_line told
+
+-- the first path that neither table has is this one
+pub record HasUnknownPath (paths : List (List ℕ)) (old new path : List ℕ) : Type 0 where
+  pub before : List (List ℕ)
+  pub after : List (List ℕ)
+  pub parts : paths ≡ before ++ path ∷ after
+  pub known : All (IsInEither old new) before
+  pub not_old : LacksPath old path
+  pub not_new : LacksPath new path
+
+-- why a path is refused; an allocation may fail
+abbrev pub IsPathError : (paths : List (List ℕ)) → (old new : List ℕ) → ReaderError → Type 0
+IsPathError paths old new (errors.NoSuchPath path) = HasUnknownPath paths old new path
+IsPathError paths old new errors.Memory = Unit {0}
+IsPathError paths old new error = ⊥
+
+-- why a table is not compared: it refers to an id that is no index; or an allocation failed
+abbrev pub IsReferenceError : (table : List ℕ) → ReaderError → Type 0
+IsReferenceError table (errors.Dangling id) = HasDanglingReference table id
+IsReferenceError table errors.Memory = Unit {0}
+IsReferenceError table error = ⊥
+
+-- the bytes have tables, of which neither has the path, which is the first such
+pub record HavePathError (paths : List (List ℕ)) (bytes others path : List ℕ) : Type 0 where
+  pub old : List ℕ
+  pub new : List ℕ
+  pub has_old : HasTable bytes old
+  pub has_new : HasTable others new
+  pub unknown : HasUnknownPath paths old new path
+
+-- the bytes have a table, which refers to this id, and it is no index
+pub record HaveDangling (bytes : List ℕ) (id : ℕ) : Type 0 where
+  pub table : List ℕ
+  pub has_table : HasTable bytes table
+  pub dangling : HasDanglingReference table id
+
+-- why bytes are not compared with any others
+abbrev pub IsOwnError : (bytes : List ℕ) → ReaderError → Type 0
+IsOwnError bytes (errors.Dangling id) = HaveDangling bytes id
+IsOwnError bytes error = IsFoundError bytes error
+
+-- why the changes of the paths between the tables of the bytes are not told; an allocation may fail
+abbrev pub IsDiffError : (paths : List (List ℕ)) → (bytes others : List ℕ) → ReaderError → Type 0
+IsDiffError paths bytes others (errors.NoSuchPath path) = HavePathError paths bytes others path
+IsDiffError paths bytes others errors.Memory = Unit {0}
+IsDiffError paths bytes others error = IsOwnError bytes error ⊎ IsOwnError others error
+
+-- the fact holds of the two inputs, where both are known
+abbrev pub IfBoth : (input second : Option (List ℕ)) → (List ℕ → List ℕ → Type 0) → Type 0
+IfBoth input second P = IfSome input (λ bytes. IfSome second (P bytes))
+
+-- these are the changes of the comparison between the two inputs, and known bytes grow by their
+-- lines
+pub record WritesChanges (comparison : Comparison) (input second old new : Option (List ℕ))
+    (told : List Change) : Type 0 where
+  pub are_told :
+      IfBoth input second (λ bytes others.
+      AreTold comparison (input_bytes bytes) (input_bytes others) told)
+  pub appends : Appends old new (flat_map change_line told)
+
+-- there are changes, and known bytes grow by their lines
+pub record WritesSomeChange (comparison : Comparison) (input second old new : Option (List ℕ))
+    : Type 0 where
+  pub told : List Change
+  pub some : told ≢ []
+  pub writes : WritesChanges comparison input second old new told
+
+-- there are changes between the bytes, and known bytes grow by a prefix of their lines
+pub record WritesInPart (comparison : Comparison) (old new : Option (List ℕ))
+    (bytes others : List ℕ) : Type 0 where
+  pub told : List Change
+  pub are_told : AreTold comparison bytes others told
+  pub appends : AppendsPrefix old new (flat_map change_line told)
+
+-- what an error of a comparison says of the known inputs, and of the output's known bytes before
+-- and after
+abbrev pub ExplainsDiff : Comparison → (input second old new : Option (List ℕ)) → ReaderError
+    → Type 0
+ExplainsDiff comparison input second old new errors.Input = Keeps old new
+ExplainsDiff comparison input second old new errors.Output =
+    IfBoth input second (λ bytes others.
+    WritesInPart comparison old new (input_bytes bytes) (input_bytes others))
+ExplainsDiff comparison input second old new error =
+    IfBoth input second (λ bytes others.
+    IsDiffError comparison.paths.now (input_bytes bytes) (input_bytes others) error)
+    × Keeps old new
