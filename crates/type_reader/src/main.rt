@@ -4,14 +4,17 @@
 //! one is read from a file or from the standard input too.
 #![tactic(auto)]
 
+mod color;
 mod source;
 
+use crate::color::Painter;
 use crate::source::Source;
 use scale_info_collections::text::Text;
-use std::io::{BufRead, BufReader, ErrorKind, Input, Write};
+use std::env::VarError;
+use std::io::{BufRead, BufReader, ErrorKind, Input, IsTerminal, Write};
 use std::process::ExitCode;
 use std::{env, io};
-use type_reader_io::command::{Command, Comparison, command_of};
+use type_reader_io::command::{Command, Comparison, Request, command_of};
 use type_reader_run::run;
 
 /// The arguments after the program's name.
@@ -23,6 +26,30 @@ fn arguments_of(rt: &HostRuntime) -> io::Result<Vec<Text>> {
     Ok(arguments)
 }
 
+/// Runs the command over these inputs and this output, and returns the exit code.
+fn run_to<S: BufRead, W: Write>(
+    rt: &HostRuntime,
+    arguments: &[Text],
+    table: &mut Source,
+    second: &mut S,
+    output: &mut W,
+) -> ExitCode {
+    let mut errors = rt.stderr();
+    ExitCode::from(run(rt.alloc(), arguments, table, second, output, &mut errors))
+}
+
+/// Whether the output is a terminal that shows types, and the variable `NO_COLOR` is not set.
+fn is_painted(rt: &HostRuntime, arguments: &[Text]) -> bool {
+    let is_list = matches!(command_of(arguments), Some(Command::Once(Request::List(_))));
+    if !is_list || !rt.stdout().is_terminal() {
+        return false;
+    }
+    match env::var(rt, "NO_COLOR") {
+        Ok(value) => value.is_empty(),
+        Err(error) => error == VarError::NotPresent,
+    }
+}
+
 /// Runs the command over these inputs, and returns the exit code.
 fn run_over<S: BufRead>(
     rt: &HostRuntime,
@@ -30,15 +57,11 @@ fn run_over<S: BufRead>(
     mut table: Source,
     second: &mut S,
 ) -> ExitCode {
-    let (mut output, mut errors) = (rt.stdout(), rt.stderr());
-    ExitCode::from(run(
-        rt.alloc(),
-        arguments,
-        &mut table,
-        second,
-        &mut output,
-        &mut errors,
-    ))
+    if is_painted(rt, arguments) {
+        let mut output = Painter::new(rt.stdout());
+        return run_to(rt, arguments, &mut table, second, &mut output);
+    }
+    run_to(rt, arguments, &mut table, second, &mut rt.stdout())
 }
 
 /// Says that an allocation failed, and returns the exit code.
