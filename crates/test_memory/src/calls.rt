@@ -10,6 +10,7 @@ use test_memory_build::{
 };
 use test_memory_common::outcomes::Outcome;
 use test_memory_common::types::catalogue;
+use test_memory_lent::{changes, graphs, lent_tables};
 use test_memory_parts::{copies, interners as texts, lists, looks as parts, moves, orders};
 use test_memory_tables::{
     builders, bytes, conversions, discoveries, exports, interners, json, looks, prunings,
@@ -275,19 +276,25 @@ fn call_of_people(rt: &HostRuntime, name: &str, input: &str) -> Result<Outcome, 
         "table_of" => people::find_table(rt, input),
         "append_without_docs" => people::strip(rt, input),
         "same_types" => people::compare(rt, input),
+        "append_graph" => graphs::append(rt, input),
+        "changes" | "changes_with_docs" => changes::list(rt, name, input),
         _ => call_of_passes(rt, name, input),
     }
 }
 
-/// Makes the call of this name: a pass, a run of the program `type_table`, or one on a view.
+/// Makes the call of this name: a pass, a run of the program `type_table`, or one on a view or on
+/// what is lent.
 fn call_of_passes(rt: &HostRuntime, name: &str, input: &str) -> Result<Outcome, Fail> {
     match name {
         "pass" => passes::pass(rt, input),
         "index_entries" => passes::index(rt, input),
         "run" => runs::run(rt, input),
-        _ => match name.strip_prefix("TableView::") {
-            Some(name) => call_of_views(rt, name, input),
-            None => Err(Fail::new("no call has this name")),
+        "decode_type" => lent_tables::decode_description(rt, input),
+        "owned_type" => lent_tables::copy(rt, input),
+        _ => match name.split_once("::") {
+            Some(("TableView", name)) => call_of_views(rt, name, input),
+            Some(("LentTable", name)) => lent_tables::call(rt, name, input),
+            _ => Err(Fail::new("no call has this name")),
         },
     }
 }

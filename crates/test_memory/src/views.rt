@@ -11,6 +11,7 @@ use test_memory_common::inputs::bytes_of;
 use test_memory_common::marked;
 use test_memory_common::marks::{begin, end};
 use test_memory_common::outcomes::Outcome;
+use test_memory_lent::lent_tables::indexed;
 use test_memory_tables::bytes::with_rest;
 use test_memory_tables::prunings::walked;
 
@@ -40,12 +41,6 @@ pub fn to_owned(rt: &HostRuntime, row: &str) -> Result<Outcome, Fail> {
     let view = TableView::new(rt.alloc(), &bytes)?;
     let returned = marked!(rt; view.try_to_owned(rt.alloc()));
     Outcome::of(encoded(rt.alloc(), returned))
-}
-
-/// The index and the bytes of a row, with a colon between them.
-fn indexed(alloc: Global, row: &str) -> Result<(u32, Vec<u8>), Fail> {
-    let (index, input) = parted(row, ':')?;
-    Ok((index.parse()?, bytes_of(alloc, input.trim())?))
 }
 
 /// The outcome of a part that may be there, which is shown by its encoding.
