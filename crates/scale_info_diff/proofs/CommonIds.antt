@@ -1,9 +1,9 @@
 -- The ids of paths in both tables, path by path.
-use Rattle.std.proofs.Common.{◌≡◌, ◌≢◌, ◌∙◌, ◌++◌, ◌∷◌, ◌<◌, ◌==◌, inl, inr, ℕ, Bool, true, false, List, [], All, length, map, get_or}
+use Rattle.std.proofs.Common.{◌≡◌, ◌≢◌, ◌∙◌, ◌++◌, ◌∷◌, ◌<◌, ◌==◌, inl, inr, ℕ, Bool, true, false, List, [], All, length, map, get_or, drop, ◌+◌}
 use Rattle.std.proofs.Common.{ap, sym, subst, refl, arith, append-nil, append_assoc}
 use Rattle.std.proofs.lemmas.Bool.{false≢true}
 use Rattle.std.proofs.lemmas.Bool.Decides.{eqb_tells}
-use Rattle.std.proofs.lemmas.List.{nil_from_length}
+use Rattle.std.proofs.lemmas.List.{drop_more, nil_from_length}
 use Rattle.std.proofs.lemmas.List.Elements.{All-cons, All-nil}
 use Rattle.std.proofs.lemmas.Option.{slice_get-get_or}
 use Rattle.std.specs.List.{flat_map}
@@ -33,6 +33,14 @@ pub record IsCommonSoFar (types others : List PortableType) (paths left : List T
 pub at_start :
     (types others : List PortableType) (paths : List Text) → IsCommonSoFar types others paths paths [] []
 at_start types others paths = record { counts = λ all. all; own_so_far = refl; theirs_so_far = refl }
+
+-- the next path, before those after it
+pub at_path :
+    (types others : List PortableType) (paths : List Text) (i : ℕ) (p : Text) (common other_ids : List ℕ)
+    → i < length paths → IsCommonSoFar types others paths (drop i paths) common other_ids
+    → IsCommonSoFar types others paths (get_or paths i p ∷ drop (i + 1) paths) common other_ids
+at_path types others paths i p common other_ids within x =
+    subst (λ ps. IsCommonSoFar types others paths ps common other_ids) (drop_more paths i p within) x
 
 -- after the last path
 pub at_end :

@@ -1,6 +1,7 @@
 pub mod AddedIds
 pub mod CommonIds
 pub mod Compared
+pub mod Differences
 pub mod Encoded
 pub mod Inputs
 pub mod Listed

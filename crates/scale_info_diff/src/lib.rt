@@ -2,10 +2,12 @@
 //!
 //! [`changes::changes`] lists the paths of types that are gone, new, or no longer the same; docs
 //! don't count. [`changes::changes_with_docs`] does so where docs count.
+//! [`difference::first_difference`] finds where types of two tables differ first.
 #![tactic(auto)]
 
 pub mod change;
 pub mod changes;
 mod compare;
+pub mod difference;
 mod named;
 mod paths;

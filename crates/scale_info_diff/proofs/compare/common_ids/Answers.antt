@@ -1,8 +1,8 @@
-use Rattle.std.proofs.Common.{◌≡◌, ◌≢◌, ◌∙◌, ◌+◌, ◌++◌, ap, drop, get_or, length, sym, subst, arith}
+use Rattle.std.proofs.Common.{◌≡◌, ◌≢◌, ◌∙◌, ◌+◌, ◌++◌, ap, drop, get_or, length, sym, arith}
 use Rattle.std.proofs.lemmas.Grind.{common_steps}
-use Rattle.std.proofs.lemmas.List.{drop_all, drop_more}
+use Rattle.std.proofs.lemmas.List.{drop_all}
 use Rattle.std.proofs.lemmas.List.Elements.{Contains-get_or}
-use Rattle.scale_info_diff.proofs.CommonIds.{IsCommonSoFar, after_none, after_some, at_end, is_none, is_some, other_count, row_of}
+use Rattle.scale_info_diff.proofs.CommonIds.{after_none, after_some, at_end, at_path, is_none, is_some, other_count, row_of}
 use Rattle.scale_info_diff.specs.TypesByPath.{ids_of}
 use Rattle.scale_info_diff.proofs.compare.common_ids.Goals as goal
 
@@ -14,8 +14,8 @@ loop-index-preserved-then-is_empty c = λ types others x y.
     let other_ids = c.loop-index.others.items in
     let none = is_none c.ids_of-there.result.now c.is_empty.result c.is_empty.ensures c.if-is_empty.true in
     after_none types others paths (get_or paths i c.index-paths-index.result) (drop (i + 1) paths) common other_ids
-    (subst (λ ps. IsCommonSoFar types others paths ps common other_ids)
-    (drop_more paths i c.index-paths-index.result c.loop-index-test.true) (c.loop-index.invariant types others x y))
+    (at_path types others paths i c.index-paths-index.result common other_ids c.loop-index-test.true
+    (c.loop-index.invariant types others x y))
     (sym (c.ids_of-there.ensures others x ∙ ap (λ p. ids_of p others) c.index-paths-index.is) ∙ none)
 
 pub returns-then-there-len : goal.returns-then-there-len
@@ -33,8 +33,8 @@ returns-then-there-len c = λ types others x y.
       one = Contains-get_or paths i c.index-paths-index.result c.loop-index-test.true;
       other =
           other_count types others paths (get_or paths i c.index-paths-index.result) (drop (i + 1) paths) common other_ids
-          (subst (λ ps. IsCommonSoFar types others paths ps common other_ids)
-          (drop_more paths i c.index-paths-index.result c.loop-index-test.true) (c.loop-index.invariant types others x y))
+          (at_path types others paths i c.index-paths-index.result common other_ids c.loop-index-test.true
+          (c.loop-index.invariant types others x y))
           row there
           (row_of (λ v. v.items) types paths c.args.ids.now i c.index-paths-index.result c.index-ids-index.result
           c.loop-index-test.true c.requires y)
@@ -52,8 +52,8 @@ loop-index-preserved c = λ types others x y.
     let some = is_some there c.is_empty.result c.is_empty.ensures c.if-is_empty.false in
     let equal : length there ≡ length row = grind (arith, common_steps) in
     after_some types others paths (get_or paths i c.index-paths-index.result) (drop (i + 1) paths) common other_ids
-    (subst (λ ps. IsCommonSoFar types others paths ps common other_ids)
-    (drop_more paths i c.index-paths-index.result c.loop-index-test.true) (c.loop-index.invariant types others x y))
+    (at_path types others paths i c.index-paths-index.result common other_ids c.loop-index-test.true
+    (c.loop-index.invariant types others x y))
     row there c.extend_from_slice.new.self.items c.extend_from_slice-in-loop-index.new.self.items
     (row_of (λ v. v.items) types paths c.args.ids.now i c.index-paths-index.result c.index-ids-index.result
     c.loop-index-test.true c.requires y)

@@ -1,0 +1,62 @@
+-- Pruned tables, compared place by place.
+use Rattle.std.proofs.Common.{◌≡◌, ◌∙◌, ◌++◌, ℕ, List, [], Some, ap, length, slice_get, subst, sym, refl, arith}
+use Rattle.std.proofs.lemmas.List.{length-map}
+use Rattle.std.proofs.lemmas.Option.{slice_get_within}
+use Rattle.std.specs.BTreeMap.{BTreeMap, get}
+use Rattle.std.specs.Ordering.{nat_cmp}
+use Rattle.scale_info_bytes.specs.declared.error.DecodeError.TheVariants as decode
+use Rattle.scale_info_grammar.specs.Ty.{EncodesTypes}
+use Rattle.scale_info_numberings.proofs.Places.{element_at}
+use Rattle.scale_info_prune.specs.Prunes.{HasNewIds, IsPruneError, IsPrunedEncoding, IsTableError}
+use Rattle.scale_info_prune.specs.declared.prune.PruneError.{PruneError}
+use Rattle.scale_info_prune.specs.declared.prune.PruneError.TheVariants.{Decode, Encode, Memory}
+use Rattle.scale_info_prune.specs.declared.prune.PruneError.TheVariants.{NoSuchType, Retain}
+use Rattle.scale_info_prune.specs.declared.prune.PruneError.TheVariants.{Trailing}
+use Rattle.scale_info_types.specs.declared.ty.PortableType.{PortableType}
+use Rattle.scale_info_walk.specs.TypeSystems.{entry_of}
+use Rattle.scale_info_diff.proofs.Encoded.{has_prefix, no_trailing, one_table}
+use Rattle.scale_info_diff.specs.Differences.{IsPrunedTo}
+
+-- what pruning appends to no bytes encodes the entries that it keeps
+pub kept_encoding :
+    (input given order old new : List ℕ) → old ≡ [] → (x : IsPrunedEncoding input given order old new)
+    → EncodesTypes x.kept new
+kept_encoding input given order old new none x =
+    subst (EncodesTypes x.kept)
+    (sym (x.appends.parts ∙ ap (λ xs. xs ++ x.appends.encoding) none)) x.appends.encodes
+
+-- bytes that encode types are refused for memory alone
+pub only_memory :
+    (types : List PortableType) (bytes input given : List ℕ)
+    → EncodesTypes types bytes → (e : PruneError) → IsTableError bytes e → IsPruneError input given e
+only_memory types bytes input given x (Decode decode.Malformed) h = absurd (has_prefix types bytes x h)
+only_memory types bytes input given x (Decode decode.Memory) h = absurd h
+only_memory types bytes input given x Trailing h = absurd (no_trailing types bytes x h)
+only_memory types bytes input given x (NoSuchType id) h = absurd h
+only_memory types bytes input given x (Retain e) h = absurd h
+only_memory types bytes input given x (Encode e) h = absurd h
+only_memory types bytes input given x Memory h = tt
+
+-- an entry that is kept has an old id
+pub old_id :
+    (input given order : List ℕ) (kept : List PortableType) (place : ℕ) (entry : PortableType)
+    → IsPrunedTo input given order kept → slice_get kept place ≡ Some entry
+    → (id : ℕ) × (slice_get order place ≡ Some id)
+old_id input given order kept place entry x found =
+    let same = one_table kept x.pruned.kept x.bytes x.encodes (kept_encoding input given order [] x.bytes refl x.pruned) in
+    let within = slice_get_within kept place entry found in
+    let long = ap length same in
+    let lists = length-map x.pruned.kept entry_of in
+    let table = x.pruned.table.long in
+    element_at order place (omega arith)
+
+-- the place of an entry that is kept is that of an old id
+pub kept_place :
+    (input given order : List ℕ) (kept entries : List PortableType) (places : BTreeMap ℕ ℕ)
+    (place : ℕ) (entry : PortableType)
+    → HasNewIds order places → IsPrunedTo input given order kept
+    → entries ≡ kept → slice_get entries place ≡ Some entry
+    → (id : ℕ) × (get nat_cmp places id ≡ Some place)
+kept_place input given order kept entries places place entry new_ids x is found =
+    let at = old_id input given order kept place entry x (subst (λ es. slice_get es place ≡ Some entry) is found) in
+    (at.0, (new_ids at.0 place).1 at.1)

@@ -1,0 +1,59 @@
+use Rattle.std.proofs.Common.{List, subst}
+use Rattle.scale_info_types.specs.declared.ty.PortableType.{PortableType}
+use Rattle.scale_info_diff.proofs.Differences.{kept_place}
+use Rattle.scale_info_diff.specs.Differences.{AgreeThroughout, IsFirstPlace}
+use Rattle.scale_info_diff.proofs.difference.first_difference.Goals as goal
+
+pub returns-in_default-clause-ok : goal.returns-in_default-clause-ok
+returns-in_default-clause-ok c =
+    let x = c.in_ok-table.ensures.ok in
+    let y = c.in_ok-other_table.ensures.ok in
+    record {
+      order = x.0;
+      other_order = y.0;
+      entries = c.in_ok-table.table.types;
+      others = c.in_ok-other_table.other_table.types;
+      pruned = x.2;
+      other_pruned = y.2;
+      tells =
+          subst (λ (es : List PortableType). AgreeThroughout es c.in_ok-other_table.other_table.types) c.types.ensures
+          (subst (λ (es : List PortableType). AgreeThroughout c.types.result.now es) c.types-2.ensures
+          c.in_default.ensures.none);
+    }
+
+pub id_at-requires : goal.id_at-requires
+id_at-requires c =
+    let x = c.in_ok-table.ensures.ok in
+    let first = c.in-Some.ensures.some in
+    kept_place c.args.old.now c.args.old_ids.now x.0 c.in_ok-table.table.types c.types.result.now
+    c.in_ok-table.places c.in-Some.place first.entry x.1 x.2 c.types.ensures first.found
+
+pub id_at-requires-2 : goal.id_at-requires-2
+id_at-requires-2 c =
+    let y = c.in_ok-other_table.ensures.ok in
+    let first = c.in-Some.ensures.some in
+    kept_place c.args.new.now c.args.new_ids.now y.0 c.in_ok-other_table.other_table.types c.types-2.result.now
+    c.in_ok-other_table.other_places c.in-Some.place first.other y.1 y.2 c.types-2.ensures first.other_found
+
+pub returns-clause-ok : goal.returns-clause-ok
+returns-clause-ok c =
+    let x = c.in_ok-table.ensures.ok in
+    let y = c.in_ok-other_table.ensures.ok in
+    record {
+      order = x.0;
+      other_order = y.0;
+      entries = c.in_ok-table.table.types;
+      others = c.in_ok-other_table.other_table.types;
+      pruned = x.2;
+      other_pruned = y.2;
+      tells = record {
+        place = c.in-Some.place;
+        first =
+            subst (λ (es : List PortableType). IsFirstPlace es c.in_ok-other_table.other_table.types c.in-Some.place)
+            c.types.ensures
+            (subst (λ (es : List PortableType). IsFirstPlace c.types.result.now es c.in-Some.place) c.types-2.ensures
+            c.in-Some.ensures.some);
+        is = (x.1 c.id_at.result c.in-Some.place).0 c.id_at.ensures;
+        other_is = (y.1 c.id_at-2.result c.in-Some.place).0 c.id_at-2.ensures;
+      };
+    }

@@ -1,0 +1,53 @@
+-- Where two tables differ first, from given ids on.
+use Rattle.std.specs.Prelude.{◌≡◌, ◌≢◌, ◌<◌, ℕ, List, [], Option, Some, MatchOption, slice_get}
+use Rattle.scale_info_grammar.specs.Ty.{EncodesTypes}
+use Rattle.scale_info_prune.specs.Prunes.{IsPrunedEncoding}
+use Rattle.scale_info_types.specs.declared.ty.PortableType.{PortableType}
+
+-- what pruning the input to the given ids keeps: the old ids of the entries, in depth-first order
+-- of discovery, and the entries, in which each reference is the place of an entry
+pub record IsPrunedTo (input given order : List ℕ) (kept : List PortableType) : Type 0 where
+  pub bytes : List ℕ
+  pub pruned : IsPrunedEncoding input given order [] bytes
+  pub encodes : EncodesTypes kept bytes
+
+-- at each place below this one both lists have the same entry
+abbrev pub AgreeBelow : ℕ → List PortableType → List PortableType → Type 0
+AgreeBelow place entries others = (i : ℕ) → i < place → slice_get entries i ≡ slice_get others i
+
+-- at no place do both lists have entries that differ
+abbrev pub AgreeThroughout : List PortableType → List PortableType → Type 0
+AgreeThroughout entries others =
+    (i : ℕ) (a b : PortableType)
+    → slice_get entries i ≡ Some a → slice_get others i ≡ Some b → a ≡ b
+
+-- this is the first place at which both lists have entries that differ
+pub record IsFirstPlace (entries others : List PortableType) (place : ℕ) : Type 0 where
+  pub below : AgreeBelow place entries others
+  pub entry : PortableType
+  pub other : PortableType
+  pub found : slice_get entries place ≡ Some entry
+  pub other_found : slice_get others place ≡ Some other
+  pub differ : entry ≢ other
+
+-- these are the old ids at the first place at which both lists have entries that differ
+pub record IsFirstDifference (order other_order : List ℕ) (entries others : List PortableType)
+    (id other_id : ℕ) : Type 0 where
+  pub place : ℕ
+  pub first : IsFirstPlace entries others place
+  pub is : slice_get order place ≡ Some id
+  pub other_is : slice_get other_order place ≡ Some other_id
+
+-- the tables that two inputs encode, each pruned to its ids, differ first at these old ids; or they
+-- differ at no place that both have
+pub record TellsDifference (old old_ids new new_ids : List ℕ)
+    (found : Option (ℕ × ℕ)) : Type 0 where
+  pub order : List ℕ
+  pub other_order : List ℕ
+  pub entries : List PortableType
+  pub others : List PortableType
+  pub pruned : IsPrunedTo old old_ids order entries
+  pub other_pruned : IsPrunedTo new new_ids other_order others
+  pub tells :
+      MatchOption found (AgreeThroughout entries others)
+      (λ ids. IsFirstDifference order other_order entries others ids.0 ids.1)
