@@ -1,12 +1,14 @@
 -- Paths and ids, type by type.
-use Rattle.std.proofs.Common.{◌≡◌, ◌≢◌, ◌∙◌, ◌+◌, ◌++◌, ◌∷◌, ◌⊎◌, ◌||◌, inl, inr, ℕ, zero, suc, Bool, true, false, not, List, []}
+use Rattle.std.proofs.Common.{◌≡◌, ◌≢◌, ◌∙◌, ◌+◌, ◌++◌, ◌∷◌, ◌⊎◌, ◌≤◌, inl, inr, ℕ, zero, suc, Bool, true, false, not, List, []}
 use Rattle.std.proofs.Common.{map, option_map, Some, Contains, length, slice_get, slice_set, ap, sym, subst, refl, arith}
 use Rattle.std.proofs.Common.{append-nil, append_assoc, length-append}
+use Rattle.std.specs.Bool.{Decides}
 use Rattle.std.specs.List.{AllZip}
 use Rattle.std.specs.Str.{bytes_eq}
 use Rattle.std.proofs.lemmas.Bool.{false≢true}
-use Rattle.std.proofs.lemmas.Bool.Decides.{eqb_tells}
+use Rattle.std.proofs.lemmas.Bool.Decides.{Decides-like, Decides-not, Decides-or}
 use Rattle.std.proofs.lemmas.List.{length-set, map-set, map_push}
+use Rattle.std.proofs.lemmas.List.Elements.{Contains-append_left, Contains-append_right}
 use Rattle.std.proofs.lemmas.Option.{none-some, same_Some, slice_get-map, slice_get_within}
 use Rattle.std.proofs.lemmas.Slice.Eq.{bytes_eq-Decides}
 use Rattle.scale_info_describe.specs.PathSearches.{indices_from}
@@ -16,54 +18,34 @@ use Rattle.scale_info_numberings.proofs.Places.{contains_at, contains_cases, con
 use Rattle.scale_info_segments.specs.TypePaths.{joined}
 use Rattle.scale_info_types.specs.Portable.{Text}
 use Rattle.scale_info_types.specs.declared.ty.PortableType.{PortableType}
+use Rattle.scale_info_walk.proofs.Visiting.{same_or_not, set_at, set_other}
+use Rattle.scale_info_diff.proofs.Reaches.{decided, not_in_none, refuted}
 use Rattle.scale_info_diff.specs.NamedTables.{IsNamedTable}
 use Rattle.scale_info_diff.specs.TypesByPath.{AddsId, AreIdsByPath, has_path, ids_of, is_among, is_new, new_paths, paths_of}
 
 -- ---- the tests
 
-equal_texts : (s t : Text) → (bytes_eq s t ≡ true) ⊎ (s ≢ t × (bytes_eq s t ≡ false))
-equal_texts s t = by (bytes_eq s t) refl
-  where
-    by : (b : Bool) → bytes_eq s t ≡ b → (bytes_eq s t ≡ true) ⊎ (s ≢ t × (bytes_eq s t ≡ false))
-    by true e = inl e
-    by false e = inr (λ same. false≢true (sym e ∙ (bytes_eq-Decides s t).1 same), e)
-
 unequal : (s t : Text) → s ≢ t → bytes_eq s t ≡ false
-unequal s t other =
-    elim (equal_texts s t) [
-      | inl e ↦ absurd (other ((bytes_eq-Decides s t).0 e))
-      | inr e ↦ e.1
-    ]
+unequal s t other = refuted (bytes_eq s t) (bytes_eq-Decides s t) other
 
-not_in_none : {A : Type 0} (x : A) → Contains [] x → ⊥
-not_in_none x c = none-some x (place_of [] x c).1
-
-or_false : (a b : Bool) → a ≡ false → b ≡ false → (a || b) ≡ false
-or_false true b p q = absurd (false≢true (sym p))
-or_false false b p q = q
-
-or_second : (a b : Bool) → b ≡ true → (a || b) ≡ true
-or_second true b q = refl
-or_second false b q = q
-
-or_first : (a b : Bool) → a ≡ true → (a || b) ≡ true
-or_first true b p = refl
-or_first false b p = absurd (false≢true p)
-
-not_among : (known : List Text) (path : Text) → (Contains known path → ⊥) → is_among known path ≡ false
-not_among [] path new = refl
-not_among (p ∷ known) path new =
-    or_false (bytes_eq path p) (is_among known path)
-    (unequal path p (λ same. new (subst (λ x. Contains (p ∷ known) x) (sym same) (contains_head p known))))
-    (not_among known path (λ c. new (contains_tail p known path c)))
-
-among : (known : List Text) (path : Text) → Contains known path → is_among known path ≡ true
-among [] path c = absurd (not_in_none path c)
-among (p ∷ known) path c =
+among-Decides : (known : List Text) (path : Text) → Decides (is_among known path) (Contains known path)
+among-Decides [] path = (λ e. absurd (false≢true e), λ c. absurd (not_in_none path c))
+among-Decides (p ∷ known) path =
+    Decides-like (is_among (p ∷ known) path)
+    (λ either.
+    elim either [
+      | inl same ↦ subst (λ x. Contains (p ∷ known) x) (sym same) (contains_head p known)
+      | inr later ↦ contains_tail p known path later
+    ])
+    (λ c.
     elim (contains_cases p known path c) [
-      | inl same ↦ or_first (bytes_eq path p) (is_among known path) ((bytes_eq-Decides path p).1 (sym same))
-      | inr later ↦ or_second (bytes_eq path p) (is_among known path) (among known path later)
-    ]
+      | inl same ↦ inl (sym same)
+      | inr later ↦ inr later
+    ])
+    (Decides-or (bytes_eq path p) (is_among known path) (bytes_eq-Decides path p) (among-Decides known path))
+
+known_or_new : (known : List Text) (p : Text) → Contains known p ⊎ (Contains known p → ⊥)
+known_or_new known p = decided _ (among-Decides known p)
 
 test_is : (path : Text) (segments : List Text) → segments ≢ [] → has_path path segments ≡ bytes_eq path (joined segments)
 test_is path [] some = absurd (some refl)
@@ -86,14 +68,14 @@ module _ (e : PortableType) (es : List PortableType) where
       (known : List Text) → e.ty.path.segments ≢ [] → Contains known path
       → new_paths known (e ∷ es) ≡ new_paths known es
   paths_known known some c =
-      let isnt = new_is known e.ty.path.segments some ∙ ap not (among known path c) in
+      let isnt = new_is known e.ty.path.segments some ∙ ap not ((among-Decides known path).1 c) in
       rw isnt refl
 
   paths_new :
       (known : List Text) → e.ty.path.segments ≢ [] → (Contains known path → ⊥)
       → new_paths known (e ∷ es) ≡ path ∷ new_paths (known ++ path ∷ []) es
   paths_new known some c =
-      let is = new_is known e.ty.path.segments some ∙ ap not (not_among known path c) in
+      let is = new_is known e.ty.path.segments some ∙ (Decides-not (is_among known path) (among-Decides known path)).1 c in
       rw is refl
 
   ids_unnamed :
@@ -123,33 +105,9 @@ seen_later :
     → (later : List Text) → known ++ new_paths known (e ∷ es) ≡ later → (Contains later p → ⊥)
 seen_later known e es p new later is = subst (λ (ps : List Text). Contains ps p → ⊥) is new
 
-in_second : {A : Type 0} (xs ys : List A) (x : A) → Contains ys x → Contains (xs ++ ys) x
-in_second [] ys x c = c
-in_second (y ∷ xs) ys x c = contains_tail y (xs ++ ys) x (in_second xs ys x c)
-
-in_first : {A : Type 0} (xs ys : List A) (x : A) → Contains xs x → Contains (xs ++ ys) x
-in_first [] ys x c = absurd (not_in_none x c)
-in_first (y ∷ xs) ys x c =
-    elim (contains_cases y xs x c) [
-      | inl same ↦ subst (λ z. Contains (y ∷ (xs ++ ys)) z) same (contains_head y (xs ++ ys))
-      | inr later ↦ contains_tail y (xs ++ ys) x (in_first xs ys x later)
-    ]
-
 no_or_some : (segments : List Text) → (segments ≡ []) ⊎ (segments ≢ [])
 no_or_some [] = inl refl
 no_or_some (s ∷ ss) = inr (λ e. absurd (omega (arith, ap length e)))
-
-known_or_new : (known : List Text) (p : Text) → Contains known p ⊎ (Contains known p → ⊥)
-known_or_new [] p = inr (not_in_none p)
-known_or_new (k ∷ known) p =
-    elim (equal_texts p k) [
-      | inl e ↦ inl (subst (λ z. Contains (k ∷ known) z) (sym ((bytes_eq-Decides p k).0 e)) (contains_head k known))
-      | inr e ↦
-          elim (known_or_new known p) [
-            | inl c ↦ inl (contains_tail k known p c)
-            | inr c ↦ inr (λ d. elim (contains_cases k known p d) [ inl same ↦ e.0 (sym same) | inr later ↦ c later ])
-          ]
-    ]
 
 -- a path that is none of those that were listed has no id
 pub unlisted :
@@ -165,7 +123,7 @@ unlisted n known (e ∷ es) p new =
       | inr some ↦
           elim (known_or_new known (joined e.ty.path.segments)) [
             | inl c ↦
-                ids_other e es n p some (λ same. new (in_first known (new_paths known (e ∷ es)) p (subst (λ z. Contains known z) (sym same) c)))
+                ids_other e es n p some (λ same. new (Contains-append_left known (new_paths known (e ∷ es)) p (subst (λ z. Contains known z) (sym same) c)))
                 ∙ unlisted (n + 1) known es p
                 (seen_later known e es p new (known ++ new_paths known es) (ap (λ ps. known ++ ps) (paths_known e es known some c)))
             | inr c ↦
@@ -175,7 +133,7 @@ unlisted n known (e ∷ es) p new =
                 (λ same. new
                 (subst (λ (ps : List Text). Contains (known ++ ps) p) (sym is)
                 (subst (λ z. Contains (known ++ path ∷ new_paths (known ++ path ∷ []) es) z) (sym same)
-                (in_second known (path ∷ new_paths (known ++ path ∷ []) es) path (contains_head path (new_paths (known ++ path ∷ []) es))))))
+                (Contains-append_right known (path ∷ new_paths (known ++ path ∷ []) es) path (contains_head path (new_paths (known ++ path ∷ []) es))))))
                 ∙ unlisted (n + 1) (known ++ path ∷ []) es p
                 (seen_later known e es p new ((known ++ path ∷ []) ++ new_paths (known ++ path ∷ []) es)
                 (ap (λ ps. known ++ ps) is ∙ sym (append_assoc known (path ∷ []) (new_paths (known ++ path ∷ []) es))))
@@ -183,29 +141,6 @@ unlisted n known (e ∷ es) p new =
     ]
 
 -- ---- lists with one element changed or added
-
-same_or_not : (i j : ℕ) → (i ≡ j) ⊎ (i ≢ j)
-same_or_not i j =
-    elim (eqb_tells i j) [
-      | inl h ↦ inl h.1
-      | inr h ↦ inr h.1
-    ]
-
-set_here :
-    {A : Type 0} (xs : List A) (k : ℕ) (x y : A)
-    → slice_get xs k ≡ Some x → slice_get (slice_set xs k y) k ≡ Some y
-set_here [] k x y e = absurd (none-some x e)
-set_here (z ∷ xs) zero x y e = refl
-set_here (z ∷ xs) (suc k) x y e = set_here xs k x y e
-
-set_other :
-    {A : Type 0} (xs : List A) (k j : ℕ) (y : A)
-    → j ≢ k → slice_get (slice_set xs k y) j ≡ slice_get xs j
-set_other [] k j y another = refl
-set_other (z ∷ xs) zero zero y another = absurd (another refl)
-set_other (z ∷ xs) zero (suc j) y another = refl
-set_other (z ∷ xs) (suc k) zero y another = refl
-set_other (z ∷ xs) (suc k) (suc j) y another = set_other xs k j y (λ e. another (ap suc e))
 
 pushed_at :
     {A : Type 0} (xs : List A) (y : A) (k : ℕ) (x : A)
@@ -227,6 +162,7 @@ pub record IsSoFar (types : List PortableType) (n : ℕ) (es : List PortableType
     (rows : List (List ℕ)) : Type 0 where
   pub listed : paths ++ new_paths paths es ≡ paths_of types
   pub long : length rows ≡ length paths
+  pub few : length paths ≤ n
   pub distinct : (i j : ℕ) (p : Text) → slice_get paths i ≡ Some p → slice_get paths j ≡ Some p → i ≡ j
   pub known :
       (k : ℕ) (p : Text) (row : List ℕ) → slice_get paths k ≡ Some p → slice_get rows k ≡ Some row
@@ -239,6 +175,7 @@ at_start types =
     record {
       listed = refl;
       long = refl;
+      few = omega arith;
       distinct = λ i j p e h. absurd (none-some p e);
       known = λ k p row e h. absurd (none-some p e);
       unknown = λ p new. refl;
@@ -272,6 +209,7 @@ module _ (types : List PortableType) (n : ℕ) (e : PortableType) (es : List Por
       record {
         listed = ap (λ ps. paths ++ ps) (sym (paths_unnamed e es paths none)) ∙ x.listed;
         long = x.long;
+        few = omega (arith, x.few);
         distinct = x.distinct;
         known = λ k p row s h. ap (λ is. row ++ is) (sym (ids_unnamed e es n p none)) ∙ x.known k p row s h;
         unknown = λ p new. sym (ids_unnamed e es n p none) ∙ x.unknown p new;
@@ -289,6 +227,7 @@ module _ (types : List PortableType) (n : ℕ) (e : PortableType) (es : List Por
       record {
         listed = ap (λ ps. paths ++ ps) (sym (paths_known e es paths some inside)) ∙ x.listed;
         long = ap length is ∙ length-set rows k (row ++ n ∷ []) ∙ x.long;
+        few = omega (arith, x.few);
         distinct = x.distinct;
         known = λ j p other s h.
             elim (same_or_not j k) [
@@ -298,7 +237,7 @@ module _ (types : List PortableType) (n : ℕ) (e : PortableType) (es : List Por
                   let is_row : other ≡ row ++ n ∷ [] =
                   same_Some other (row ++ n ∷ [])
                   (sym h ∙ ap (λ rs. slice_get rs j) is ∙ ap (λ i. slice_get (slice_set rows k (row ++ n ∷ [])) i) same
-                  ∙ set_here rows k row (row ++ n ∷ []) at) in
+                  ∙ set_at rows k (row ++ n ∷ []) (slice_get_within rows k row at)) in
                   ap (λ r. r ++ indices_from (n + 1) (has_path p) es) is_row
                   ∙ append_assoc row (n ∷ []) (indices_from (n + 1) (has_path p) es)
                   ∙ ap (λ is. row ++ is) (sym (ids_here e es n p some is_path))
@@ -331,6 +270,7 @@ module _ (types : List PortableType) (n : ℕ) (e : PortableType) (es : List Por
             ∙ ap (λ ps. paths ++ ps) (sym (paths_new e es paths some new)) ∙ x.listed;
         long =
             length-append rows ((n ∷ []) ∷ []) ∙ ap (λ k. k + 1) x.long ∙ sym (length-append paths (path ∷ []));
+        few = omega (arith, x.few, length-append paths (path ∷ []));
         distinct = λ i j p s h.
             elim (pushed_at paths path i p s) [
               | inl a ↦
@@ -372,8 +312,8 @@ module _ (types : List PortableType) (n : ℕ) (e : PortableType) (es : List Por
             ];
         unknown = λ p isnew.
             let isnt : p ≢ path =
-            λ same. isnew (subst (λ z. Contains (paths ++ path ∷ []) z) (sym same) (in_second paths (path ∷ []) path (contains_head path []))) in
-            sym (ids_other e es n p some isnt) ∙ x.unknown p (λ c. isnew (in_first paths (path ∷ []) p c));
+            λ same. isnew (subst (λ z. Contains (paths ++ path ∷ []) z) (sym same) (Contains-append_right paths (path ∷ []) path (contains_head path []))) in
+            sym (ids_other e es n p some isnt) ∙ x.unknown p (λ c. isnew (Contains-append_left paths (path ∷ []) p c));
       }))
 
   -- a type with a path
@@ -420,10 +360,10 @@ module _ (paths after : List Text) (p : Text) (is_new : Bool) (id : ℕ)
       new (subst (λ z. Contains paths z) (sym (same_path p at.0 at.2)) (contains_at paths at.0 known.0 at.1))
 
   pub was_new : is_new ≡ true → (Contains paths p → ⊥) × (after ≡ paths ++ p ∷ [])
-  was_new told =
+  was_new holds =
       let new : Contains paths p → ⊥ = λ c.
       let known = is_known paths p c in
-      false≢true (sym (when_known known.0 known.1).0 ∙ told) in
+      false≢true (sym (when_known known.0 known.1).0 ∙ holds) in
       (new, (when_new (no_element new)).2)
 
   pub was_known : is_new ≡ false → (slice_get paths id ≡ Some p) × (after ≡ paths)

@@ -133,3 +133,12 @@ row_of row types paths vs i p v within long are =
     zip_at (λ path r. r ≡ ids_of path types) paths (map row vs) are i (get_or paths i p) (row (get_or vs i v))
     (slice_get-get_or paths i p within)
     (row_at row vs i (get_or vs i v) (slice_get-get_or vs i v (omega (arith, long))))
+
+-- ids that are passed on
+pub given_ids :
+    (types others : List PortableType) (paths : List Text) (ids given other_ids other_given : List ℕ)
+    → given ≡ ids → other_given ≡ other_ids
+    → AreCommonIds types others paths ids other_ids → AreCommonIds types others paths given other_given
+given_ids types others paths ids given other_ids other_given is are x =
+    subst (λ (xs : List ℕ). AreCommonIds types others paths xs other_given) (sym is)
+    (subst (λ (xs : List ℕ). AreCommonIds types others paths ids xs) (sym are) x)

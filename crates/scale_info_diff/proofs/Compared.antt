@@ -1,7 +1,8 @@
 -- Types of paths, compared all at once.
 use Rattle.std.proofs.Common.{◌≡◌, ◌≢◌, ◌∙◌, ◌++◌, ◌∷◌, ℕ, Bool, false, List, [], All, Contains, length}
-use Rattle.std.proofs.Common.{Result, Ok, Err, IfOk, IfErr, ap, sym, subst, arith, append-nil, get_or, inl, inr}
+use Rattle.std.proofs.Common.{eqb, ap, sym, subst, arith, append-nil, get_or, inl, inr}
 use Rattle.std.proofs.lemmas.Bool.{false≢true}
+use Rattle.std.proofs.lemmas.Bool.Decides.{Decides-eqb}
 use Rattle.std.proofs.lemmas.List.Elements.{All-cons, All-head, All-nil, All-tail}
 use Rattle.std.proofs.lemmas.Option.{none-some}
 use Rattle.std.proofs.lemmas.Slice.Zip.{AllZip-long}
@@ -49,7 +50,7 @@ module _ (types others : List PortableType) where
   none_changed :
       (paths : List Text) (pairs : List (ℕ × ℕ)) → All (HasSameCount types others) paths
       → IsMatch (types_system types) (flat_map (own types others) paths) (types_system others) (flat_map (theirs types others) paths) pairs
-      → All (λ path. ids_of path others ≢ [] → ¬ (¬ (AreSame types others path))) paths
+      → All (λ path. ids_of path others ≢ [] → AreSame types others path) paths
   none_changed paths pairs counts m =
       let each = groups (λ n p. Pairs pairs n p) (own types others) (theirs types others) paths counts m.in_order in
       λ k d within some.
@@ -58,6 +59,7 @@ module _ (types others : List PortableType) where
       (ids_of path types) (ids_of path others)
       (subst (λ xs. AllZip (λ n p. Pairs pairs n p) xs (ids_of path others))
       (own_some (ids_of path types) (ids_of path others) some) (each k d within))
+      eqb Decides-eqb
 
   -- what a comparison of all says
   pub tells_same :
@@ -114,17 +116,3 @@ module _ (types others : List PortableType) where
               | inr more ↦ none-some h.path (place_of [] h.path more).1
             ];
       }
-
--- ---- what an Ok and an Err say
-
--- what follows from what an Ok has
-pub ok_weaker :
-    {T E : Type 0} (P Q : T → Type 0) (r : Result T E) → ((x : T) → P x → Q x) → IfOk r P → IfOk r Q
-ok_weaker P Q (Ok x) f h = f x h
-ok_weaker P Q (Err e) f h = h
-
--- what follows from what an Err has
-pub err_weaker :
-    {T E : Type 0} (P Q : E → Type 0) (r : Result T E) → ((e : E) → P e → Q e) → IfErr r P → IfErr r Q
-err_weaker P Q (Ok x) f h = h
-err_weaker P Q (Err e) f h = f e h

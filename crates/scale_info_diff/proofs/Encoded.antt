@@ -6,7 +6,7 @@ use Rattle.std.proofs.lemmas.List.{nil_from_length}
 use Rattle.std.proofs.lemmas.List.Elements.{All-append, All-cons, All-contains, All-nil}
 use Rattle.std.proofs.lemmas.Option.{none-some, same_Some}
 use Rattle.std.specs.List.{flat_map}
-use Rattle.scale_info_bytes.specs.Encodings.{HasNoPrefix, HasPrefix, IsEncoding}
+use Rattle.scale_info_bytes.specs.Encodings.{HasNoPrefix, IsEncoding}
 use Rattle.scale_info_bytes.specs.Integers.{EncodesCompact, in_five, in_four, in_one, in_two}
 use Rattle.scale_info_bytes.specs.PartLaws.{list_law}
 use Rattle.scale_info_bytes.specs.declared.error.DecodeError.TheVariants as decode
@@ -58,7 +58,7 @@ nothing_after types bytes encoding rest others x y parts =
     let long = ap length same.0 in
     nil_from_length rest (omega arith)
 
-no_trailing :
+pub no_trailing :
     (types : List PortableType) (bytes : List ℕ) → EncodesTypes types bytes → HasTrailing bytes → ⊥
 no_trailing types bytes x h =
     h.more
@@ -99,21 +99,21 @@ joined_within bound f (path ∷ paths) all =
 
 -- ---- an id that is reached from indices and is none
 
-module _ (types : List PortableType) where
-  entry_at :
-      (n : ℕ) (found : Option PortableType) (d : Entry Shape ℕ)
-      → slice_get types n ≡ found → option_map entry_of found ≡ Some d
-      → (entry : PortableType) × (slice_get types n ≡ Some entry) × (entry_of entry ≡ d)
-  entry_at n None d is some = absurd (none-some d some)
-  entry_at n (Some entry) d is some = (entry, is, same_Some (entry_of entry) d some)
+-- what an option is, from what it is mapped to
+pub mapped_some :
+    {A B : Type 0} (f : A → B) (found : Option A) (y : B)
+    → option_map f found ≡ Some y → (x : A) × (found ≡ Some x) × (f x ≡ y)
+mapped_some f None y is = absurd (none-some y is)
+mapped_some f (Some x) y is = (x, refl, same_Some (f x) y is)
 
+module _ (types : List PortableType) where
   dangling :
       (ids : List ℕ) → All (λ id. id < length types) ids
       → (id : ℕ) → IsReached (types_system types) ids id → length types ≤ id → IsDangling types id
   dangling ids within _ (root id c k) outside =
       let below = All-contains (λ i. i < length types) ids id within c in absurd (omega arith)
   dangling ids within _ (next m id d h s c k) outside =
-      let at = entry_at m (slice_get types m) d refl s in
+      let at = mapped_some entry_of (slice_get types m) d s in
       record {
         index = m;
         entry = at.0;
@@ -193,23 +193,10 @@ compare_error types others paths old new ids other_ids x y common e h =
       | inr b ↦ inr (one_error others new other_ids y theirs e b)
     ])
 
--- a table that bytes which encode types begin with is all of them
-pub whole_prefix :
-    (types others : List PortableType) (bytes rest : List ℕ)
-    → EncodesTypes types bytes → HasPrefix (EncodesTypes others) bytes rest → EncodesTypes others bytes
-whole_prefix types others bytes rest x h =
-    let same =
-    types_law.prefix_free types others bytes h.encoding [] rest x h.encodes
-    (append-nil bytes ∙ h.parts) in
-    subst (EncodesTypes others) (sym same.0) h.encodes
-
--- they have a prefix that encodes a table
-pub table_prefix :
-    (types : List PortableType) (bytes : List ℕ)
-    → EncodesTypes types bytes → HasNoPrefix EncodesRegistry bytes → ⊥
-table_prefix types bytes x h =
-    h.none (record { types = types }) []
-    (record { encoding = bytes; encodes = x; parts = sym (append-nil bytes) })
+-- where no prefix is a table, none is types
+pub no_types : (bytes : List ℕ) → HasNoPrefix EncodesRegistry bytes → HasNoPrefix EncodesTypes bytes
+no_types bytes h =
+    record { none = λ types rest p. h.none (record { types = types }) rest p }
 
 compact_fits : (n : ℕ) (b : List ℕ) → EncodesCompact n b → n ≤ 4294967295
 compact_fits n b (in_one high e) = omega arith

@@ -1,7 +1,6 @@
--- Changes between the tables that inputs encode, and why there are none.
+-- Inputs, and why they are refused.
 use Rattle.std.proofs.Common.{◌≡◌, ◌⊎◌, inl, inr, ℕ, List, map, subst, sym}
 use Rattle.scale_info_bytes.specs.declared.error.DecodeError.TheVariants as decode
-use Rattle.scale_info_docs.specs.WithoutDocs.{entry_without_docs}
 use Rattle.scale_info_grammar.specs.Ty.{EncodesTypes}
 use Rattle.scale_info_prune.specs.Prunes.{IsTableError}
 use Rattle.scale_info_prune.specs.declared.prune.PruneError.{PruneError}
@@ -30,7 +29,7 @@ table_error input Memory h = h
 pub input_error :
     (old new : List ℕ) (types others : List PortableType)
     → EncodesTypes types old → EncodesTypes others new → (e : PruneError)
-    → IsCompareError (map entry_without_docs types) (map entry_without_docs others) e
+    → IsCompareError types others e
     → IsInputError old e ⊎ IsInputError new e
 input_error old new types others x y (Decode e) h = absurd h
 input_error old new types others x y Trailing h = absurd h

@@ -5,3 +5,5 @@ pub mod Encoded
 pub mod Inputs
 pub mod Listed
 pub mod MatchParts
+pub mod Reaches
+pub mod WithoutDocs

@@ -1,9 +1,9 @@
 -- Lists of changes.
-use Rattle.std.proofs.Common.{◌≡◌, ◌≢◌, ◌∙◌, ◌++◌, ◌∷◌, ℕ, true, false, List, [], All, length, take, drop, get_or, map, zero, suc, Result, Ok, Err, OnOk, ◌<◌, ◌+◌}
-use Rattle.std.proofs.Common.{ap, sym, subst, refl, arith, append-nil, append_assoc}
+use Rattle.std.proofs.Common.{◌≡◌, ◌≢◌, ◌∙◌, ◌++◌, ◌∷◌, ℕ, true, false, List, [], All, length, take, drop, map, zero, suc}
+use Rattle.std.proofs.Common.{ap, sym, subst, refl, arith, append_assoc}
 use Rattle.std.proofs.lemmas.Bool.{false≢true}
 use Rattle.std.proofs.lemmas.Grind.{flat_map-append}
-use Rattle.std.proofs.lemmas.List.{drop_more, take-append-drop}
+use Rattle.std.proofs.lemmas.List.{take-append-drop}
 use Rattle.std.proofs.lemmas.List.Elements.{All-head, All-nil, All-tail}
 use Rattle.std.specs.List.{AllZip, flat_map}
 use Rattle.scale_info_types.specs.Portable.{Text}
@@ -29,7 +29,7 @@ module _ (types others : List PortableType) where
   -- a path that has not changed, by the ids that it has in the new table
   one_removed :
       (path : Text) (ids : List ℕ) → ids_of path others ≡ ids
-      → (ids_of path others ≢ [] → ¬ (¬ (AreSame types others path)))
+      → (ids_of path others ≢ [] → AreSame types others path)
       → IsOldChange types others path (removed_by ids path)
   one_removed path [] is same = removed path is
   one_removed path (id ∷ ids) is same =
@@ -38,17 +38,17 @@ module _ (types others : List PortableType) where
 
   all_removed :
       (paths : List Text)
-      → All (λ path. ids_of path others ≢ [] → ¬ (¬ (AreSame types others path))) paths
+      → All (λ path. ids_of path others ≢ [] → AreSame types others path) paths
       → (parts : List (List Change)) × AllZip (IsOldChange types others) paths parts
       × (flat_map (removed_change others) paths ≡ flat_map (λ part. part) parts)
   all_removed [] same = ([], tt, refl)
   all_removed (path ∷ paths) same =
       let here =
       one_removed path (ids_of path others) refl
-      (All-head (λ path. ids_of path others ≢ [] → ¬ (¬ (AreSame types others path))) path paths same) in
+      (All-head (λ path. ids_of path others ≢ [] → AreSame types others path) path paths same) in
       let rest =
       all_removed paths
-      (All-tail (λ path. ids_of path others ≢ [] → ¬ (¬ (AreSame types others path))) path paths same) in
+      (All-tail (λ path. ids_of path others ≢ [] → AreSame types others path) path paths same) in
       (removed_change others path ∷ rest.0, (here, rest.1), ap (λ cs. removed_change others path ++ cs) rest.2)
 
   -- where none has changed, what became of the paths is which are removed
@@ -80,12 +80,6 @@ module _ (types others : List PortableType) where
         added = is;
       }
 
-  -- no path
-  pub adds_none : (paths : List Text) (old new : List Change) → paths ≡ [] → new ≡ old → AddsOldChanges types others paths old new
-  adds_none paths old new none is =
-      subst (λ ps. AddsOldChanges types others ps old new) (sym none)
-      (record { parts = []; each = tt; added = is ∙ sym (append-nil old) })
-
   -- the first paths, and then the others
   pub adds_both :
       (n : ℕ) (paths : List Text) (old middle new : List Change)
@@ -116,18 +110,6 @@ module _ (types others : List PortableType) where
         each = old.each;
         listed = is ∙ ap (λ cs. cs ++ flat_map (new_change types) (paths_of others)) old.added;
       }
-
--- one path more of those from which texts or changes come
-pub stepped :
-    {A : Type 0} (f : Text → List A) (paths : List Text) (i : ℕ) (path : Text) (done longer all : List A)
-    → i < length paths → longer ≡ done ++ f (get_or paths i path)
-    → done ++ flat_map f (drop i paths) ≡ all
-    → longer ++ flat_map f (drop (i + 1) paths) ≡ all
-stepped f paths i path done longer all within is so_far =
-    let here = get_or paths i path in
-    ap (λ xs. xs ++ flat_map f (drop (i + 1) paths)) is
-    ∙ append_assoc done (f here) (flat_map f (drop (i + 1) paths))
-    ∙ ap (λ ps. done ++ flat_map f ps) (sym (drop_more paths i path within)) ∙ so_far
 
 -- where ids are, nothing is removed or added
 pub none_removed : (ids : List ℕ) (path : Text) → ids ≢ [] → removed_by ids path ≡ []
@@ -173,34 +155,10 @@ pub same_none :
 same_none types others paths none =
     record {
       all = λ e.
-          subst (λ ps. All (λ path. ids_of path others ≢ [] → ¬ (¬ (AreSame types others path))) ps) (sym none)
-          (All-nil (λ path. ids_of path others ≢ [] → ¬ (¬ (AreSame types others path))));
+          subst (λ ps. All (λ path. ids_of path others ≢ [] → AreSame types others path) ps) (sym none)
+          (All-nil (λ path. ids_of path others ≢ [] → AreSame types others path));
       one = λ e. absurd (false≢true (sym e));
     }
-
--- what follows from what holds on an Ok
-pub on_ok_weaker :
-    {T E : Type 0} (P Q : Type 0) (r : Result T E) → (P → Q) → OnOk r P → OnOk r Q
-on_ok_weaker P Q (Ok x) f h = f h
-on_ok_weaker P Q (Err e) f h = h
-
--- the first half of the rows is that of the first half of the paths
-pub first_rows :
-    {V : Type 0} (row : V → List ℕ) (types : List PortableType) (n : ℕ) (paths first : List Text) (vs firsts : List V)
-    → first ≡ take n paths → firsts ≡ take n vs
-    → AreIdsByPath types paths (map row vs) → AreIdsByPath types first (map row firsts)
-first_rows row types n paths first vs firsts is are z =
-    subst (λ ps. AreIdsByPath types ps (map row firsts)) (sym is)
-    (subst (λ ws. AreIdsByPath types (take n paths) (map row ws)) (sym are) (take_rows row types n paths vs z))
-
--- the second half likewise
-pub second_rows :
-    {V : Type 0} (row : V → List ℕ) (types : List PortableType) (n : ℕ) (paths second : List Text) (vs seconds : List V)
-    → second ≡ drop n paths → seconds ≡ drop n vs
-    → AreIdsByPath types paths (map row vs) → AreIdsByPath types second (map row seconds)
-second_rows row types n paths second vs seconds is are z =
-    subst (λ ps. AreIdsByPath types ps (map row seconds)) (sym is)
-    (subst (λ ws. AreIdsByPath types (drop n paths) (map row ws)) (sym are) (drop_rows row types n paths vs z))
 
 -- what both halves add in turn is what all paths add
 pub adds_halves :

@@ -1,7 +1,10 @@
 -- A match of what many roots reach has a part for what some of them reach.
-use Rattle.std.proofs.Common.{◌∙◌, ◌∷◌, ◌↔◌, inl, inr, List, [], Contains, sym, subst}
-use Rattle.std.proofs.lemmas.Option.{none-some, same_Some}
+use Rattle.std.proofs.Common.{◌≡◌, ◌∙◌, ◌∷◌, ◌↔◌, ◌⊎◌, inl, inr, Bool, List, [], Contains, ap, map, option_map, sym, subst}
+use Rattle.std.proofs.lemmas.Map.Made.{is_member-Decides}
+use Rattle.std.proofs.lemmas.Option.{none-some, same_Some, slice_get-map}
+use Rattle.std.specs.Bool.{Decides}
 use Rattle.std.specs.List.{AllZip}
+use Rattle.scale_info_diff.proofs.Reaches.{not_in_none, reached_list, decided}
 use Rattle.scale_info_numberings.proofs.Places.{contains_at, contains_cases, contains_head, contains_tail, place_of}
 use Rattle.scale_info_numberings.proofs.Zip.{zip_right, zip_turned, zip_weaker}
 use Rattle.scale_info_numberings.specs.Matches.{IsMatch, Pairs}
@@ -13,8 +16,8 @@ AreChosen {A} Q xs ys = (x : A) → Contains ys x ↔ (Contains xs x × Q x)
 
 none_chosen : {A : Type 0} (Q : A → Type 0) → AreChosen Q [] []
 none_chosen Q x = (
-  λ c. absurd (none-some x (place_of [] x c).1),
-  λ c. absurd (none-some x (place_of [] x c.0).1),
+  λ c. absurd (not_in_none x c),
+  λ c. absurd (not_in_none x c.0),
 )
 
 one_more_chosen :
@@ -45,13 +48,26 @@ one_less_chosen Q x xs ys are never y = (
       ],
 )
 
--- that there is no list of them is absurd
-some_chosen : {A : Type 0} (Q : A → Type 0) (xs : List A)
-    → ((ys : List A) → AreChosen Q xs ys → ⊥) → ⊥
-some_chosen Q [] never = never [] (none_chosen Q)
-some_chosen Q (x ∷ xs) never =
-    some_chosen Q xs (λ ys are.
-    never ys (one_less_chosen Q x xs ys are (λ q. never (x ∷ ys) (one_more_chosen Q x xs ys are q))))
+-- there is a list of them, where it is decided which they are
+chosen :
+    {A : Type 0} (Q : A → Type 0) → ((x : A) → Q x ⊎ (Q x → ⊥)) → (xs : List A)
+    → (ys : List A) × AreChosen Q xs ys
+chosen Q tell [] = ([], none_chosen Q)
+chosen Q tell (x ∷ xs) =
+    let rest = chosen Q tell xs in
+    elim (tell x) [
+      | inl q ↦ (x ∷ rest.0, one_more_chosen Q x xs rest.0 rest.1 q)
+      | inr never ↦ (rest.0, one_less_chosen Q x xs rest.0 rest.1 never)
+    ]
+
+-- the first of a pair is among the firsts
+among_firsts :
+    {A B : Type 0} (pairs : List (A × B)) (a : A) (b : B)
+    → Contains pairs (a, b) → Contains (map (λ (pair : A × B). pair.0) pairs) a
+among_firsts pairs a b c =
+    let at = place_of pairs (a, b) c in
+    contains_at (map (λ pair. pair.0) pairs) a at.0
+    (slice_get-map (λ pair. pair.0) pairs at.0 ∙ ap (option_map (λ pair. pair.0)) at.1)
 
 -- where one is in the first list, its partner is in the second
 partner :
@@ -69,7 +85,7 @@ module _ {Sh N P : Type 0} (S : System Sh N) (R : List N) (U : System Sh P) (top
   to_right : (n : N) → IsReached S fewer n → (p : P) × Pairs pairs n p × IsReached U others p
   to_right _ (root n c k) =
       let p = partner (λ n p. Pairs pairs n p) fewer others z n c in
-      (p.0, p.2, root p.0 p.1 (λ d. none-some p.0 (place_of [] p.0 d).1))
+      (p.0, p.2, root p.0 p.1 (not_in_none p.0))
   to_right _ (next a n d h s c k) =
       let q = to_right a h in
       elim (m.alike a q.0 q.1) [
@@ -79,13 +95,13 @@ module _ {Sh N P : Type 0} (S : System Sh N) (R : List N) (U : System Sh P) (top
             let p =
             partner (λ n p. Pairs pairs n p) x.0.refs x.1.refs x.5 n
             (subst (λ (e : Entry Sh N). Contains e.refs n) (sym same) c) in
-            (p.0, p.2, next q.0 p.0 x.1 q.2 x.3 p.1 (λ d. none-some p.0 (place_of [] p.0 d).1))
+            (p.0, p.2, next q.0 p.0 x.1 q.2 x.3 p.1 (not_in_none p.0))
       ]
 
   to_left : (p : P) → IsReached U others p → (n : N) × Pairs pairs n p × IsReached S fewer n
   to_left _ (root p c k) =
       let n = partner (λ p n. Pairs pairs n p) others fewer (zip_turned (λ n p. Pairs pairs n p) fewer others z) p c in
-      (n.0, n.2, root n.0 n.1 (λ d. none-some n.0 (place_of [] n.0 d).1))
+      (n.0, n.2, root n.0 n.1 (not_in_none n.0))
   to_left _ (next b p d h s c k) =
       let q = to_left b h in
       elim (m.alike q.0 b q.1) [
@@ -96,7 +112,7 @@ module _ {Sh N P : Type 0} (S : System Sh N) (R : List N) (U : System Sh P) (top
             partner (λ p n. Pairs pairs n p) x.1.refs x.0.refs
             (zip_turned (λ n p. Pairs pairs n p) x.0.refs x.1.refs x.5) p
             (subst (λ (e : Entry Sh P). Contains e.refs p) (sym same) c) in
-            (n.0, n.2, next q.0 n.0 x.0 q.2 x.2 n.1 (λ d. none-some n.0 (place_of [] n.0 d).1))
+            (n.0, n.2, next q.0 n.0 x.0 q.2 x.2 n.1 (not_in_none n.0))
       ]
 
   -- the pairs of what is reached
@@ -125,17 +141,29 @@ module _ {Sh N P : Type 0} (S : System Sh N) (R : List N) (U : System Sh P) (top
                     x.3,
                     x.4,
                     zip_weaker (λ r q. Pairs pairs r q) (λ r q. Pairs some r q) x.0.refs x.1.refs
-                        (λ r q c d pair. (are (r, q)).1 (pair, next n r x.0 found.1 x.2 c (λ e. none-some r (place_of [] r e).1)))
+                        (λ r q c d pair. (are (r, q)).1 (pair, next n r x.0 found.1 x.2 c (not_in_none r)))
                         x.5,
                   )
             ];
         in_order =
             zip_weaker (λ n p. Pairs pairs n p) (λ n p. Pairs some n p) fewer others
-            (λ n p c d pair. (are (n, p)).1 (pair, root n c (λ e. none-some n (place_of [] n e).1))) z;
+            (λ n p c d pair. (are (n, p)).1 (pair, root n c (not_in_none n))) z;
       }
 
-  -- that there is no match is absurd
-  pub match_part : ¬ (¬ ((some : List (N × P)) × IsMatch S fewer U others some))
-  match_part never =
-      some_chosen (λ (pair : N × P). IsReached S fewer pair.0) pairs
-      (λ some are. never (some, part some are))
+  -- there is a match of what the fewer roots reach
+  pub match_part :
+      (equal : N → N → Bool) → ((n o : N) → Decides (equal n o) (n ≡ o))
+      → (some : List (N × P)) × IsMatch S fewer U others some
+  match_part equal decides =
+      let all =
+      reached_list S fewer equal decides (map (λ pair. pair.0) pairs)
+      (λ n h. let p = to_right n h in among_firsts pairs n p.0 p.1) in
+      let found =
+      chosen (λ (pair : N × P). IsReached S fewer pair.0)
+      (λ pair.
+      elim (decided _ (is_member-Decides decides all.0 pair.0)) [
+        | inl c ↦ inl ((all.1 pair.0).0 c)
+        | inr never ↦ inr (λ h. never ((all.1 pair.0).1 h))
+      ])
+      pairs in
+      (found.0, part found.0 found.1)

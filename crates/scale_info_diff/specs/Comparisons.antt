@@ -46,7 +46,7 @@ pub record TellsSame (types others : List PortableType) (paths : List Text)
     (same : Bool) : Type 0 where
   pub all :
       same ≡ true
-      → All (λ path. ids_of path others ≢ [] → ¬ (¬ (AreSame types others path))) paths
+      → All (λ path. ids_of path others ≢ [] → AreSame types others path) paths
   pub one :
       same ≡ false
       → (path : Text) → paths ≡ path ∷ [] → ids_of path others ≢ [] → ¬ (AreSame types others path)

@@ -1,4 +1,4 @@
--- Tables without docs, with their types by their paths.
+-- Tables with their types by their paths, and tables without docs.
 use Rattle.std.specs.Prelude.{◌≡◌, ℕ, List, map}
 use Rattle.scale_info_docs.specs.WithoutDocs.{entry_without_docs}
 use Rattle.scale_info_grammar.specs.Ty.{EncodesTypes}
@@ -19,10 +19,3 @@ pub record IsWithoutDocs (input bytes : List ℕ) : Type 0 where
   pub types : List PortableType
   pub encodes : EncodesTypes types input
   pub written : EncodesTypes (map entry_without_docs types) bytes
-
--- the same with the types of the table by their paths
-pub record IsNamedTableOf (input bytes : List ℕ) (paths : List Text)
-    (rows : List (List ℕ)) : Type 0 where
-  pub types : List PortableType
-  pub encodes : EncodesTypes types input
-  pub named : IsNamedTable (map entry_without_docs types) bytes paths rows

@@ -30,8 +30,8 @@ AreSame types others path =
     pairs
 
 -- what became of a path of the old types, where the others are new: it is removed, where no new
--- type has it; changed, where new types have it and are not the same; and else, where it cannot be
--- that they are not the same, there is no change
+-- type has it; changed, where new types have it and are not the same; and there is no change, where
+-- they are the same
 pub data IsOldChange (types others : List PortableType) : Text → List Change → Type 0 where
   removed :
       (path : Text) → ids_of path others ≡ []
@@ -40,7 +40,7 @@ pub data IsOldChange (types others : List PortableType) : Text → List Change �
       (path : Text) → ids_of path others ≢ [] → ¬ (AreSame types others path)
       → IsOldChange types others path (Changed path ∷ [])
   unchanged :
-      (path : Text) → ids_of path others ≢ [] → ¬ (¬ (AreSame types others path))
+      (path : Text) → ids_of path others ≢ [] → AreSame types others path
       → IsOldChange types others path []
 
 -- what became of a path, by the ids of the types with it in the other table: it is added, where
@@ -61,6 +61,14 @@ pub record AreChanges (types others : List PortableType) (changes : List Change)
   pub listed :
       changes ≡ flat_map (λ part. part) of_old ++ flat_map (new_change types) (paths_of others)
 
+-- the changes between the tables that two inputs encode
+pub record AreTableChangesWithDocs (old new : List ℕ) (changes : List Change) : Type 0 where
+  pub types : List PortableType
+  pub others : List PortableType
+  pub encodes : EncodesTypes types old
+  pub other_encodes : EncodesTypes others new
+  pub changed : AreChanges types others changes
+
 -- the changes between the tables that two inputs encode, without their docs
 pub record AreTableChanges (old new : List ℕ) (changes : List Change) : Type 0 where
   pub types : List PortableType
@@ -78,11 +86,11 @@ pub record IsDangling (types : List PortableType) (id : ℕ) : Type 0 where
   pub refers : Contains (ids_in entry.ty) id
   pub outside : length types ≤ id
 
--- the input encodes a table of which, without docs, an entry refers to this id, which is no index
+-- the input encodes a table of which an entry refers to this id, which is no index
 pub record HasDanglingReference (input : List ℕ) (id : ℕ) : Type 0 where
   pub types : List PortableType
   pub encodes : EncodesTypes types input
-  pub dangling : IsDangling (map entry_without_docs types) id
+  pub dangling : IsDangling types id
 
 -- why an input is refused
 abbrev pub IsInputError : List ℕ → PruneError → Type 0

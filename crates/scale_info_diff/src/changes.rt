@@ -1,15 +1,19 @@
 //! What changed between two tables.
 ghost use Rattle.std.specs.Prelude.{◌≡◌, ◌++◌, ◌⊎◌, List, IfOk, IfErr, OnOk, map};
 ghost use Rattle.std.specs.List.{flat_map};
-ghost use Rattle.scale_info_diff.specs.TableChanges.{AreTableChanges, IsInputError, new_change};
-ghost use Rattle.scale_info_diff.specs.NamedTables.{IsNamedTable};
+ghost use Rattle.scale_info_diff.specs.TableChanges.{AreTableChanges, AreTableChangesWithDocs};
+ghost use Rattle.scale_info_diff.specs.TableChanges.{IsInputError, new_change};
+ghost use Rattle.scale_info_diff.specs.NamedTables.{IsNamedTable, IsWithoutDocs};
+ghost use Rattle.scale_info_prune.specs.Prunes.{IsTableError};
 ghost use Rattle.scale_info_types.specs.declared.ty.PortableType.{PortableType};
 
 use crate::change::Change;
 use crate::compare::push_old_changes;
 use crate::named::NamedTable;
+use scale_info_bytes::error::DecodeError;
 use scale_info_collections::text::Text;
 use scale_info_collections::try_clone::TryClone;
+use scale_info_docs::docs::append_without_docs;
 use scale_info_prune::prune::PruneError;
 use std::alloc::{AllocError, Global};
 
@@ -41,12 +45,31 @@ pub fn changes(alloc: Global, old: &[u8], new: &[u8]) -> Result<Vec<Change>, Pru
     ensures cause { IfErr result
         (λ error. IsInputError old.now error ⊎ IsInputError new.now error) }
 {
+    let old = without_docs(alloc, old)?;
+    let new = without_docs(alloc, new)?;
+    changes_with_docs(alloc, &old, &new)
+}
+
+/// What changed between two tables, as [`changes`] says it, where docs count: a type has also
+/// changed where only a line of docs has, its own or one of a type that it reaches.
+///
+/// Errors: as those of [`changes`].
+///
+/// ```text
+/// changes_with_docs(alloc, &old, &new)?  // of tables with `a::T` of u8, in the new one with docs:
+///                                        // Changed("a::T")
+/// ```
+pub fn changes_with_docs(alloc: Global, old: &[u8], new: &[u8]) -> Result<Vec<Change>, PruneError>
+    ensures ok { IfOk result (λ changes. AreTableChangesWithDocs old.now new.now changes.items) }
+    ensures cause { IfErr result
+        (λ error. IsInputError old.now error ⊎ IsInputError new.now error) }
+{
     let old = NamedTable::of(alloc, old)?;
     let new = NamedTable::of(alloc, new)?;
     let mut changes = Vec::new(alloc);
     push_old_changes(
         alloc,
-        &old.bytes,
+        old.bytes,
         &new,
         old.paths.elements(),
         &old.ids,
@@ -56,16 +79,36 @@ pub fn changes(alloc: Global, old: &[u8], new: &[u8]) -> Result<Vec<Change>, Pru
     Ok(changes)
 }
 
+/// The bytes of the table that the input is, without its docs.
+///
+/// Errors: `Decode(Malformed)`, where no prefix of the input is a table; `Trailing`, where bytes
+/// come after it; `Memory`, where an allocation failed.
+fn without_docs(alloc: Global, input: &[u8]) -> Result<Vec<u8>, PruneError>
+    ensures ok { IfOk result (λ bytes. IsWithoutDocs input.now bytes.items) }
+    ensures cause { IfErr result (IsTableError input.now) }
+{
+    let mut bytes = Vec::new(alloc);
+    let rest = match append_without_docs(input, &mut bytes) {
+        Ok(rest) => rest,
+        Err(DecodeError::Malformed) => return Err(PruneError::Decode(DecodeError::Malformed)),
+        Err(DecodeError::Memory) => return Err(PruneError::Memory),
+    };
+    if !rest.is_empty() {
+        return Err(PruneError::Trailing);
+    }
+    Ok(bytes)
+}
+
 /// Pushes that these paths were added, as far as the old table has no type with them. On an error
 /// some changes may have been pushed.
 fn push_added(
     alloc: Global,
-    old: &NamedTable,
+    old: &NamedTable<'_>,
     paths: &[Text],
     changes: &mut Vec<Change>,
 ) -> Result<(), AllocError>
     ensures { OnOk result ((types : List PortableType)
-        → IsNamedTable types old.now.bytes.items old.now.paths
+        → IsNamedTable types old.now.bytes.now old.now.paths
         (map (λ row. row.items) old.now.ids.items)
         → changes.new.items ≡ changes.old.items ++ flat_map (new_change types) paths.now) }
 {

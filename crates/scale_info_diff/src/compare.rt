@@ -29,7 +29,7 @@ use std::alloc::{AllocError, Global};
 pub(crate) fn push_old_changes(
     alloc: Global,
     old: &[u8],
-    new: &NamedTable,
+    new: &NamedTable<'_>,
     paths: &[Text],
     ids: &[Vec<u32>],
     changes: &mut Vec<Change>,
@@ -37,13 +37,13 @@ pub(crate) fn push_old_changes(
     requires { length ids.now ≡ length paths.now }
     ensures ok { OnOk result ((types others : List PortableType)
         → EncodesTypes types old.now
-        → IsNamedTable others new.now.bytes.items new.now.paths
+        → IsNamedTable others new.now.bytes.now new.now.paths
         (map (λ row. row.items) new.now.ids.items)
         → AreIdsByPath types paths.now (map (λ row. row.items) ids.now)
         → AddsOldChanges types others paths.now changes.old.items changes.new.items) }
     ensures cause { IfErr result (λ error. (types others : List PortableType)
         → EncodesTypes types old.now
-        → IsNamedTable others new.now.bytes.items new.now.paths
+        → IsNamedTable others new.now.bytes.now new.now.paths
         (map (λ row. row.items) new.now.ids.items)
         → AreIdsByPath types paths.now (map (λ row. row.items) ids.now)
         → IsCompareError types others error) }
@@ -69,27 +69,27 @@ pub(crate) fn push_old_changes(
 fn are_same(
     alloc: Global,
     old: &[u8],
-    new: &NamedTable,
+    new: &NamedTable<'_>,
     paths: &[Text],
     ids: &[Vec<u32>],
 ) -> Result<bool, PruneError>
     requires { length ids.now ≡ length paths.now }
     ensures ok { IfOk result (λ same. (types others : List PortableType)
         → EncodesTypes types old.now
-        → IsNamedTable others new.now.bytes.items new.now.paths
+        → IsNamedTable others new.now.bytes.now new.now.paths
         (map (λ row. row.items) new.now.ids.items)
         → AreIdsByPath types paths.now (map (λ row. row.items) ids.now)
         → TellsSame types others paths.now same) }
     ensures cause { IfErr result (λ error. (types others : List PortableType)
         → EncodesTypes types old.now
-        → IsNamedTable others new.now.bytes.items new.now.paths
+        → IsNamedTable others new.now.bytes.now new.now.paths
         (map (λ row. row.items) new.now.ids.items)
         → AreIdsByPath types paths.now (map (λ row. row.items) ids.now)
         → IsCompareError types others error) }
 {
     match common_ids(alloc, new, paths, ids)? {
         None => Ok(false),
-        Some((common, others)) => same_types(alloc, old, &common, &new.bytes, &others),
+        Some((common, others)) => same_types(alloc, old, &common, new.bytes, &others),
     }
 }
 
@@ -99,13 +99,13 @@ fn are_same(
 /// Errors: `AllocError`, if an allocation failed.
 fn common_ids(
     alloc: Global,
-    new: &NamedTable,
+    new: &NamedTable<'_>,
     paths: &[Text],
     ids: &[Vec<u32>],
 ) -> Result<Option<(Vec<u32>, Vec<u32>)>, AllocError>
     requires { length ids.now ≡ length paths.now }
     ensures { IfOk result (λ found. (types others : List PortableType)
-        → IsNamedTable others new.now.bytes.items new.now.paths
+        → IsNamedTable others new.now.bytes.now new.now.paths
         (map (λ row. row.items) new.now.ids.items)
         → AreIdsByPath types paths.now (map (λ row. row.items) ids.now)
         → MatchOption found (HaveOtherCounts types others paths.now)
@@ -132,12 +132,12 @@ fn common_ids(
 /// some changes may have been pushed.
 fn push_removed(
     alloc: Global,
-    new: &NamedTable,
+    new: &NamedTable<'_>,
     paths: &[Text],
     changes: &mut Vec<Change>,
 ) -> Result<(), AllocError>
     ensures { OnOk result ((others : List PortableType)
-        → IsNamedTable others new.now.bytes.items new.now.paths
+        → IsNamedTable others new.now.bytes.now new.now.paths
         (map (λ row. row.items) new.now.ids.items)
         → changes.new.items ≡ changes.old.items
         ++ flat_map (λ path. removed_change others path) paths.now) }
@@ -154,12 +154,12 @@ fn push_removed(
 /// are not the same.
 fn push_difference(
     alloc: Global,
-    new: &NamedTable,
+    new: &NamedTable<'_>,
     path: &Text,
     changes: &mut Vec<Change>,
 ) -> Result<(), AllocError>
     ensures { OnOk result ((types others : List PortableType)
-        → IsNamedTable others new.now.bytes.items new.now.paths
+        → IsNamedTable others new.now.bytes.now new.now.paths
         (map (λ row. row.items) new.now.ids.items)
         → TellsSame types others (path.now ∷ []) false
         → AddsOldChanges types others (path.now ∷ []) changes.old.items changes.new.items) }

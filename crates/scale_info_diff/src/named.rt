@@ -1,6 +1,6 @@
 //! Tables of which the types are found by their paths.
 ghost use Rattle.std.specs.Prelude.{◌≡◌, IfOk, IfErr, List, map};
-ghost use Rattle.scale_info_diff.specs.NamedTables.{IsNamedTable, IsWithoutDocs, IsNamedTableOf};
+ghost use Rattle.scale_info_diff.specs.NamedTables.{IsNamedTable};
 ghost use Rattle.scale_info_diff.specs.TypesByPath.{ids_of};
 ghost use Rattle.scale_info_grammar.specs.Ty.{EncodesTypes};
 ghost use Rattle.scale_info_prune.specs.Prunes.{IsTableError};
@@ -9,42 +9,41 @@ ghost use Rattle.scale_info_types.specs.declared.ty.PortableType.{PortableType};
 use crate::paths::paths_with_ids;
 use scale_info_bytes::error::DecodeError;
 use scale_info_collections::text::Text;
-use scale_info_docs::docs::append_without_docs;
 use scale_info_interner::interner::Interner;
 use scale_info_prune::prune::PruneError;
 use scale_info_tables::portable::PortableRegistry;
-use std::alloc::{AllocError, Global};
+use std::alloc::Global;
 
-/// A table without docs, and its types by their paths.
+/// A table, and its types by their paths.
 #[derive(Drop)]
-pub(crate) struct NamedTable {
+pub(crate) struct NamedTable<'a> {
     /// The table's bytes.
-    pub bytes: Vec<u8>,
+    pub bytes: &'a [u8],
     /// The paths of its types, each once, in the order of the first types that have them.
     pub paths: Interner<Text>,
     /// For each path the ids of its types, ascending.
     pub ids: Vec<Vec<u32>>,
 }
 
-impl NamedTable {
-    /// The table that the input is, without its docs.
+impl<'a> NamedTable<'a> {
+    /// The table that these bytes are.
     ///
-    /// Errors: `Decode(Malformed)`, where no prefix of the input is a table; `Trailing`, where
-    /// bytes come after it; `Memory`, where an allocation failed.
-    pub fn of(alloc: Global, input: &[u8]) -> Result<NamedTable, PruneError>
-        ensures ok { IfOk result (λ table. IsNamedTableOf input.now table.bytes.items table.paths
-            (map (λ row. row.items) table.ids.items)) }
-        ensures cause { IfErr result (IsTableError input.now) }
+    /// Errors: `Decode(Malformed)`, where no prefix of them is a table; `Trailing`, where bytes
+    /// come after it; `Memory`, where an allocation failed.
+    pub fn of(alloc: Global, bytes: &'a [u8]) -> Result<NamedTable<'a>, PruneError>
+        ensures ok { IfOk result (λ table. (types : List PortableType) × IsNamedTable types
+            table.bytes.now table.paths (map (λ row. row.items) table.ids.items)) }
+        ensures bytes { IfOk result (λ table. table.bytes.now ≡ bytes.now) }
+        ensures cause { IfErr result (IsTableError bytes.now) }
     {
-        let bytes = without_docs(alloc, input)?;
-        let table = decoded(alloc, &bytes)?;
+        let table = table_of(alloc, bytes)?;
         let (paths, ids) = paths_with_ids(alloc, table.types())?;
         Ok(NamedTable { bytes, paths, ids })
     }
 
     /// The ids, ascending, of the types with this path.
     pub fn ids_of(&self, path: &Text) -> &[u32]
-        ensures { (types : List PortableType) → IsNamedTable types self.now.bytes.items
+        ensures { (types : List PortableType) → IsNamedTable types self.now.bytes.now
             self.now.paths (map (λ row. row.items) self.now.ids.items)
             → result.now ≡ ids_of path.now types }
     {
@@ -58,35 +57,20 @@ impl NamedTable {
     }
 }
 
-/// The bytes of the table that the input is, without its docs.
+/// The table that bytes are.
 ///
 /// Errors: as those of [`NamedTable::of`].
-fn without_docs(alloc: Global, input: &[u8]) -> Result<Vec<u8>, PruneError>
-    ensures ok { IfOk result (λ bytes. IsWithoutDocs input.now bytes.items) }
-    ensures cause { IfErr result (IsTableError input.now) }
+pub(crate) fn table_of(alloc: Global, bytes: &[u8]) -> Result<PortableRegistry, PruneError>
+    ensures ok { IfOk result (λ table. EncodesTypes table.types bytes.now) }
+    ensures cause { IfErr result (IsTableError bytes.now) }
 {
-    let mut bytes = Vec::new(alloc);
-    let rest = match append_without_docs(input, &mut bytes) {
-        Ok(rest) => rest,
+    let (table, rest) = match PortableRegistry::decode(alloc, bytes) {
+        Ok(found) => found,
         Err(DecodeError::Malformed) => return Err(PruneError::Decode(DecodeError::Malformed)),
         Err(DecodeError::Memory) => return Err(PruneError::Memory),
     };
     if !rest.is_empty() {
         return Err(PruneError::Trailing);
     }
-    Ok(bytes)
-}
-
-/// The table that bytes are.
-///
-/// Errors: `AllocError`, where an allocation failed.
-fn decoded(alloc: Global, bytes: &[u8]) -> Result<PortableRegistry, AllocError>
-    requires { (types : List PortableType) × EncodesTypes types bytes.now }
-    ensures { IfOk result (λ table. EncodesTypes table.types bytes.now) }
-{
-    match PortableRegistry::decode(alloc, bytes) {
-        Ok((table, _)) => Ok(table),
-        Err(DecodeError::Memory) => Err(AllocError),
-        Err(DecodeError::Malformed) => unreachable!(),
-    }
+    Ok(table)
 }

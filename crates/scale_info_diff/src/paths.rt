@@ -1,9 +1,9 @@
 //! The paths of a table's types.
-ghost use Rattle.std.specs.Prelude.{◌≡◌, ◌≤◌, ◌++◌, IfOk, OnOk, length, map};
+ghost use Rattle.std.specs.Prelude.{◌≡◌, ◌<◌, ◌≤◌, ◌++◌, IfOk, OnOk, length, map};
 ghost use Rattle.scale_info_diff.specs.TypesByPath.{AddsId, AreIdsByPath, paths_of};
 
 use scale_info_collections::text::Text;
-use scale_info_interner::interner::Interner;
+use scale_info_interner::interner::{InternError, Interner};
 use scale_info_types::ty::PortableType;
 use std::alloc::{AllocError, Global};
 
@@ -41,13 +41,15 @@ fn add_id(
     path: Text,
     id: u32,
 ) -> Result<(), AllocError>
-    requires { length ids.old.items ≡ length paths.old }
+    requires few { length paths.old < 4294967295 }
+    requires rows { length ids.old.items ≡ length paths.old }
     ensures { OnOk result (AddsId path id paths.old (map (λ row. row.items) ids.old.items)
         paths.new (map (λ row. row.items) ids.new.items)) }
 {
-    // There are fewer paths than ids, so the interner is not full.
-    let Ok((is_new, symbol)) = paths.intern_or_get(path) else {
-        return Err(AllocError);
+    let (is_new, symbol) = match paths.intern_or_get(path) {
+        Ok(found) => found,
+        Err(InternError::Memory) => return Err(AllocError),
+        Err(InternError::Full) => unreachable!(),
     };
     if is_new {
         let first = vec![in alloc; id]?;

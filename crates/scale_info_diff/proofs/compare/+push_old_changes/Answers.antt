@@ -1,8 +1,8 @@
 use Rattle.std.proofs.Common.{subst, true}
-use Rattle.std.proofs.lemmas.Result.{err_from_is_err_and}
+use Rattle.std.proofs.lemmas.Result.{IfErr-weaker, err_from_is_err_and, on_ok_weaker}
 use Rattle.scale_info_diff.proofs.CommonIds.{is_none}
-use Rattle.scale_info_diff.proofs.Compared.{err_weaker}
-use Rattle.scale_info_diff.proofs.Listed.{adds_halves, adds_removed, first_rows, on_ok_weaker, same_none, second_rows}
+use Rattle.scale_info_diff.proofs.Inputs.{given_rows}
+use Rattle.scale_info_diff.proofs.Listed.{adds_halves, adds_removed, drop_rows, same_none, take_rows}
 use Rattle.scale_info_diff.specs.Comparisons.{TellsSame}
 use Rattle.scale_info_diff.proofs.compare.+push_old_changes.Goals.{then-is_empty-via-then-is_empty, then-is_empty-via-else-is_empty+in_ok-are_same+then-branch}
 use Rattle.scale_info_diff.proofs.compare.+push_old_changes.Goals as goal
@@ -29,29 +29,33 @@ returns-in_err-push_old_changes-clause-cause t c =
     rw (p.1, p.2)
     (λ types others x y z.
     c.in_err-push_old_changes.ensures.cause types others x y
-    (first_rows (λ row. row.items) types _ c.args.paths.now c.split_at.result.0.now c.args.ids.now
-    c.split_at-2.result.0.now c.split_at.ensures.front c.split_at-2.ensures.front z))
+    (given_rows (λ row. row.items) types _ c.split_at.result.0.now _ c.split_at-2.result.0.now
+    c.split_at.ensures.front c.split_at-2.ensures.front
+    (take_rows (λ row. row.items) types _ c.args.paths.now c.args.ids.now z)))
 
 pub returns-clause-ok : goal.returns-clause-ok
 returns-clause-ok t c =
-    on_ok_weaker _ _ c.push_old_changes-2.result
+    on_ok_weaker c.push_old_changes-2.result
     (λ second types others x y z.
     adds_halves types others _ c.args.paths.now c.split_at.result.0.now c.split_at.result.1.now
     c.args.changes.now.items c.push_old_changes.new.changes.items c.push_old_changes-2.new.changes.items
     c.split_at.ensures.front c.split_at.ensures.back
     (c.in_ok-push_old_changes.ensures.ok types others x y
-    (first_rows (λ row. row.items) types _ c.args.paths.now c.split_at.result.0.now c.args.ids.now
-    c.split_at-2.result.0.now c.split_at.ensures.front c.split_at-2.ensures.front z))
+    (given_rows (λ row. row.items) types _ c.split_at.result.0.now _ c.split_at-2.result.0.now
+    c.split_at.ensures.front c.split_at-2.ensures.front
+    (take_rows (λ row. row.items) types _ c.args.paths.now c.args.ids.now z)))
     (second types others x y
-    (second_rows (λ row. row.items) types _ c.args.paths.now c.split_at.result.1.now c.args.ids.now
-    c.split_at-2.result.1.now c.split_at.ensures.back c.split_at-2.ensures.back z)))
+    (given_rows (λ row. row.items) types _ c.split_at.result.1.now _ c.split_at-2.result.1.now
+    c.split_at.ensures.back c.split_at-2.ensures.back
+    (drop_rows (λ row. row.items) types _ c.args.paths.now c.args.ids.now z))))
     c.push_old_changes-2.ensures.ok
 
 pub returns-clause-cause : goal.returns-clause-cause
 returns-clause-cause t c =
-    err_weaker _ _ c.push_old_changes-2.result
+    IfErr-weaker c.push_old_changes-2.result _ _
     (λ e why types others x y z.
     why types others x y
-    (second_rows (λ row. row.items) types _ c.args.paths.now c.split_at.result.1.now c.args.ids.now
-    c.split_at-2.result.1.now c.split_at.ensures.back c.split_at-2.ensures.back z))
+    (given_rows (λ row. row.items) types _ c.split_at.result.1.now _ c.split_at-2.result.1.now
+    c.split_at.ensures.back c.split_at-2.ensures.back
+    (drop_rows (λ row. row.items) types _ c.args.paths.now c.args.ids.now z)))
     c.push_old_changes-2.ensures.cause

@@ -8,6 +8,6 @@ use Rattle.scale_info_diff.proofs.compare.common_ids.Given as goal
 abbrev pub invariant-loop-index : goal.invariant-loop-index
 invariant-loop-index l =
     (types others : List PortableType)
-    → IsNamedTable others l.new.bytes.items l.new.paths (map (λ row. row.items) l.new.ids.items)
+    → IsNamedTable others l.new.bytes.now l.new.paths (map (λ row. row.items) l.new.ids.items)
     → AreIdsByPath types l.paths (map (λ row. row.items) l.ids)
     → IsCommonSoFar types others l.paths (drop l.index l.paths) l.common.items l.others.items

@@ -7,7 +7,7 @@ use Rattle.scale_info_diff.proofs.paths.add_id.Goals as goal
 pub returns-then-is_new : goal.returns-then-is_new
 returns-then-is_new c =
     let said =
-    was_new c.args.paths.now c.intern_or_get.new.self c.args.path c.in-Ok.is_new c.in-Ok.symbol.id
+    was_new c.args.paths.now c.intern_or_get.new.self c.args.path c.in-Ok.found.0 c.in-Ok.found.1.id
     (λ i at. let r = c.in-Ok.ensures.known i at in (r.1.0, r.1.1, r.2))
     (λ new. c.in-Ok.ensures.new new) c.if-is_new.true in
     inr (
@@ -20,29 +20,29 @@ returns-then-is_new c =
 pub index_mut-requires : goal.index_mut-requires
 index_mut-requires c =
     let said =
-    was_known c.args.paths.now c.intern_or_get.new.self c.args.path c.in-Ok.is_new c.in-Ok.symbol.id
+    was_known c.args.paths.now c.intern_or_get.new.self c.args.path c.in-Ok.found.0 c.in-Ok.found.1.id
     (λ i at. let r = c.in-Ok.ensures.known i at in (r.1.0, r.1.1, r.2))
     (λ new. c.in-Ok.ensures.new new) c.if-is_new.false in
-    let within = slice_get_within c.args.paths.now c.in-Ok.symbol.id c.args.path said.0 in
-    let long : length c.args.ids.now.items ≡ length c.args.paths.now = c.requires in
+    let within = slice_get_within c.args.paths.now c.in-Ok.found.1.id c.args.path said.0 in
+    let long : length c.args.ids.now.items ≡ length c.args.paths.now = c.requires.rows in
     grind (arith, common_steps)
 
 pub returns : goal.returns
 returns c =
     let said =
-    was_known c.args.paths.now c.intern_or_get.new.self c.args.path c.in-Ok.is_new c.in-Ok.symbol.id
+    was_known c.args.paths.now c.intern_or_get.new.self c.args.path c.in-Ok.found.0 c.in-Ok.found.1.id
     (λ i at. let r = c.in-Ok.ensures.known i at in (r.1.0, r.1.1, r.2))
     (λ new. c.in-Ok.ensures.new new) c.if-is_new.false in
-    let within = slice_get_within c.args.paths.now c.in-Ok.symbol.id c.args.path said.0 in
-    let long : length c.args.ids.now.items ≡ length c.args.paths.now = c.requires in
-    let below : c.in-Ok.symbol.id < length c.args.ids.now.items = omega arith in
+    let within = slice_get_within c.args.paths.now c.in-Ok.found.1.id c.args.path said.0 in
+    let long : length c.args.ids.now.items ≡ length c.args.paths.now = c.requires.rows in
+    let below : c.in-Ok.found.1.id < length c.args.ids.now.items = omega arith in
     inl (
-      c.in-Ok.symbol.id,
+      c.in-Ok.found.1.id,
       c.index_mut.result.now.items,
       said.0,
-      row_at (λ row. row.items) c.args.ids.now.items c.in-Ok.symbol.id c.index_mut.result.now
-          (slice_get_read c.args.ids.now.items (length c.args.ids.now.items) c.in-Ok.symbol.id c.index_mut.result.now refl below (search rules)),
+      row_at (λ row. row.items) c.args.ids.now.items c.in-Ok.found.1.id c.index_mut.result.now
+          (slice_get_read c.args.ids.now.items (length c.args.ids.now.items) c.in-Ok.found.1.id c.index_mut.result.now refl below (search rules)),
       said.1,
-      row_set (λ row. row.items) c.args.ids.now.items c.in-Ok.symbol.id c.push-2.new.self
+      row_set (λ row. row.items) c.args.ids.now.items c.in-Ok.found.1.id c.push-2.new.self
           (c.index_mut.result.now.items ++ c.args.id ∷ []) c.in_ok-push-2.ensures.items,
     )

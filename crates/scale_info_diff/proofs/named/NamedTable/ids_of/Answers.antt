@@ -10,7 +10,7 @@ use Rattle.scale_info_diff.proofs.named.NamedTable.ids_of.Goals as goal
 
 pub returns-in_default : goal.returns-in_default
 returns-in_default c = λ types x.
-    no_ids types c.args.self.now.bytes.items c.args.self.now.paths
+    no_ids types c.args.self.now.bytes.now c.args.self.now.paths
     (map (λ row. row.items) c.args.self.now.ids.items) x c.args.path.now
     (λ inside. false≢true (c.in_default.ensures.known.1 (is_known c.args.self.now.paths c.args.path.now inside)))
 
@@ -20,7 +20,7 @@ returns-in-Some-get c = λ types x.
     let at : slice_get c.args.self.now.ids.items c.in-Some.symbol.id ≡ Some c.in-Some-get.row.now =
     grind (arith, common_steps, gets, rules, c.in-Some-get.ensures.lookup, c.deref.ensures.value, c.into_untracked.ensures) in
     c.deref-in-Some-get.ensures.value
-    ∙ ids_at types c.args.self.now.bytes.items c.args.self.now.paths
+    ∙ ids_at types c.args.self.now.bytes.now c.args.self.now.paths
     (map (λ row. row.items) c.args.self.now.ids.items) x c.in-Some.symbol.id found.0 c.in-Some-get.row.now.items
     found.1 (row_at (λ row. row.items) c.args.self.now.ids.items c.in-Some.symbol.id c.in-Some-get.row.now at)
     ∙ ap (λ p. ids_of p types) (sym (same_path c.args.path.now found.0 found.2))
