@@ -1,6 +1,6 @@
 -- What is told of changes, by what is known of the inputs.
 use Rattle.std.proofs.Common.{◌≡◌, ◌≢◌, ◌⊎◌, ◌++◌, ◌∙◌, ℕ, List, [], ◌∷◌, Option, None, Some, IfSome}
-use Rattle.std.proofs.Common.{ap, arith, flat_map, get_or, inl, inr, refl, subst, sym}
+use Rattle.std.proofs.Common.{ap, arith, flat_map, get_or, inl, inr, length, refl, subst, sym}
 use Rattle.std.proofs.KnownBytes.{Appends-nil, Keeps-refl}
 use Rattle.std.proofs.lemmas.List.Concat.{flat_map-cons}
 use Rattle.std.specs.Io.KnownBytes.{Appends}
@@ -10,10 +10,15 @@ use Rattle.type_reader_io.specs.declared.command.Comparison.{Comparison}
 use Rattle.type_reader_io.specs.declared.error.ReaderError.{ReaderError}
 use Rattle.type_reader_io.specs.declared.error.ReaderError.TheVariants as errors
 use Rattle.type_reader_run.specs.Differences.{AreLines, AreTold, ExplainsDiff, IfBoth, IsDiffError}
+use Rattle.type_reader_run.specs.Differences.{IsOwnError, IsPathError, IsReferenceError}
 use Rattle.type_reader_run.specs.Differences.{WritesChanges, WritesInPart, WritesSomeChange}
 use Rattle.type_reader_run.specs.Differences.{change_line}
-use Rattle.type_reader_run.specs.Tables.{input_bytes}
+use Rattle.type_reader_run.specs.Tables.{HasTable, IsFoundError, input_bytes}
 use Rattle.type_table_io.specs.Reports.{AppendsPrefix}
+
+no_line : (lines : List ℕ) → length lines ≡ 0 → lines ≡ []
+no_line [] none = refl
+no_line (byte ∷ lines) none = absurd (omega (arith, none))
 
 -- where there is no line there is no change
 no_change : (told : List Change) → flat_map change_line told ≡ [] → told ≡ []
@@ -31,40 +36,32 @@ no_change (Changed path ∷ told) none =
     (omega
     (arith, ap (λ l. get_or l 0 0) (sym (flat_map-cons change_line (Changed path) told) ∙ none)))
 
--- these are the bytes of the two inputs, as far as they are known
-pub record AreRead (input second : Option (List ℕ)) (bytes others : List ℕ) : Type 0 where
-  pub first : List ℕ
-  pub is_first : IfSome input (λ b. first ≡ b)
-  pub bytes_of : bytes ≡ input_bytes first
-  pub other : List ℕ
-  pub is_other : IfSome second (λ b. other ≡ b)
-  pub others_of : others ≡ input_bytes other
+-- the bytes of an input, where it is known
+abbrev pub IsRead : Option (List ℕ) → List ℕ → Type 0
+IsRead input bytes = IfSome input (λ b. bytes ≡ input_bytes b)
 
 -- what holds of the bytes holds of the inputs
 of_inputs :
     (P : List ℕ → List ℕ → Type 0) (input second : Option (List ℕ)) (bytes others : List ℕ)
-    → AreRead input second bytes others → P bytes others
+    → IsRead input bytes → IsRead second others → P bytes others
     → IfBoth input second (λ a b. P (input_bytes a) (input_bytes b))
-of_inputs P None second bytes others read holds = tt
-of_inputs P (Some a) None bytes others read holds = tt
-of_inputs P (Some a) (Some b) bytes others read holds =
-    subst (λ x. P (input_bytes x) (input_bytes b)) read.is_first
-    (subst (λ y. P (input_bytes read.first) (input_bytes y)) read.is_other
-    (subst (λ x. P x (input_bytes read.other)) read.bytes_of
-    (subst (P bytes) read.others_of holds)))
+of_inputs P None second bytes others is_first is_second holds = tt
+of_inputs P (Some a) None bytes others is_first is_second holds = tt
+of_inputs P (Some a) (Some b) bytes others is_first is_second holds =
+    subst (λ x. P x (input_bytes b)) is_first (subst (P bytes) is_second holds)
 
 -- nothing changed
 pub writes_none :
     (comparison : Comparison) (input second output : Option (List ℕ)) (bytes others : List ℕ)
     (lines : List ℕ)
-    → AreRead input second bytes others
-    → AreLines comparison bytes others lines → lines ≡ []
+    → IsRead input bytes → IsRead second others
+    → AreLines comparison bytes others lines → length lines ≡ 0
     → WritesChanges comparison input second output output []
-writes_none comparison input second output bytes others lines read are none = record {
+writes_none comparison input second output bytes others lines is_first is_second are none = record {
   are_told =
-      of_inputs (λ x y. AreTold comparison x y []) input second bytes others read
+      of_inputs (λ x y. AreTold comparison x y []) input second bytes others is_first is_second
       (subst (AreTold comparison bytes others)
-      (no_change are.told (sym are.lines ∙ none)) are.are_told);
+      (no_change are.told (sym are.lines ∙ no_line lines none)) are.are_told);
   appends = Appends-nil output;
 }
 
@@ -72,17 +69,17 @@ writes_none comparison input second output bytes others lines read are none = re
 pub writes_some :
     (comparison : Comparison) (input second old new : Option (List ℕ)) (bytes others : List ℕ)
     (lines : List ℕ)
-    → AreRead input second bytes others
+    → IsRead input bytes → IsRead second others
     → AreLines comparison bytes others lines → lines ≢ [] → Appends old new lines
     → WritesSomeChange comparison input second old new
-writes_some comparison input second old new bytes others lines read are some appends = record {
+writes_some comparison input second old new bytes others lines is_first is_second are some appends = record {
   told = are.told;
   some = λ none. some (are.lines ∙ ap (flat_map change_line) none);
   writes =
       record {
         are_told =
             of_inputs (λ x y. AreTold comparison x y are.told) input second bytes others
-            read are.are_told;
+            is_first is_second are.are_told;
         appends = subst (Appends old new) are.lines appends;
       };
 }
@@ -91,11 +88,11 @@ writes_some comparison input second old new bytes others lines read are some app
 pub writes_in_part :
     (comparison : Comparison) (input second old new : Option (List ℕ)) (bytes others : List ℕ)
     (lines : List ℕ)
-    → AreRead input second bytes others
+    → IsRead input bytes → IsRead second others
     → AreLines comparison bytes others lines → AppendsPrefix old new lines
     → ExplainsDiff comparison input second old new errors.Output
-writes_in_part comparison input second old new bytes others lines read are appends =
-    of_inputs (WritesInPart comparison old new) input second bytes others read
+writes_in_part comparison input second old new bytes others lines is_first is_second are appends =
+    of_inputs (WritesInPart comparison old new) input second bytes others is_first is_second
     (record {
       told = are.told;
       are_told = are.are_told;
@@ -106,56 +103,150 @@ writes_in_part comparison input second old new bytes others lines read are appen
 pub explains_diff :
     (comparison : Comparison) (input second output : Option (List ℕ)) (bytes others : List ℕ)
     (error : ReaderError)
-    → AreRead input second bytes others → IsDiffError comparison.paths.now bytes others error
+    → IsRead input bytes → IsRead second others
+    → IsDiffError comparison.paths.now bytes others error
     → ExplainsDiff comparison input second output output error
-explains_diff comparison input second output bytes others errors.Input read cause =
+explains_diff comparison input second output bytes others errors.Input is_first is_second cause =
     Keeps-refl output
-explains_diff comparison input second output bytes others errors.Output read (inl cause) =
+explains_diff comparison input second output bytes others errors.Output is_first is_second (inl cause) =
     absurd cause
-explains_diff comparison input second output bytes others errors.Output read (inr cause) =
+explains_diff comparison input second output bytes others errors.Output is_first is_second (inr cause) =
     absurd cause
-explains_diff comparison input second output bytes others errors.Malformed read cause = (
+explains_diff comparison input second output bytes others errors.Malformed is_first is_second cause = (
   of_inputs (λ x y. IsDiffError comparison.paths.now x y errors.Malformed) input second bytes
-      others read cause,
+      others is_first is_second cause,
   Keeps-refl output,
 )
-explains_diff comparison input second output bytes others errors.TrailingBytes read cause = (
+explains_diff comparison input second output bytes others errors.TrailingBytes is_first is_second cause = (
   of_inputs (λ x y. IsDiffError comparison.paths.now x y errors.TrailingBytes) input second bytes
-      others read cause,
+      others is_first is_second cause,
   Keeps-refl output,
 )
-explains_diff comparison input second output bytes others (errors.Version version) read cause = (
+explains_diff comparison input second output bytes others (errors.Version version) is_first is_second cause = (
   of_inputs (λ x y. IsDiffError comparison.paths.now x y (errors.Version version)) input second
-      bytes others read cause,
+      bytes others is_first is_second cause,
   Keeps-refl output,
 )
-explains_diff comparison input second output bytes others (errors.NoSuchType id) read cause = (
+explains_diff comparison input second output bytes others (errors.NoSuchType id) is_first is_second cause = (
   of_inputs (λ x y. IsDiffError comparison.paths.now x y (errors.NoSuchType id)) input second
-      bytes others read cause,
+      bytes others is_first is_second cause,
   Keeps-refl output,
 )
-explains_diff comparison input second output bytes others (errors.NoSuchPath path) read cause = (
+explains_diff comparison input second output bytes others (errors.NoSuchPath path) is_first is_second cause = (
   of_inputs (λ x y. IsDiffError comparison.paths.now x y (errors.NoSuchPath path)) input second
-      bytes others read cause,
+      bytes others is_first is_second cause,
   Keeps-refl output,
 )
-explains_diff comparison input second output bytes others (errors.SharedPath path) read cause = (
+explains_diff comparison input second output bytes others (errors.SharedPath path) is_first is_second cause = (
   of_inputs (λ x y. IsDiffError comparison.paths.now x y (errors.SharedPath path)) input second
-      bytes others read cause,
+      bytes others is_first is_second cause,
   Keeps-refl output,
 )
-explains_diff comparison input second output bytes others (errors.NoValue fault) read cause = (
+explains_diff comparison input second output bytes others (errors.NoValue fault) is_first is_second cause = (
   of_inputs (λ x y. IsDiffError comparison.paths.now x y (errors.NoValue fault)) input second
-      bytes others read cause,
+      bytes others is_first is_second cause,
   Keeps-refl output,
 )
-explains_diff comparison input second output bytes others (errors.Dangling id) read cause = (
+explains_diff comparison input second output bytes others (errors.Dangling id) is_first is_second cause = (
   of_inputs (λ x y. IsDiffError comparison.paths.now x y (errors.Dangling id)) input second bytes
-      others read cause,
+      others is_first is_second cause,
   Keeps-refl output,
 )
-explains_diff comparison input second output bytes others errors.Memory read cause = (
+explains_diff comparison input second output bytes others errors.Memory is_first is_second cause = (
   of_inputs (λ x y. IsDiffError comparison.paths.now x y errors.Memory) input second bytes others
-      read cause,
+      is_first is_second cause,
   Keeps-refl output,
 )
+
+-- bytes without a table are not compared
+pub found_error :
+    (bytes : List ℕ) (error : ReaderError) → IsFoundError bytes error → IsOwnError bytes error
+found_error bytes errors.Malformed cause = cause
+found_error bytes errors.TrailingBytes cause = cause
+found_error bytes (errors.Version version) cause = cause
+found_error bytes (errors.NoSuchType id) cause = cause
+found_error bytes (errors.NoSuchPath path) cause = cause
+found_error bytes (errors.SharedPath path) cause = cause
+found_error bytes (errors.NoValue fault) cause = cause
+found_error bytes (errors.Dangling id) cause = absurd cause
+found_error bytes errors.Memory cause = cause
+found_error bytes errors.Input cause = cause
+found_error bytes errors.Output cause = cause
+
+-- an error of its own bytes
+pub own_error :
+    (paths : List (List ℕ)) (bytes others : List ℕ) (error : ReaderError)
+    → IsOwnError bytes error ⊎ IsOwnError others error → IsDiffError paths bytes others error
+own_error paths bytes others errors.Malformed cause = cause
+own_error paths bytes others errors.TrailingBytes cause = cause
+own_error paths bytes others (errors.Version version) cause = cause
+own_error paths bytes others (errors.NoSuchType id) cause = cause
+own_error paths bytes others (errors.NoSuchPath path) (inl cause) = absurd cause
+own_error paths bytes others (errors.NoSuchPath path) (inr cause) = absurd cause
+own_error paths bytes others (errors.SharedPath path) cause = cause
+own_error paths bytes others (errors.NoValue fault) cause = cause
+own_error paths bytes others (errors.Dangling id) cause = cause
+own_error paths bytes others errors.Memory cause = tt
+own_error paths bytes others errors.Input cause = cause
+own_error paths bytes others errors.Output cause = cause
+
+-- a path that is refused
+pub path_error :
+    (paths : List (List ℕ)) (bytes others old new : List ℕ) (error : ReaderError)
+    → HasTable bytes old → HasTable others new → IsPathError paths old new error
+    → IsDiffError paths bytes others error
+path_error paths bytes others old new errors.Malformed has_old has_new cause = absurd cause
+path_error paths bytes others old new errors.TrailingBytes has_old has_new cause = absurd cause
+path_error paths bytes others old new (errors.Version version) has_old has_new cause = absurd cause
+path_error paths bytes others old new (errors.NoSuchType id) has_old has_new cause = absurd cause
+path_error paths bytes others old new (errors.NoSuchPath path) has_old has_new cause =
+    record { old = old; new = new; has_old = has_old; has_new = has_new; unknown = cause }
+path_error paths bytes others old new (errors.SharedPath path) has_old has_new cause = absurd cause
+path_error paths bytes others old new (errors.NoValue fault) has_old has_new cause = absurd cause
+path_error paths bytes others old new (errors.Dangling id) has_old has_new cause = absurd cause
+path_error paths bytes others old new errors.Memory has_old has_new cause = tt
+path_error paths bytes others old new errors.Input has_old has_new cause = absurd cause
+path_error paths bytes others old new errors.Output has_old has_new cause = absurd cause
+
+-- a table that refers to an id that is no index
+reference_error :
+    (bytes table : List ℕ) (error : ReaderError)
+    → HasTable bytes table → IsReferenceError table error
+    → IsOwnError bytes error ⊎ (error ≡ errors.Memory)
+reference_error bytes table errors.Malformed has cause = absurd cause
+reference_error bytes table errors.TrailingBytes has cause = absurd cause
+reference_error bytes table (errors.Version version) has cause = absurd cause
+reference_error bytes table (errors.NoSuchType id) has cause = absurd cause
+reference_error bytes table (errors.NoSuchPath path) has cause = absurd cause
+reference_error bytes table (errors.SharedPath path) has cause = absurd cause
+reference_error bytes table (errors.NoValue fault) has cause = absurd cause
+reference_error bytes table (errors.Dangling id) has cause =
+    inl (record { table = table; has_table = has; dangling = cause })
+reference_error bytes table errors.Memory has cause = inr refl
+reference_error bytes table errors.Input has cause = absurd cause
+reference_error bytes table errors.Output has cause = absurd cause
+
+memory_error :
+    (paths : List (List ℕ)) (bytes others : List ℕ) (error : ReaderError)
+    → error ≡ errors.Memory → IsDiffError paths bytes others error
+memory_error paths bytes others error memory =
+    subst (IsDiffError paths bytes others) (sym memory) tt
+
+-- one of two tables that refers to an id that is no index
+pub changes_error :
+    (paths : List (List ℕ)) (bytes others old new : List ℕ) (error : ReaderError)
+    → HasTable bytes old → HasTable others new
+    → IsReferenceError old error ⊎ IsReferenceError new error
+    → IsDiffError paths bytes others error
+changes_error paths bytes others old new error has_old has_new (inl cause) =
+    at (reference_error bytes old error has_old cause)
+  where
+    at : IsOwnError bytes error ⊎ (error ≡ errors.Memory) → IsDiffError paths bytes others error
+    at (inl own) = own_error paths bytes others error (inl own)
+    at (inr memory) = memory_error paths bytes others error memory
+changes_error paths bytes others old new error has_old has_new (inr cause) =
+    at (reference_error others new error has_new cause)
+  where
+    at : IsOwnError others error ⊎ (error ≡ errors.Memory) → IsDiffError paths bytes others error
+    at (inl own) = own_error paths bytes others error (inr own)
+    at (inr memory) = memory_error paths bytes others error memory

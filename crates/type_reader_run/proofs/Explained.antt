@@ -164,7 +164,7 @@ so_of_lines (commands.Lines conversion text) input second old new told_old told_
 so_of_lines (commands.Diff comparison) input second old new told_old told_new error small (has_changes writes reports) reported =
     absurd
     (not_nothing error (reported_pieces told_old told_new [] (line_of error) reports reported))
-so_of_lines (commands.Diff comparison) input second old new told_old told_new error small (not_compared {error = cause} small_cause explains reports) reported = (
+so_of_lines (commands.Diff comparison) input second old new told_old told_new error small (not_compared cause small_cause explains reports) reported = (
   cause,
   last_reported error cause [] small_cause small tt
       (reported_pieces told_old told_new (line_of cause ∷ []) (line_of error) reports reported),

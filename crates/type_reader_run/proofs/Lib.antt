@@ -8,3 +8,4 @@ pub mod Runs
 pub mod Selections
 pub mod SoFar
 pub mod Tables
+pub mod Told

@@ -123,8 +123,8 @@ refuses_by (commands.Lines conversion text) input second old new P Q by (stopped
     stopped stops (by (reports_from 1 outcomes ++ line_of error ∷ []) reports)
 refuses_by (commands.Diff comparison) input second old new P Q by (has_changes writes reports) =
     has_changes writes (by [] reports)
-refuses_by (commands.Diff comparison) input second old new P Q by (not_compared {error = error} small explains reports) =
-    not_compared small explains (by (line_of error ∷ []) reports)
+refuses_by (commands.Diff comparison) input second old new P Q by (not_compared error small explains reports) =
+    not_compared error small explains (by (line_of error ∷ []) reports)
 
 -- the same of a command that the arguments name
 pub done_by :

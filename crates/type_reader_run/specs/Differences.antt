@@ -1,11 +1,12 @@
 -- What changed between the tables of two inputs.
 use Rattle.std.specs.Prelude.{◌≡◌, ◌≢◌, ◌++◌, ◌⊎◌, ℕ, List, [], ◌∷◌, All, Bool, true, IfSome, codes}
-use Rattle.std.specs.Prelude.{filter}
+use Rattle.std.specs.Prelude.{filter, if◌then◌else◌}
 use Rattle.std.specs.declared.option.Option.{Option}
 use Rattle.std.specs.Io.KnownBytes.{Appends, Keeps}
 use Rattle.std.specs.List.{flat_map, list_any}
 use Rattle.std.specs.Str.{bytes_eq}
-use Rattle.scale_info_diff.specs.TableChanges.{AreTableChanges, HasDanglingReference}
+use Rattle.scale_info_diff.specs.TableChanges.{AreTableChanges, AreTableChangesWithDocs}
+use Rattle.scale_info_diff.specs.TableChanges.{HasDanglingReference}
 use Rattle.scale_info_diff.specs.TypesByPath.{ids_of}
 use Rattle.scale_info_diff.specs.declared.change.Change.{Change}
 use Rattle.scale_info_diff.specs.declared.change.Change.TheVariants.{Removed, Added, Changed}
@@ -36,6 +37,10 @@ abbrev pub is_of : List (List ℕ) → Change → Bool
 is_of [] change = true
 is_of (path ∷ paths) change = list_any (λ p. bytes_eq p (path_of change)) (path ∷ paths)
 
+-- the line of a change that is one of these paths; nothing, where it is none of them
+abbrev pub told_line : List (List ℕ) → Change → List ℕ
+told_line paths change = if is_of paths change then change_line change else []
+
 -- a type of the table has the path
 pub record HasPath (table path : List ℕ) : Type 0 where
   pub types : List PortableType
@@ -55,7 +60,7 @@ IsInEither old new path = HasPath old path ⊎ HasPath new path
 -- the changes between the two tables, by whether docs count
 abbrev pub AreChangesBy : Docs → (old new : List ℕ) → List Change → Type 0
 AreChangesBy docs.LeftOut old new changes = AreTableChanges old new changes
-AreChangesBy docs.Compared old new changes = AreTableChanges old new changes
+AreChangesBy docs.Compared old new changes = AreTableChangesWithDocs old new changes
 
 -- the bytes have tables, of which one or the other has each path of the comparison, and these are
 -- the changes of its paths between them, in order

@@ -107,7 +107,7 @@ pub data RefusesDiff (comparison : Comparison) (input second old new : Option (L
       WritesSomeChange comparison input second old new → IsReported []
       → RefusesDiff comparison input second old new IsReported
   not_compared :
-      {error : ReaderError}
+      (error : ReaderError)
       → HasSmallNumber error → ExplainsDiff comparison input second old new error
       → IsReported (line_of error ∷ [])
       → RefusesDiff comparison input second old new IsReported

@@ -7,8 +7,7 @@ ghost use Rattle.type_reader_run.specs.Differences.{WritesSomeChange};
 ghost use Rattle.type_reader_run.specs.Runs.{RefusesDiff};
 
 use crate::diff::lines_between;
-use crate::reading::read_input;
-use crate::table::input_of;
+use crate::reading::read_whole;
 use crate::writing::write_output;
 use std::alloc::Global;
 use std::io::{Read, Write};
@@ -39,8 +38,8 @@ fn compare<R: Read, S: Read, W: Write>(
         (R.remaining reader.old) (S.remaining second.old)
         (W.contents output.old) (W.contents output.new)) }
 {
-    let old = input_of(alloc, read_input(alloc, reader)?)?;
-    let new = input_of(alloc, read_input(alloc, second)?)?;
+    let old = read_whole(alloc, reader)?;
+    let new = read_whole(alloc, second)?;
     let lines = lines_between(alloc, comparison, &old, &new)?;
     if lines.is_empty() {
         return Ok(true);

@@ -1,20 +1,20 @@
 //! What changed between two tables, as lines.
 ghost use Rattle.std.specs.Prelude.{◌≡◌, ◌≢◌, ◌++◌, ◌⊎◌, ℕ, List, [], All, IfErr, IfOk};
-ghost use Rattle.std.specs.Prelude.{IsFalse, IsTrue, OnOk, codes, filter};
+ghost use Rattle.std.specs.Prelude.{IsFalse, IsTrue, OnOk, codes};
 ghost use Rattle.std.specs.List.{flat_map};
 ghost use Rattle.scale_info_describe.specs.TypeNames.{Appends};
 ghost use Rattle.scale_info_diff.specs.TableChanges.{IsInputError};
 ghost use Rattle.scale_info_diff.specs.TypesByPath.{has_path, ids_of};
 ghost use Rattle.type_reader_run.specs.Differences.{AreChangesBy, AreLines, IsDiffError};
 ghost use Rattle.type_reader_run.specs.Differences.{IsInEither, IsPathError, IsReferenceError};
-ghost use Rattle.type_reader_run.specs.Differences.{change_line, is_of, path_of};
+ghost use Rattle.type_reader_run.specs.Differences.{change_line, is_of, path_of, told_line};
 ghost use Rattle.type_reader_run.specs.Tables.{IsOneTable};
 
 use crate::selection::no_such_path;
 use crate::table::{Input, find_table, registry_of};
 use scale_info_collections::text::Text;
 use scale_info_diff::change::Change;
-use scale_info_diff::changes::changes;
+use scale_info_diff::changes::{changes, changes_with_docs};
 use scale_info_prune::prune::PruneError;
 use scale_info_types::ty::PortableType;
 use scale_info_walk::walk::RetainError;
@@ -37,7 +37,10 @@ fn path_of(change: &Change) -> &Text
 fn is_of(paths: &[Text], change: &Change) -> bool
     ensures { result ≡ is_of paths.now change.now }
 {
-    paths.is_empty() || paths.contains(path_of(change))
+    if paths.is_empty() {
+        return true;
+    }
+    paths.contains(path_of(change))
 }
 
 /// Appends the line of a path with this sign.
@@ -60,16 +63,23 @@ fn append_change(out: &mut String, change: &Change) -> Result<(), AllocError>
     }
 }
 
+/// Appends the line of a change, if it is one of these paths, or there is no path.
+fn append_told(out: &mut String, paths: &[Text], change: &Change) -> Result<(), AllocError>
+    ensures { Appends result out.old out.new (told_line paths.now change.now) }
+{
+    if is_of(paths, change) {
+        return append_change(out, change);
+    }
+    Ok(())
+}
+
 /// The lines of the changes of these paths; of all, where there is no path.
 fn lines_of(alloc: Global, paths: &[Text], changes: &[Change]) -> Result<Vec<u8>, AllocError>
-    ensures { IfOk result (λ lines. lines.items
-        ≡ flat_map change_line (filter (is_of paths.now) changes.now)) }
+    ensures { IfOk result (λ lines. lines.items ≡ flat_map (told_line paths.now) changes.now) }
 {
     let mut out = String::new(alloc);
     for change in changes {
-        if is_of(paths, change) {
-            append_change(&mut out, change)?;
-        }
+        append_told(&mut out, paths, change)?;
     }
     Ok(out.into_bytes())
 }
@@ -159,7 +169,7 @@ fn changes_by(alloc: Global, docs: Docs, old: &[u8], new: &[u8]) -> Result<Vec<C
 {
     match docs {
         Docs::LeftOut => changes(alloc, old, new),
-        Docs::Compared => changes(alloc, old, new),
+        Docs::Compared => changes_with_docs(alloc, old, new),
     }
 }
 
