@@ -1,20 +1,18 @@
 -- What is told of changes, by what is known of the inputs.
-use Rattle.std.proofs.Common.{◌≡◌, ◌≢◌, ◌⊎◌, ◌++◌, ◌∙◌, ℕ, List, [], ◌∷◌, Option, None, Some, IfSome}
+use Rattle.std.proofs.Common.{◌≡◌, ◌⊎◌, ◌∙◌, ℕ, List, [], ◌∷◌, Option, None, Some, IfSome}
 use Rattle.std.proofs.Common.{ap, arith, flat_map, get_or, inl, inr, length, refl, subst, sym}
-use Rattle.std.proofs.KnownBytes.{Appends-nil, Keeps-refl}
+use Rattle.std.proofs.KnownBytes.{Appends-nil}
 use Rattle.std.proofs.lemmas.List.Concat.{flat_map-cons}
-use Rattle.std.specs.Io.KnownBytes.{Appends}
 use Rattle.scale_info_diff.specs.declared.change.Change.{Change}
 use Rattle.scale_info_diff.specs.declared.change.Change.TheVariants.{Removed, Added, Changed}
 use Rattle.type_reader_io.specs.declared.command.Comparison.{Comparison}
 use Rattle.type_reader_io.specs.declared.error.ReaderError.{ReaderError}
 use Rattle.type_reader_io.specs.declared.error.ReaderError.TheVariants as errors
-use Rattle.type_reader_run.specs.Differences.{AreLines, AreTold, ExplainsDiff, IfBoth, IsDiffError}
+use Rattle.type_reader_run.specs.Differences.{AreLines, AreTold, IfBoth, IsDiffError}
 use Rattle.type_reader_run.specs.Differences.{IsOwnError, IsPathError, IsReferenceError}
-use Rattle.type_reader_run.specs.Differences.{WritesChanges, WritesInPart, WritesSomeChange}
+use Rattle.type_reader_run.specs.Differences.{WritesChanges}
 use Rattle.type_reader_run.specs.Differences.{change_line}
-use Rattle.type_reader_run.specs.Tables.{HasTable, IsFoundError, input_bytes}
-use Rattle.type_table_io.specs.Reports.{AppendsPrefix}
+use Rattle.type_reader_run.specs.Tables.{HasTable, input_bytes}
 
 no_line : (lines : List ℕ) → length lines ≡ 0 → lines ≡ []
 no_line [] none = refl
@@ -64,114 +62,6 @@ writes_none comparison input second output bytes others lines is_first is_second
       (no_change are.told (sym are.lines ∙ no_line lines none)) are.are_told);
   appends = Appends-nil output;
 }
-
--- something did
-pub writes_some :
-    (comparison : Comparison) (input second old new : Option (List ℕ)) (bytes others : List ℕ)
-    (lines : List ℕ)
-    → IsRead input bytes → IsRead second others
-    → AreLines comparison bytes others lines → lines ≢ [] → Appends old new lines
-    → WritesSomeChange comparison input second old new
-writes_some comparison input second old new bytes others lines is_first is_second are some appends = record {
-  told = are.told;
-  some = λ none. some (are.lines ∙ ap (flat_map change_line) none);
-  writes =
-      record {
-        are_told =
-            of_inputs (λ x y. AreTold comparison x y are.told) input second bytes others
-            is_first is_second are.are_told;
-        appends = subst (Appends old new) are.lines appends;
-      };
-}
-
--- the lines were not all written
-pub writes_in_part :
-    (comparison : Comparison) (input second old new : Option (List ℕ)) (bytes others : List ℕ)
-    (lines : List ℕ)
-    → IsRead input bytes → IsRead second others
-    → AreLines comparison bytes others lines → AppendsPrefix old new lines
-    → ExplainsDiff comparison input second old new errors.Output
-writes_in_part comparison input second old new bytes others lines is_first is_second are appends =
-    of_inputs (WritesInPart comparison old new) input second bytes others is_first is_second
-    (record {
-      told = are.told;
-      are_told = are.are_told;
-      appends = subst (AppendsPrefix old new) are.lines appends;
-    })
-
--- the inputs were not compared
-pub explains_diff :
-    (comparison : Comparison) (input second output : Option (List ℕ)) (bytes others : List ℕ)
-    (error : ReaderError)
-    → IsRead input bytes → IsRead second others
-    → IsDiffError comparison.paths.now bytes others error
-    → ExplainsDiff comparison input second output output error
-explains_diff comparison input second output bytes others errors.Input is_first is_second cause =
-    Keeps-refl output
-explains_diff comparison input second output bytes others errors.Output is_first is_second (inl cause) =
-    absurd cause
-explains_diff comparison input second output bytes others errors.Output is_first is_second (inr cause) =
-    absurd cause
-explains_diff comparison input second output bytes others errors.Malformed is_first is_second cause = (
-  of_inputs (λ x y. IsDiffError comparison.paths.now x y errors.Malformed) input second bytes
-      others is_first is_second cause,
-  Keeps-refl output,
-)
-explains_diff comparison input second output bytes others errors.TrailingBytes is_first is_second cause = (
-  of_inputs (λ x y. IsDiffError comparison.paths.now x y errors.TrailingBytes) input second bytes
-      others is_first is_second cause,
-  Keeps-refl output,
-)
-explains_diff comparison input second output bytes others (errors.Version version) is_first is_second cause = (
-  of_inputs (λ x y. IsDiffError comparison.paths.now x y (errors.Version version)) input second
-      bytes others is_first is_second cause,
-  Keeps-refl output,
-)
-explains_diff comparison input second output bytes others (errors.NoSuchType id) is_first is_second cause = (
-  of_inputs (λ x y. IsDiffError comparison.paths.now x y (errors.NoSuchType id)) input second
-      bytes others is_first is_second cause,
-  Keeps-refl output,
-)
-explains_diff comparison input second output bytes others (errors.NoSuchPath path) is_first is_second cause = (
-  of_inputs (λ x y. IsDiffError comparison.paths.now x y (errors.NoSuchPath path)) input second
-      bytes others is_first is_second cause,
-  Keeps-refl output,
-)
-explains_diff comparison input second output bytes others (errors.SharedPath path) is_first is_second cause = (
-  of_inputs (λ x y. IsDiffError comparison.paths.now x y (errors.SharedPath path)) input second
-      bytes others is_first is_second cause,
-  Keeps-refl output,
-)
-explains_diff comparison input second output bytes others (errors.NoValue fault) is_first is_second cause = (
-  of_inputs (λ x y. IsDiffError comparison.paths.now x y (errors.NoValue fault)) input second
-      bytes others is_first is_second cause,
-  Keeps-refl output,
-)
-explains_diff comparison input second output bytes others (errors.Dangling id) is_first is_second cause = (
-  of_inputs (λ x y. IsDiffError comparison.paths.now x y (errors.Dangling id)) input second bytes
-      others is_first is_second cause,
-  Keeps-refl output,
-)
-explains_diff comparison input second output bytes others errors.Memory is_first is_second cause = (
-  of_inputs (λ x y. IsDiffError comparison.paths.now x y errors.Memory) input second bytes others
-      is_first is_second cause,
-  Keeps-refl output,
-)
-
--- bytes without a table are not compared
-pub found_error :
-    (bytes : List ℕ) (error : ReaderError) → IsFoundError bytes error → IsOwnError bytes error
-found_error bytes errors.Malformed cause = cause
-found_error bytes errors.TrailingBytes cause = cause
-found_error bytes (errors.Version version) cause = cause
-found_error bytes (errors.NoSuchType id) cause = cause
-found_error bytes (errors.NoSuchPath path) cause = cause
-found_error bytes (errors.SharedPath path) cause = cause
-found_error bytes (errors.NoValue fault) cause = cause
-found_error bytes (errors.Dangling id) cause = absurd cause
-found_error bytes errors.Memory cause = cause
-found_error bytes errors.Input cause = cause
-found_error bytes errors.Output cause = cause
 
 -- an error of its own bytes
 pub own_error :

@@ -1,5 +1,5 @@
 -- What a line on the writer for errors says.
-use Rattle.std.proofs.Common.{◌≡◌, ◌≢◌, ◌≤◌, ◌<◌, ◌+◌, ◌/◌, ◌%◌, ◌++◌, ◌==◌, ℕ, zero, suc, List, [], ◌∷◌, Bool}
+use Rattle.std.proofs.Common.{◌≡◌, ◌≢◌, ◌≤◌, ◌<◌, ◌+◌, ◌/◌, ◌%◌, ◌++◌, ℕ, zero, suc, List, [], ◌∷◌, Bool}
 use Rattle.std.proofs.Common.{Option, ap, arith, codes, cond, decimal, eqb, false, flat_map, get_or}
 use Rattle.std.proofs.Common.{inl, inr, lt-ltb, mod-lt, refl, subst, sym, true}
 use Rattle.std.proofs.lemmas.List.Concat.{flat_map-cons}
@@ -7,7 +7,7 @@ use Rattle.std.specs.Fmt.{digit_glyph, digits, digits_onto}
 use Rattle.type_reader_io.proofs.Pieces.{AreBadLines, Pieces, last_reported, not_bad_lines}
 use Rattle.type_reader_io.proofs.Pieces.{not_nothing, not_of_letter, reported_pieces}
 use Rattle.type_reader_io.specs.Commands.{HasCommand}
-use Rattle.type_reader_io.specs.Lines.{HasSmallNumber, IsReportedAs, line_of, usage_line}
+use Rattle.type_reader_io.specs.Lines.{HasSmallNumber, line_of, usage_line}
 use Rattle.type_reader_io.specs.Reports.{ReportsEach, texts_of}
 use Rattle.type_reader_io.specs.declared.command.Command.{Command}
 use Rattle.type_reader_io.specs.declared.command.Command.TheVariants as commands
@@ -17,9 +17,8 @@ use Rattle.type_reader_io.specs.declared.error.ReaderError.{ReaderError}
 use Rattle.type_reader_io.specs.declared.error.ReaderError.TheVariants as errors
 use Rattle.type_reader_run.specs.Conversions.{Outcome, bad, made, reports_from}
 use Rattle.type_reader_run.specs.Outputs.{OutputsOf, id_line}
-use Rattle.type_reader_run.specs.Runs.{Does, ExplainsStop, IsSo, Refuses, RefusesLines, bad_lines}
+use Rattle.type_reader_run.specs.Runs.{Does, ExplainsStop, IsSo, Refuses, bad_lines}
 use Rattle.type_reader_run.specs.Runs.{has_changes, no_type, not_compared, stopped}
-use Rattle.type_reader_run.specs.Tables.{source_line}
 use Rattle.type_table_io.specs.Reports.{AppendsPrefix, Reported}
 
 -- the first letter of a report, 116, is not that of these bytes

@@ -1,11 +1,10 @@
 -- What is written for an input that is known, or is not.
-use Rattle.std.proofs.Common.{◌≡◌, ◌⊎◌, ℕ, List, Bool, Option, None, Some, IfSome, inl, inr, subst}
-use Rattle.std.specs.Io.KnownBytes.{Appends, Keeps}
+use Rattle.std.proofs.Common.{◌≡◌, ℕ, List, Bool, Option, None, Some, IfSome, inr, subst}
+use Rattle.std.specs.Io.KnownBytes.{Appends}
 use Rattle.type_reader_io.specs.declared.error.ReaderError.{ReaderError}
-use Rattle.type_reader_io.specs.declared.error.ReaderError.TheVariants as errors
 use Rattle.type_reader_io.specs.declared.command.Request.{Request}
 use Rattle.type_reader_run.specs.Outputs.{HasOutput, MakesOf, WritesPrefix, WritesWhole}
-use Rattle.type_reader_run.specs.Refusals.{Explains, IsMakingError, IsRequestError}
+use Rattle.type_reader_run.specs.Refusals.{IsMakingError, IsRequestError}
 use Rattle.type_reader_run.specs.Tables.{input_bytes, is_hexadecimal}
 use Rattle.type_table_io.specs.Reports.{AppendsPrefix}
 

@@ -1,5 +1,5 @@
 -- What comes of lines, one line more.
-use Rattle.std.proofs.Common.{◌≡◌, ◌+◌, ◌++◌, ◌∙◌, ◌&&◌, ℕ, List, [], ◌∷◌, Bool, ap, arith, length, refl}
+use Rattle.std.proofs.Common.{◌≡◌, ◌+◌, ◌++◌, ◌&&◌, ℕ, List, [], ◌∷◌, ap, arith, length, refl}
 use Rattle.type_reader_io.specs.Lines.{bad_line}
 use Rattle.type_reader_io.specs.declared.command.Conversion.{Conversion}
 use Rattle.scale_info_tables.specs.declared.portable.PortableRegistry.{PortableRegistry}

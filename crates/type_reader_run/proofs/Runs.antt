@@ -3,12 +3,11 @@
 use Rattle.std.proofs.Common.{◌≡◌, ◌++◌, ℕ, List, [], ◌∷◌, Bool, Option, None, Some, IfSome, subst}
 use Rattle.type_reader_io.specs.Commands.{HasCommand}
 use Rattle.type_reader_io.specs.Lines.{line_of}
-use Rattle.type_reader_io.specs.Reports.{ReportsEach, texts_of}
+use Rattle.type_reader_io.specs.Reports.{texts_of}
 use Rattle.type_reader_io.specs.declared.command.Command.{Command}
 use Rattle.type_reader_io.specs.declared.command.Command.TheVariants as commands
 use Rattle.type_reader_io.specs.declared.command.Conversion.{Conversion}
 use Rattle.type_reader_io.specs.declared.error.ReaderError.{ReaderError}
-use Rattle.scale_info_tables.specs.declared.portable.PortableRegistry.{PortableRegistry}
 use Rattle.type_reader_run.specs.Conversions.{AreOutcomes, HasOutcomes, HasType, Outcome}
 use Rattle.type_reader_run.specs.Conversions.{reports_from}
 use Rattle.type_reader_run.specs.Runs.{ConvertsAll, Does, Refuses, StopsAfter, bad_lines}

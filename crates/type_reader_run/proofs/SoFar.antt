@@ -1,5 +1,5 @@
 -- Lines that were converted so far.
-use Rattle.std.proofs.Common.{◌≡◌, ◌+◌, ◌++◌, ◌∙◌, ◌&&◌, ◌⊎◌, ℕ, List, [], ◌∷◌, Bool, Option, None, Some}
+use Rattle.std.proofs.Common.{◌≡◌, ◌+◌, ◌++◌, ◌∙◌, ◌&&◌, ℕ, List, [], ◌∷◌, Bool, Option, None, Some}
 use Rattle.std.proofs.Common.{IfSome, ap, append-nil, append_assoc, arith, flat_map, inl, inr, length}
 use Rattle.std.proofs.Common.{length-append, refl, subst, sym, true}
 use Rattle.std.proofs.KnownBytes.{Appends-nil, Appends-trans}

@@ -1,20 +1,15 @@
 -- Changes and paths, gone through one by one.
-use Rattle.std.proofs.Common.{◌≡◌, ◌≢◌, ◌⊎◌, ◌<◌, ◌≤◌, ◌+◌, ◌++◌, ◌∙◌, ℕ, List, [], ◌∷◌, true, false, ap}
-use Rattle.std.proofs.Common.{Bool, arith, cond, drop, flat_map, get_or, if◌then◌else◌, inl, inr, length}
+use Rattle.std.proofs.Common.{◌≡◌, ◌⊎◌, ◌<◌, ◌+◌, ◌++◌, ◌∙◌, ℕ, List, [], ◌∷◌, true, false, ap}
+use Rattle.std.proofs.Common.{Bool, cond, drop, flat_map, get_or, if◌then◌else◌, inl, inr, length}
 use Rattle.std.proofs.Common.{refl, subst, sym, take, take-append-drop}
-use Rattle.std.proofs.lemmas.List.{drop_all, drop_more}
+use Rattle.std.proofs.lemmas.List.{drop_more}
 use Rattle.std.proofs.lemmas.List.Concat.{flat_map-cons}
-use Rattle.std.specs.List.{All, filter, list_any}
-use Rattle.std.specs.Str.{bytes_eq}
-use Rattle.scale_info_describe.specs.PathSearches.{indices_from}
-use Rattle.scale_info_diff.specs.TypesByPath.{has_path, ids_of}
+use Rattle.std.specs.List.{All, filter}
 use Rattle.scale_info_diff.specs.declared.change.Change.{Change}
-use Rattle.scale_info_segments.specs.TypePaths.{joined}
-use Rattle.scale_info_types.specs.declared.ty.PortableType.{PortableType}
 use Rattle.type_reader_io.specs.declared.error.ReaderError.{ReaderError}
 use Rattle.type_reader_io.specs.declared.error.ReaderError.TheVariants as errors
-use Rattle.type_reader_run.specs.Differences.{HasUnknownPath, IsInEither, IsPathError, LacksPath}
-use Rattle.type_reader_run.specs.Differences.{change_line, is_of, path_of, told_line}
+use Rattle.type_reader_run.specs.Differences.{IsInEither, IsPathError, LacksPath}
+use Rattle.type_reader_run.specs.Differences.{change_line, is_of, told_line}
 
 -- what is left from an index on
 next_of :

@@ -1,5 +1,5 @@
 -- Values that JSON texts give, and their encodings.
-use Rattle.std.specs.Prelude.{◌≡◌, ◌⊎◌, ◌++◌, ℕ, IsUtf8, List, Some, None, codes}
+use Rattle.std.specs.Prelude.{◌≡◌, ◌⊎◌, ◌++◌, ℕ, IsUtf8, List, Some, codes}
 use Rattle.hex.specs.Hex.{encode_lower}
 use Rattle.serde_json.specs.Data.{Data}
 use Rattle.serde_json.specs.Read.{read as read_text}

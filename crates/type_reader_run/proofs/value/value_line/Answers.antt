@@ -1,6 +1,5 @@
 use Rattle.std.proofs.Common.{◌∙◌, Some, ap, sym}
 use Rattle.type_reader_run.proofs.Faults.{value_error}
-use Rattle.type_reader_run.specs.Values.{bytes_by_digits}
 use Rattle.type_reader_run.proofs.value.value_line.Goals as goal
 
 pub returns-clause-err : goal.returns-clause-err
