@@ -1,4 +1,5 @@
 //! Comments in colour, for a terminal.
+ghost use Rattle.std.specs.Prelude.{◌≤◌, IfOk, length};
 
 use std::io;
 use std::io::Write;
@@ -37,7 +38,9 @@ impl<W: Write> Painter<W> {
     }
 
     /// Writes blanks at the beginning of a line, or what comes after them.
-    fn write_begun(&mut self, buf: &[u8]) -> io::Result<usize> {
+    fn write_begun(&mut self, buf: &[u8]) -> io::Result<usize>
+        ensures { IfOk result (λ count. count ≤ length buf.now) }
+    {
         let blanks = buf.iter().take_while(|byte| **byte == b' ').count();
         if blanks > 0 {
             return self.writer.write(&buf[..blanks]);
@@ -52,7 +55,9 @@ impl<W: Write> Painter<W> {
     }
 
     /// Writes more of a comment, or its end.
-    fn write_comment(&mut self, buf: &[u8]) -> io::Result<usize> {
+    fn write_comment(&mut self, buf: &[u8]) -> io::Result<usize>
+        ensures { IfOk result (λ count. count ≤ length buf.now) }
+    {
         match buf.iter().position(|byte| *byte == b'\n') {
             Some(0) => {
                 self.writer.write_all(PLAIN)?;
@@ -65,7 +70,9 @@ impl<W: Write> Painter<W> {
     }
 
     /// Writes more of a line that is no comment, or its end.
-    fn write_code(&mut self, buf: &[u8]) -> io::Result<usize> {
+    fn write_code(&mut self, buf: &[u8]) -> io::Result<usize>
+        ensures { IfOk result (λ count. count ≤ length buf.now) }
+    {
         let Some(end) = buf.iter().position(|byte| *byte == b'\n') else {
             return self.writer.write(buf);
         };

@@ -13,8 +13,9 @@ use std::io;
 use std::io::Write;
 use type_table_io::writing::write_all;
 
-const USAGE: &str =
-    "usage: type_reader table TABLE | strip TABLE | list TABLE [TYPE ..] | find TABLE PATTERN | prune TABLE TYPE .. | graph TABLE TYPE .. | diff [--docs] OLD NEW [PATH ..] | value TABLE TYPE [HEX] | encode TABLE TYPE [JSON]\n";
+const USAGE: &str = "usage: type_reader table TABLE | strip TABLE | list TABLE [TYPE ..] | \
+    find TABLE PATTERN | prune TABLE TYPE .. | graph TABLE TYPE .. | \
+    diff [--docs] OLD NEW [PATH ..] | value TABLE TYPE [HEX] | encode TABLE TYPE [JSON]\n";
 
 /// The writer for errors as a reporter: the text of a message is written to it.
 #[derive(Drop)]
