@@ -29,8 +29,8 @@ abbrev pub conversion_word : Conversion → Word
 conversion_word conversions.Decode = words.Value
 conversion_word conversions.Encode = words.Encode
 
--- the request has this word, and these arguments after the table: of types to prune to, and of those
--- of a graph, there is one
+-- the request has this word, and these arguments after the table: there is one type at least to
+-- prune to, or to write as a graph
 abbrev pub IsRequest : Word → List (List ℕ) → Request → Type 0
 IsRequest word more requests.Table = (word ≡ words.Table) × (more ≡ [])
 IsRequest word more requests.Strip = (word ≡ words.Strip) × (more ≡ [])

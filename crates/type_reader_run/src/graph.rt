@@ -1,7 +1,7 @@
 //! Graphs.
 ghost use Rattle.std.specs.Prelude.{[], IfOk, IfErr, List, ℕ};
 ghost use Rattle.scale_info_graph.specs.GraphTexts.{AppendsGraph, IsGraphError};
-ghost use Rattle.scale_info_tables.specs.declared.portable.PortableRegistry.{PortableRegistry as Table};
+ghost use Rattle.scale_info_tables.specs.declared.portable.PortableRegistry as registries;
 ghost use Rattle.type_reader_run.specs.Refusals.{IsLeadingError};
 
 use scale_info_graph::error::GraphError;
@@ -13,7 +13,7 @@ use type_reader_io::error::ReaderError;
 /// The program's error for one of a graph. That of a table with more entries than bytes encode is
 /// as that of an allocation.
 fn error_of(error: GraphError) -> ReaderError
-    ensures { (table : Table) → (ids : List ℕ) → IsGraphError table ids error
+    ensures { (table : registries.PortableRegistry) → (ids : List ℕ) → IsGraphError table ids error
         → IsLeadingError table.types ids result }
 {
     match error {
