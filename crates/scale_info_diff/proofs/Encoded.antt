@@ -58,6 +58,7 @@ nothing_after types bytes encoding rest others x y parts =
     let long = ap length same.0 in
     nil_from_length rest (omega arith)
 
+-- bytes that encode a table have no bytes after a table
 pub no_trailing :
     (types : List PortableType) (bytes : List ℕ) → EncodesTypes types bytes → HasTrailing bytes → ⊥
 no_trailing types bytes x h =

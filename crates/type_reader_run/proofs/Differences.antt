@@ -1,4 +1,4 @@
--- What is told of changes, by what is known of the inputs.
+-- What is said of changes, by what is known of the inputs.
 use Rattle.std.proofs.Common.{◌≡◌, ◌⊎◌, ◌∙◌, ℕ, List, [], ◌∷◌, Option, None, Some, IfSome}
 use Rattle.std.proofs.Common.{ap, arith, flat_map, get_or, inl, inr, length, refl, subst, sym}
 use Rattle.std.proofs.KnownBytes.{Appends-nil}

@@ -27,7 +27,7 @@ line_then true change changes lines is =
     ap (λ l. change_line change ++ l) is ∙ sym (flat_map-cons change_line change changes)
 line_then false change changes lines is = is
 
--- the lines of the changes that are told are those of the chosen changes
+-- the lines of the changes that are written are those of the chosen changes
 pub told_lines :
     (paths : List (List ℕ)) (changes : List Change)
     → flat_map (told_line paths) changes ≡ flat_map change_line (filter (is_of paths) changes)
