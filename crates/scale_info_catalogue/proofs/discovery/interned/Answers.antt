@@ -14,7 +14,7 @@ returns-in-Ok-intern_or_get-clause-new c is_new =
     c.in-Ok-intern_or_get.is_new c.in-Ok.ensures (λ known. (made.known known.0 known.1).1.0) is_new in (
       new,
       pushed_one c.args.identities.now c.intern_or_get.new.self c.in-Ok.copy c.args.id.now
-      c.in-Ok.ensures new (λ is. (made.new is).2),
+          c.in-Ok.ensures new (λ is. (made.new is).2),
     )
 
 pub returns-in-Ok-intern_or_get-clause-known : goal.returns-in-Ok-intern_or_get-clause-known
