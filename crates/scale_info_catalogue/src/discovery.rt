@@ -149,6 +149,10 @@ fn number_cached<'a>(
     if cache.known_by(identities, id, hash).is_some() {
         return Ok(None);
     }
+    // Without slots most of what comes here is known, and a copy of it would be for nothing.
+    if !cache.has_slots() && searched(identities, id).is_some() {
+        return Ok(None);
+    }
     let (number, new) = number_new(alloc, identities, id, catalogue)?;
     cache.put(alloc, identities, id, hash, number);
     Ok(new)

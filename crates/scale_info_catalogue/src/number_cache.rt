@@ -53,13 +53,14 @@ impl NumberCache {
         }
     }
 
+    /// Whether there is a slot, as there is where there are more than a few identities.
+    pub(crate) fn has_slots(&self) -> bool {
+        !self.slots.is_empty()
+    }
+
     /// The hash of an identity; 0, as long as there are no slots.
     pub(crate) fn hash(&self, id: &TypeId) -> usize {
-        if self.slots.is_empty() {
-            0
-        } else {
-            hash_of(id)
-        }
+        if self.has_slots() { hash_of(id) } else { 0 }
     }
 
     /// The number of an identity, if the cache has it. Neither searches nor allocates.
