@@ -1,4 +1,5 @@
 pub mod LastElement
 pub mod Ordered
 pub mod Orders
+pub mod Pushed
 pub mod Chunks

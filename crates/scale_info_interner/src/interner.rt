@@ -213,6 +213,41 @@ impl<T: Ord + TryClone> Interner<T> {
         Ok((true, symbol))
     }
 
+    /// The same for a value that is lent: it is searched once, and copied only where it is new.
+    ///
+    /// Errors: as those of [`Interner::intern_or_get`], where the copy is an allocation too.
+    pub fn intern_copy(&mut self, value: &T) -> Result<(bool, UntrackedSymbol<T>), InternError>
+        // A known value can't fail, so it does not allocate.
+        ensures known { (i : _) → IsIndexOf T.eq self.old value.now i
+            → IsOk result × IfOk result (λ r. (r.0 ≡ false) × (r.1.id ≡ i))
+            × (self.new ≡ self.old) }
+        ensures new { IsNew T.eq self.old value.now
+            → IfOk result (λ r. (r.0 ≡ true) × (r.1.id ≡ length self.old)
+            × (self.new ≡ self.old ++ value.now ∷ [])) }
+        ensures ok { IfOk result (λ r. IsIndexOf T.eq self.new value.now r.1.id) }
+        ensures full { IsErrOf result InternError.Full
+            ↔ (length self.old ≡ 4294967295) × IsNew T.eq self.old value.now }
+        ensures err { OnErr result (self.new ≡ self.old) }
+    {
+        let place = match locate(&self.elements, &self.chunks, &self.bounds, value) {
+            Ok(index) => return Ok((false, UntrackedSymbol::from(index))),
+            Err(place) => place,
+        };
+        if self.is_full() {
+            return Err(InternError::Full);
+        }
+        let copy = value.try_clone(*self.elements.allocator())?;
+        let copied = push_new(
+            &mut self.elements,
+            &mut self.chunks,
+            &mut self.bounds,
+            &mut self.rooms,
+            place,
+            copy,
+        )?;
+        Ok((true, copied))
+    }
+
     /// Whether each index is taken, so that no new value can get one.
     fn is_full(&self) -> bool
         ensures full { IsTrue result ↔ (length self.now ≡ 4294967295) }

@@ -1,10 +1,8 @@
-use Rattle.std.proofs.Common.{◌≡◌, ◌++◌, ◌∷◌, [], map, length, refl, sym, ap, subst, arith, ◌∙◌}
-use Rattle.std.proofs.Common.{◌<◌}
-use Rattle.std.proofs.lemmas.List.{length-append}
+use Rattle.std.proofs.Common.{map, refl, sym, ap, subst, ◌∙◌}
 use Rattle.scale_info_interner.specs.Interned.{IsIndexOf, IsKnown}
-use Rattle.scale_info_interner.specs.ElementOrders.{IsElementOrder, IsGapFor}
+use Rattle.scale_info_interner.specs.ElementOrders.{IsElementOrder}
 use Rattle.scale_info_interner.proofs.Orders.{equal_index, one_index, gap_absent, last_index}
-use Rattle.scale_info_interner.proofs.Orders.{order_push}
+use Rattle.scale_info_interner.proofs.Pushed.{pushed}
 use Rattle.scale_info_interner.proofs.interner.Interner.intern_or_get.Given as given
 use Rattle.scale_info_interner.proofs.interner.Interner.intern_or_get.Goals as goal
 
@@ -57,23 +55,14 @@ returns-in_err-symbol-clause-known g c = λ i k.
 
 pub invariant_of-self-2 : goal.invariant_of-self-2
 invariant_of-self-2 g c =
-    let xs = c.self.inside.elements.items in
-    let chunks = map (λ v. v.items) c.self.inside.chunks.items in
-    let made = map (λ v. v.items) c.push_new.new.chunks.items in
     let place = c.in-Err.place in
-    let pushed : c.push_new.new.elements.items ≡ xs ++ c.args.value ∷ [] = c.in_ok-symbol.ensures.ok.1 in
-    let gap : IsGapFor g.T.Ord.cmp xs chunks c.args.value place.chunk place.at =
-    subst (λ v. IsGapFor g.T.Ord.cmp xs v c.args.value place.chunk place.at)
-    (ap (λ cs. map (λ v. v.items) cs) c.deref-2.ensures.value)
-    (subst (λ v. IsGapFor g.T.Ord.cmp v (map (λ v. v.items) c.deref-2.result.now) c.args.value place.chunk place.at)
-    c.deref.ensures.value c.in-Err.ensures.absent) in
-    let order =
-    order_push g.met.T.Ord.total xs c.args.value chunks made place.chunk place.at
-    c.self.invariant.0 gap (c.in_ok-symbol.ensures.filled c.self.invariant.0.filled) c.in_ok-symbol.ensures.order in
-    let room : length c.args.self.now < 4294967295 = c.if-is_full.ensures.room refl in
-    let few : length xs < 4294967295 = rw c.self.view_is room in
-    let long = length-append xs (c.args.value ∷ []) in
-    (rw pushed order, rw pushed (omega (arith, few, long)))
+    pushed g.met.T.Ord.total c.self.inside.elements.items c.deref.result.now
+    c.push_new.new.elements.items c.args.value (map (λ v. v.items) c.self.inside.chunks.items)
+    (map (λ v. v.items) c.deref-2.result.now) (map (λ v. v.items) c.push_new.new.chunks.items)
+    place.chunk place.at c.deref.ensures.value (ap (λ cs. map (λ v. v.items) cs) c.deref-2.ensures.value)
+    c.self.invariant.0 c.in-Err.ensures.absent (c.in_ok-symbol.ensures.filled c.self.invariant.0.filled)
+    c.in_ok-symbol.ensures.order c.in_ok-symbol.ensures.ok.1
+    (rw c.self.view_is (c.if-is_full.ensures.room refl))
 
 pub returns-clause-known : goal.returns-clause-known
 returns-clause-known g c = λ i k.
