@@ -64,13 +64,6 @@ pub nodes_push :
     (ids more : List TypeId) (id : TypeId) → more ≡ ids ++ id ∷ [] → nodes_of more ≡ nodes_of ids ++ term_of id ∷ []
 nodes_push ids more id e = ap nodes_of e ∙ map-append term_of ids (id ∷ [])
 
--- an unknown identity is appended, where an equal copy of it is appended if unknown
-pub pushed_one :
-    (ids more : List TypeId) (copy id : TypeId) → copy ≡ id → IsNew equals.eq ids id
-    → (IsNew equals.eq ids copy → more ≡ ids ++ copy ∷ []) → more ≡ ids ++ id ∷ []
-pushed_one ids more copy id e u f =
-    subst (λ i. (IsNew equals.eq ids i → more ≡ ids ++ i ∷ []) → more ≡ ids ++ id ∷ []) (sym e) (λ g. g u) f
-
 -- identities that begin with earlier ones still do, once one more is appended
 pub kept_more :
     (before ids new : List TypeId) (id : TypeId) → (more : List TypeId) × (ids ≡ before ++ more)

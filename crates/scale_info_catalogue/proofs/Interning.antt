@@ -1,6 +1,6 @@
--- Whether an identity has a number, by what comes of interning a copy of it.
+-- Whether an identity has a number, by what comes of interning it.
 use Rattle.std.proofs.Common.{◌≡◌, ◌⊎◌, ◌∙◌, ℕ, suc, List, [], ◌∷◌, Bool, true, false, inl, inr, refl}
-use Rattle.std.proofs.Common.{ap, subst, sym, zero}
+use Rattle.std.proofs.Common.{ap, sym, zero}
 use Rattle.std.proofs.lemmas.Bool.{false≢true}
 use Rattle.std.proofs.lemmas.Option.{none-some, same_Some}
 use Rattle.scale_info_interner.specs.Interned.{IsIndexOf, IsKnown, IsNew}
@@ -32,18 +32,16 @@ known_or_new eq (y ∷ ys) x = by_first eq y ys x (eq x y) refl (known_or_new eq
 
 -- what was found to be new is new, if a known one is not found so
 pub new_by :
-    {T : Type 0} (eq : T → T → Bool) (xs : List T) (copy x : T) (is_new : Bool) → copy ≡ x
-    → (IsKnown eq xs copy → is_new ≡ false) → is_new ≡ true → IsNew eq xs x
-new_by eq xs copy x is_new same known so is =
-    false≢true (sym (known (subst (IsKnown eq xs) (sym same) is)) ∙ so)
+    {T : Type 0} (eq : T → T → Bool) (xs : List T) (x : T) (is_new : Bool)
+    → (IsKnown eq xs x → is_new ≡ false) → is_new ≡ true → IsNew eq xs x
+new_by eq xs x is_new known so is = false≢true (sym (known is) ∙ so)
 
 -- what was not found to be new is known, if a new one is found so
 pub known_by :
-    {T : Type 0} (eq : T → T → Bool) (xs : List T) (copy x : T) (is_new : Bool) → copy ≡ x
-    → (IsNew eq xs copy → is_new ≡ true) → is_new ≡ false → IsKnown eq xs x
-known_by eq xs copy x is_new same new so =
-    subst (IsKnown eq xs) same (decided (known_or_new eq xs copy))
+    {T : Type 0} (eq : T → T → Bool) (xs : List T) (x : T) (is_new : Bool)
+    → (IsNew eq xs x → is_new ≡ true) → is_new ≡ false → IsKnown eq xs x
+known_by eq xs x is_new new so = decided (known_or_new eq xs x)
   where
-    decided : IsKnown eq xs copy ⊎ IsNew eq xs copy → IsKnown eq xs copy
+    decided : IsKnown eq xs x ⊎ IsNew eq xs x → IsKnown eq xs x
     decided (inl known) = known
     decided (inr is) = absurd (false≢true (sym so ∙ new is))

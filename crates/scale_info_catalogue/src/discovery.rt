@@ -174,7 +174,7 @@ fn number_new<'a>(
         };
         return Ok((number, None));
     };
-    match interned(alloc, identities, id)? {
+    match interned(identities, id)? {
         (true, number) => Ok((number, Some(described))),
         (false, number) => Ok((number, None)),
     }
@@ -191,15 +191,11 @@ fn searched(identities: &Interner<TypeId>, id: &TypeId) -> Option<u32>
 }
 
 /// The number of an identity, and whether it is new; then it gets the next one. It is searched
-/// once, by a copy, which only a new one needs: a known one does not fail.
+/// once, and copied only where it is new: a known one does not fail.
 ///
 /// Errors: `Full`, if it is new, and there are 4294967295 identities; `Memory`, if it is new, and
 /// an allocation failed. On an Err no number was given.
-fn interned(
-    alloc: Global,
-    identities: &mut Interner<TypeId>,
-    id: &TypeId,
-) -> Result<(bool, u32), RegisterError>
+fn interned(identities: &mut Interner<TypeId>, id: &TypeId) -> Result<(bool, u32), RegisterError>
     ensures new { IfOk result (λ found. found.0 ≡ true
         → IsNew ⟦<TypeId as PartialEq>⟧.eq identities.old id.now
         × (identities.new ≡ identities.old ++ id.now ∷ [])) }
@@ -213,13 +209,7 @@ fn interned(
         ⊎ (e ≡ error.Memory)) }
     ensures unknown { OnErr result (IsNew ⟦<TypeId as PartialEq>⟧.eq identities.old id.now) }
 {
-    let Ok(copy) = id.try_clone(alloc) else {
-        let Some(number) = searched(identities, id) else {
-            return Err(RegisterError::Memory);
-        };
-        return Ok((false, number));
-    };
-    match identities.intern_or_get(copy) {
+    match identities.intern_copy(id) {
         Ok((is_new, symbol)) => Ok((is_new, symbol.id)),
         Err(InternError::Full) => Err(RegisterError::Full),
         Err(InternError::Memory) => Err(RegisterError::Memory),

@@ -118,6 +118,7 @@ fn call_of_copies(rt: &HostRuntime, name: &str, input: &str) -> Result<Outcome, 
 fn call_of_lists(rt: &HostRuntime, name: &str, input: &str) -> Result<Outcome, Fail> {
     match name {
         "intern_or_get" | "intern_or_get_known" => texts::intern_or_get(rt, input),
+        "intern_copy" | "intern_copy_known" => texts::intern_copy(rt, input),
         "intern" => texts::intern(rt, input),
         "look_at_interner" => texts::look(rt, input),
         "compare_interners" => texts::compare(rt, input),

@@ -60,6 +60,16 @@ pub fn intern_or_get(rt: &HostRuntime, chars: &str) -> Result<Outcome, Fail> {
     Outcome::lending(before, after, shown(rt.alloc(), numbered(returned)))
 }
 
+/// Interns a text after four, which is lent.
+pub fn intern_copy(rt: &HostRuntime, chars: &str) -> Result<Outcome, Fail> {
+    let mut texts = Held(interner(rt.alloc(), FOUR)?);
+    let value = Held(text(rt.alloc(), chars)?);
+    let before = state(rt.alloc(), &texts.0);
+    let returned = marked!(rt; texts.0.intern_copy(&value.0));
+    let after = state(rt.alloc(), &texts.0);
+    Outcome::lending(before, after, shown(rt.alloc(), numbered(returned)))
+}
+
 /// Interns texts, each of which is new or has a number.
 pub fn intern(rt: &HostRuntime, row: &str) -> Result<Outcome, Fail> {
     let mut texts = Held(Interner::new(rt.alloc()));
