@@ -168,16 +168,15 @@ fn number_new<'a>(
     ensures err { OnErr result (identities.new ≡ identities.old) }
     ensures cause { IfErr result (IsNumberError catalogue.now identities.old id.now) }
 {
-    let Some(described) = catalogue.get(id) else {
-        let Some(number) = searched(identities, id) else {
-            return Err(RegisterError::Undescribed(id.try_clone(alloc)?));
-        };
+    let (is_new, number) = interned(identities, id)?;
+    if !is_new {
         return Ok((number, None));
-    };
-    match interned(identities, id)? {
-        (true, number) => Ok((number, Some(described))),
-        (false, number) => Ok((number, None)),
     }
+    let Some(described) = catalogue.get(id) else {
+        identities.truncate(number as usize);
+        return Err(RegisterError::Undescribed(id.try_clone(alloc)?));
+    };
+    Ok((number, Some(described)))
 }
 
 /// The number of an identity, by a search; None if it has none. Does not allocate.
@@ -198,7 +197,7 @@ fn searched(identities: &Interner<TypeId>, id: &TypeId) -> Option<u32>
 fn interned(identities: &mut Interner<TypeId>, id: &TypeId) -> Result<(bool, u32), RegisterError>
     ensures new { IfOk result (λ found. found.0 ≡ true
         → IsNew ⟦<TypeId as PartialEq>⟧.eq identities.old id.now
-        × (identities.new ≡ identities.old ++ id.now ∷ [])) }
+        × (identities.new ≡ identities.old ++ id.now ∷ []) × (found.1 ≡ length identities.old)) }
     ensures known { IfOk result (λ found. found.0 ≡ false
         → IsKnown ⟦<TypeId as PartialEq>⟧.eq identities.old id.now
         × (identities.new ≡ identities.old)) }

@@ -9,7 +9,7 @@ returns-in-Ok-clause-new c is_new =
     let new =
     new_by equals.eq c.args.identities.now c.args.id.now c.in-Ok.is_new
     (λ known. (made.known known.0 known.1).1.0) is_new in
-    (new, (made.new new).2)
+    (new, (made.new new).2, (made.new new).1)
 
 pub returns-in-Ok-clause-known : goal.returns-in-Ok-clause-known
 returns-in-Ok-clause-known c is_known =
