@@ -1,4 +1,5 @@
 pub mod Comparisons
+pub mod Declarations
 pub mod Differences
 pub mod NamedTables
 pub mod TableChanges

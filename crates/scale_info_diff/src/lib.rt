@@ -2,12 +2,15 @@
 //!
 //! [`changes::changes`] lists the paths of types that are gone, new, or no longer the same; docs
 //! don't count. [`changes::changes_with_docs`] does so where docs count.
-//! [`difference::first_difference`] finds where types of two tables differ first.
+//! [`difference::first_difference`] finds where types of two tables differ first, and
+//! [`declarations::first_declared_change`] says it in words.
 #![tactic(auto)]
 
 pub mod change;
 pub mod changes;
 mod compare;
+pub mod declarations;
 pub mod difference;
+mod lines;
 mod named;
 mod paths;

@@ -3,15 +3,13 @@ use Rattle.std.proofs.Common.{◌≡◌, ◌⊎◌, ◌∙◌, ℕ, List, [], �
 use Rattle.std.proofs.Common.{ap, arith, flat_map, get_or, inl, inr, length, refl, subst, sym}
 use Rattle.std.proofs.KnownBytes.{Appends-nil}
 use Rattle.std.proofs.lemmas.List.Concat.{flat_map-cons}
-use Rattle.scale_info_diff.specs.declared.change.Change.{Change}
 use Rattle.scale_info_diff.specs.declared.change.Change.TheVariants.{Removed, Added, Changed}
 use Rattle.type_reader_io.specs.declared.command.Comparison.{Comparison}
 use Rattle.type_reader_io.specs.declared.error.ReaderError.{ReaderError}
 use Rattle.type_reader_io.specs.declared.error.ReaderError.TheVariants as errors
 use Rattle.type_reader_run.specs.Differences.{AreLines, AreTold, IfBoth, IsDiffError}
 use Rattle.type_reader_run.specs.Differences.{IsOwnError, IsPathError, IsReferenceError}
-use Rattle.type_reader_run.specs.Differences.{WritesChanges}
-use Rattle.type_reader_run.specs.Differences.{change_line}
+use Rattle.type_reader_run.specs.Differences.{ToldChange, WritesChanges, told_line}
 use Rattle.type_reader_run.specs.Tables.{HasTable, input_bytes}
 
 no_line : (lines : List ℕ) → length lines ≡ 0 → lines ≡ []
@@ -19,20 +17,20 @@ no_line [] none = refl
 no_line (byte ∷ lines) none = absurd (omega (arith, none))
 
 -- where there is no line there is no change
-no_change : (told : List Change) → flat_map change_line told ≡ [] → told ≡ []
+no_change : (told : List ToldChange) → flat_map told_line told ≡ [] → told ≡ []
 no_change [] none = refl
-no_change (Removed path ∷ told) none =
+no_change ((Removed path, reason) ∷ told) none =
     absurd
     (omega
-    (arith, ap (λ l. get_or l 0 0) (sym (flat_map-cons change_line (Removed path) told) ∙ none)))
-no_change (Added path ∷ told) none =
+    (arith, ap (λ l. get_or l 0 0) (sym (flat_map-cons told_line (Removed path, reason) told) ∙ none)))
+no_change ((Added path, reason) ∷ told) none =
     absurd
     (omega
-    (arith, ap (λ l. get_or l 0 0) (sym (flat_map-cons change_line (Added path) told) ∙ none)))
-no_change (Changed path ∷ told) none =
+    (arith, ap (λ l. get_or l 0 0) (sym (flat_map-cons told_line (Added path, reason) told) ∙ none)))
+no_change ((Changed path, reason) ∷ told) none =
     absurd
     (omega
-    (arith, ap (λ l. get_or l 0 0) (sym (flat_map-cons change_line (Changed path) told) ∙ none)))
+    (arith, ap (λ l. get_or l 0 0) (sym (flat_map-cons told_line (Changed path, reason) told) ∙ none)))
 
 -- the bytes of an input, where it is known
 abbrev pub IsRead : Option (List ℕ) → List ℕ → Type 0

@@ -1,41 +1,103 @@
 -- Changes and paths, gone through one by one.
 use Rattle.std.proofs.Common.{◌≡◌, ◌⊎◌, ◌<◌, ◌+◌, ◌++◌, ◌∙◌, ℕ, List, [], ◌∷◌, true, false, ap}
-use Rattle.std.proofs.Common.{Bool, cond, drop, flat_map, get_or, if◌then◌else◌, inl, inr, length}
-use Rattle.std.proofs.Common.{refl, subst, sym, take, take-append-drop}
-use Rattle.std.proofs.lemmas.List.{drop_more}
-use Rattle.std.proofs.lemmas.List.Concat.{flat_map-cons}
+use Rattle.std.proofs.Common.{append-nil, append_assoc, cond, drop, flat_map, get_or, inl, inr}
+use Rattle.std.proofs.Common.{length, map, refl, subst, sym, take, take-append-drop}
+use Rattle.std.proofs.lemmas.Grind.{flat_map-append}
+use Rattle.std.proofs.lemmas.List.{drop_more, map-append}
+use Rattle.std.proofs.lemmas.List.Elements.{All-append, All-cons, All-nil}
 use Rattle.std.specs.List.{All, filter}
 use Rattle.scale_info_diff.specs.declared.change.Change.{Change}
+use Rattle.type_reader_io.specs.declared.command.Docs.{Docs}
 use Rattle.type_reader_io.specs.declared.error.ReaderError.{ReaderError}
 use Rattle.type_reader_io.specs.declared.error.ReaderError.TheVariants as errors
-use Rattle.type_reader_run.specs.Differences.{IsInEither, IsPathError, LacksPath}
-use Rattle.type_reader_run.specs.Differences.{change_line, is_of, told_line}
+use Rattle.type_reader_run.specs.Differences.{AppendsChange, AreLinesOf, HasReason, IsInEither}
+use Rattle.type_reader_run.specs.Differences.{IsPathError, LacksPath, ToldChange, is_of, told_line}
 
 -- what is left from an index on
-next_of :
+pub next_of :
     {A : Type 0} (items : List A) (i : ℕ) (item : A)
     → i < length items → item ≡ get_or items i item → drop i items ≡ item ∷ drop (i + 1) items
 next_of items i item within is =
     drop_more items i item within ∙ ap (λ t. t ∷ drop (i + 1) items) (sym is)
 
-line_then :
-    (b : Bool) (change : Change) (changes : List Change) (lines : List ℕ)
-    → lines ≡ flat_map change_line changes
-    → (if b then change_line change else []) ++ lines
-    ≡ flat_map change_line (cond b (change ∷ changes) changes)
-line_then true change changes lines is =
-    ap (λ l. change_line change ++ l) is ∙ sym (flat_map-cons change_line change changes)
-line_then false change changes lines is = is
+-- some first changes were gone over: those of these paths are told, each with its reason
+pub record IsSoFar (docs : Docs) (old new : List ℕ) (paths : List (List ℕ))
+    (changes left : List Change) (text : List ℕ) : Type 0 where
+  pub told : List ToldChange
+  pub whole :
+      map (λ one. one.0) told ++ filter (is_of paths) left ≡ filter (is_of paths) changes
+  pub reasons : All (λ one. HasReason docs old new one.0 one.1) told
+  pub lines : text ≡ flat_map told_line told
 
--- the lines of the changes that are written are those of the chosen changes
-pub told_lines :
-    (paths : List (List ℕ)) (changes : List Change)
-    → flat_map (told_line paths) changes ≡ flat_map change_line (filter (is_of paths) changes)
-told_lines paths [] = refl
-told_lines paths (change ∷ changes) =
-    flat_map-cons (told_line paths) change changes
-    ∙ line_then (is_of paths change) change (filter (is_of paths) changes)
-    (flat_map (told_line paths) changes) (told_lines paths changes)
+-- before the first change
+pub none_told :
+    (docs : Docs) (old new : List ℕ) (paths : List (List ℕ)) (changes : List Change)
+    → IsSoFar docs old new paths changes changes []
+none_told docs old new paths changes = record {
+  told = [];
+  whole = refl;
+  reasons = All-nil (λ one. HasReason docs old new one.0 one.1);
+  lines = refl;
+}
+
+module _ (docs : Docs) (old new : List ℕ) (paths : List (List ℕ)) (changes : List Change)
+    (change : Change) (left : List Change) (text : List ℕ)
+    (x : IsSoFar docs old new paths changes (change ∷ left) text) where
+  -- a change of no such path
+  pub not_told : is_of paths change ≡ false → IsSoFar docs old new paths changes left text
+  not_told isnt = record {
+    told = x.told;
+    whole =
+        ap (λ b. map (λ one. one.0) x.told
+        ++ cond b (change ∷ filter (is_of paths) left) (filter (is_of paths) left)) (sym isnt)
+        ∙ x.whole;
+    reasons = x.reasons;
+    lines = x.lines;
+  }
+
+  -- a change of such a path
+  pub one_told :
+      (after : List ℕ) → is_of paths change ≡ true
+      → AppendsChange docs old new change text after
+      → IsSoFar docs old new paths changes left after
+  one_told after is y =
+      let one : ToldChange = (change, y.0) in
+      record {
+        told = x.told ++ one ∷ [];
+        whole =
+            ap (λ cs. cs ++ filter (is_of paths) left)
+            (map-append (λ (t : ToldChange). t.0) x.told (one ∷ []))
+            ∙ append_assoc (map (λ (t : ToldChange). t.0) x.told) (change ∷ []) (filter (is_of paths) left)
+            ∙ ap (λ b. map (λ one. one.0) x.told
+            ++ cond b (change ∷ filter (is_of paths) left) (filter (is_of paths) left)) (sym is)
+            ∙ x.whole;
+        reasons =
+            All-append (λ (t : ToldChange). HasReason docs old new t.0 t.1) x.told (one ∷ []) x.reasons
+            (All-cons (λ (t : ToldChange). HasReason docs old new t.0 t.1) one [] y.1
+            (All-nil (λ (t : ToldChange). HasReason docs old new t.0 t.1)));
+        lines =
+            y.2 ∙ ap (λ l. l ++ told_line one) x.lines
+            ∙ ap (λ l. flat_map told_line x.told ++ l) (sym (append-nil (told_line one)))
+            ∙ sym (flat_map-append told_line x.told (one ∷ []));
+      }
+
+-- after the last change
+pub all_told :
+    (docs : Docs) (old new : List ℕ) (paths : List (List ℕ)) (changes left : List Change)
+    (text : List ℕ)
+    → left ≡ [] → IsSoFar docs old new paths changes left text
+    → AreLinesOf docs old new (filter (is_of paths) changes) text
+all_told docs old new paths changes left text none x = record {
+  told = x.told;
+  reasoned = record {
+    of =
+        sym (append-nil (map (λ (t : ToldChange). t.0) x.told))
+        ∙ ap (λ cs. map (λ (t : ToldChange). t.0) x.told ++ filter (is_of paths) cs) (sym none)
+        ∙ x.whole;
+    reasons = x.reasons;
+  };
+  lines = x.lines;
+}
 
 -- the first path that neither table has
 pub unknown_path :

@@ -1,15 +1,20 @@
 //! What changed between two tables, as lines.
-ghost use Rattle.std.specs.Prelude.{◌≡◌, ◌≢◌, ◌++◌, ◌⊎◌, ℕ, List, [], All, IfErr, IfOk};
-ghost use Rattle.std.specs.Prelude.{IsFalse, IsTrue, OnOk, codes};
-ghost use Rattle.std.specs.List.{flat_map};
+ghost use Rattle.std.specs.Prelude.{◌≡◌, ◌≢◌, ◌≤◌, ◌++◌, ◌⊎◌, ℕ, List, [], All, IfErr, IfOk};
+ghost use Rattle.std.specs.Prelude.{IsFalse, IsTrue, OnOk, codes, filter, length, option_map};
+ghost use Rattle.std.specs.Prelude.{string_bytes};
 ghost use Rattle.scale_info_describe.specs.TypeNames.{Appends};
 ghost use Rattle.scale_info_diff.specs.TableChanges.{IsInputError};
-ghost use Rattle.scale_info_diff.specs.TypesByPath.{has_path, ids_of};
-ghost use Rattle.type_reader_run.specs.Differences.{AreChangesBy, AreLines, IsDiffError};
-ghost use Rattle.type_reader_run.specs.Differences.{IsInEither, IsPathError, IsReferenceError};
-ghost use Rattle.type_reader_run.specs.Differences.{change_line, is_of, path_of, told_line};
+ghost use Rattle.scale_info_diff.specs.TypesByPath.{ids_of};
+ghost use Rattle.scale_info_diff.specs.declared.change.Change.TheVariants as changed;
+ghost use Rattle.type_reader_io.specs.declared.command.Docs.{Docs as DocsValue};
+ghost use Rattle.type_reader_io.specs.declared.error.ReaderError.TheVariants as reader_error;
+ghost use Rattle.type_reader_run.specs.Differences.{AppendsChange, AreChangesBy, AreLines};
+ghost use Rattle.type_reader_run.specs.Differences.{AreLinesOf, IsDiffError, IsInEither};
+ghost use Rattle.type_reader_run.specs.Differences.{IsPathError, IsReferenceError, IsSide, is_of};
+ghost use Rattle.type_reader_run.specs.Differences.{change_line, path_of, reason_text};
 ghost use Rattle.type_reader_run.specs.Tables.{IsOneTable};
 
+use crate::reason::{Side, is_at, reason_of, side_of};
 use crate::selection::no_such_path;
 use crate::table::{Input, find_table, registry_of};
 use scale_info_collections::text::Text;
@@ -45,54 +50,127 @@ fn is_of(paths: &[Text], change: &Change) -> bool
 
 /// Appends the line of a path with this sign.
 fn append_path(out: &mut String, sign: &str, path: &Text) -> Result<(), AllocError>
-    ensures { Appends result out.old out.new (sign.now ++ path.now ++ codes "\n") }
+    ensures { Appends result out.old out.new (sign.now ++ (path.now ++ codes "\n")) }
 {
     out.push_str(sign)?;
     out.push_str(path.as_str())?;
     out.push_str("\n")
 }
 
-/// Appends the line of a change.
-fn append_change(out: &mut String, change: &Change) -> Result<(), AllocError>
-    ensures { Appends result out.old out.new (change_line change.now) }
+/// Appends a colon, a blank and the reason; nothing, where there is none.
+fn append_reason(out: &mut String, reason: &Option<String>) -> Result<(), AllocError>
+    ensures { Appends result out.old out.new
+        (reason_text (option_map string_bytes reason.now)) }
+{
+    let Some(reason) = reason else {
+        return Ok(());
+    };
+    out.push_str(": ")?;
+    out.push_str(reason.as_str())
+}
+
+/// Appends the line of a path that has changed, with the reason, if there is one.
+fn append_reasoned(out: &mut String, path: &Text, reason: &Option<String>) -> Result<(), AllocError>
+    ensures { Appends result out.old out.new
+        (change_line (changed.Changed path.now) (option_map string_bytes reason.now)) }
+{
+    out.push_str("~ ")?;
+    out.push_str(path.as_str())?;
+    append_reason(out, reason)?;
+    out.push_str("\n")
+}
+
+/// Appends the line of a path that has changed between two tables, and why it has.
+fn append_changed(
+    alloc: Global,
+    out: &mut String,
+    old: &Side,
+    new: &Side,
+    path: &Text,
+) -> Result<(), AllocError>
+    requires few { length old.now.registry.types ≤ 4294967295 }
+    requires new_few { length new.now.registry.types ≤ 4294967295 }
+    ensures { OnOk result ((docs : DocsValue) (table other : List ℕ)
+        → IsSide docs table old.now.bytes.items old.now.registry.types
+        → IsSide docs other new.now.bytes.items new.now.registry.types
+        → AppendsChange docs table other (changed.Changed path.now)
+        (string_bytes out.old) (string_bytes out.new)) }
+{
+    let reason = reason_of(alloc, old, new, path)?;
+    append_reasoned(out, path, &reason)
+}
+
+/// Appends the line of a change between two tables.
+fn append_change(
+    alloc: Global,
+    out: &mut String,
+    old: &Side,
+    new: &Side,
+    change: &Change,
+) -> Result<(), AllocError>
+    requires few { length old.now.registry.types ≤ 4294967295 }
+    requires new_few { length new.now.registry.types ≤ 4294967295 }
+    ensures { OnOk result ((docs : DocsValue) (table other : List ℕ)
+        → IsSide docs table old.now.bytes.items old.now.registry.types
+        → IsSide docs other new.now.bytes.items new.now.registry.types
+        → AppendsChange docs table other change.now
+        (string_bytes out.old) (string_bytes out.new)) }
 {
     match change {
         Change::Removed(path) => append_path(out, "- ", path),
         Change::Added(path) => append_path(out, "+ ", path),
-        Change::Changed(path) => append_path(out, "~ ", path),
+        Change::Changed(path) => append_changed(alloc, out, old, new, path),
     }
 }
 
-/// Appends the line of a change, if it is one of these paths, or there is no path.
-fn append_told(out: &mut String, paths: &[Text], change: &Change) -> Result<(), AllocError>
-    ensures { Appends result out.old out.new (told_line paths.now change.now) }
-{
-    if is_of(paths, change) {
-        return append_change(out, change);
-    }
-    Ok(())
-}
-
-/// The lines of the changes of these paths; of all, where there is no path.
-fn lines_of(alloc: Global, paths: &[Text], changes: &[Change]) -> Result<Vec<u8>, AllocError>
-    ensures { IfOk result (λ lines. lines.items ≡ flat_map (told_line paths.now) changes.now) }
+/// The lines of the changes of these paths between two tables; of all, where there is no path.
+fn lines_of(
+    alloc: Global,
+    old: &Side,
+    new: &Side,
+    paths: &[Text],
+    changes: &[Change],
+) -> Result<Vec<u8>, AllocError>
+    requires few { length old.now.registry.types ≤ 4294967295 }
+    requires new_few { length new.now.registry.types ≤ 4294967295 }
+    ensures { IfOk result (λ lines. (docs : DocsValue) (table other : List ℕ)
+        → IsSide docs table old.now.bytes.items old.now.registry.types
+        → IsSide docs other new.now.bytes.items new.now.registry.types
+        → AreLinesOf docs table other (filter (is_of paths.now) changes.now) lines.items) }
 {
     let mut out = String::new(alloc);
     for change in changes {
-        append_told(&mut out, paths, change)?;
+        if !is_of(paths, change) {
+            continue;
+        }
+        append_change(alloc, &mut out, old, new, change)?;
     }
     Ok(out.into_bytes())
 }
 
-/// Whether this type has the path.
-fn is_at(alloc: Global, entry: &PortableType, path: &Text) -> Result<bool, AllocError>
-    ensures { IfOk result (λ found. found ≡ has_path path.now entry.now.ty.path.segments) }
+/// The lines of the changes of these paths between two tables, by whether docs count; of all
+/// changes, where there is no path.
+///
+/// Errors: `Memory`, if an allocation failed.
+fn lines_by(
+    alloc: Global,
+    comparison: &Comparison<'_>,
+    old: &[u8],
+    new: &[u8],
+    changes: &[Change],
+) -> Result<Vec<u8>, ReaderError>
+    requires old { IsOneTable old.now }
+    requires new { IsOneTable new.now }
+    ensures ok { IfOk result (λ lines. AreLinesOf comparison.now.docs old.now new.now
+        (filter (is_of comparison.now.paths.now) changes.now) lines.items) }
+    ensures err { IfErr result (λ e. e ≡ reader_error.Memory) }
 {
-    if entry.ty.path.is_empty() {
-        return Ok(false);
+    if changes.is_empty() {
+        return Ok(Vec::new(alloc));
     }
-    let text = entry.ty.path.to_string(alloc)?;
-    Ok(path.as_str() == text.as_str())
+    let side = side_of(alloc, comparison.docs, old)?;
+    let other = side_of(alloc, comparison.docs, new)?;
+    Ok(lines_of(alloc, &side, &other, comparison.paths, changes)?)
 }
 
 /// Whether one of the types has the path.
@@ -213,5 +291,5 @@ pub fn lines_between(
     let (_, other) = find_table(&new.bytes)?;
     check_paths(alloc, table, other, comparison.paths)?;
     let changes = changes_between(alloc, comparison.docs, table, other)?;
-    Ok(lines_of(alloc, comparison.paths, &changes)?)
+    lines_by(alloc, comparison, table, other, &changes)
 }

@@ -12,6 +12,7 @@ mod output;
 mod program;
 mod pruning;
 mod reading;
+mod reason;
 mod selection;
 mod source;
 mod strip;

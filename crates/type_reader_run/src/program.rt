@@ -244,8 +244,10 @@ pub fn run_with<R: Read, S: BufRead, W: Write, T: Reporter>(
 ///   Graphviz draws.
 /// - `diff [--docs] OLD NEW [PATH ..]`: a line is written for each path of types that are only in
 ///   the table of OLD, `- PATH`, only in that of NEW, `+ PATH`, or in both and not the same,
-///   `~ PATH`: first the paths of the old table, in order, and then the added ones. Where paths are
-///   given, only the lines of these are written. Docs count only after `--docs`.
+///   `~ PATH: WHY`: first the paths of the old table, in order, and then the added ones. Where
+///   paths are given, only the lines of these are written. Docs count only after `--docs`. WHY is
+///   the first line of a declaration that differs, `OLD -> NEW`, after the path of the type that it
+///   declares, if that has one; with the colon it is left out where no declaration differs.
 /// - `value TABLE TYPE [HEX]`: the JSON text of the value of the type that the hexadecimal digits
 ///   write, and a line feed, are written.
 /// - `encode TABLE TYPE [JSON]`: the hexadecimal digits of the encoding of the value of the type

@@ -1,10 +1,11 @@
-use Rattle.std.proofs.Common.{◌≡◌, ◌∙◌, ℕ, List, ap, flat_map, refl, rules, subst}
+use Rattle.std.proofs.Common.{◌≡◌, ℕ, List, rules, subst}
+use Rattle.std.proofs.lemmas.Result.{IfOk-weaker}
 use Rattle.std.specs.List.{filter}
+use Rattle.scale_info_diff.specs.declared.change.Change.{Change}
 use Rattle.scale_info_metadata.specs.TablesFound.{IsTableOf}
 use Rattle.scale_info_metadata.specs.declared.metadata.Source.{Source}
 use Rattle.type_reader_run.proofs.Differences.{changes_error, path_error}
-use Rattle.type_reader_run.proofs.Told.{told_lines}
-use Rattle.type_reader_run.specs.Differences.{is_of, told_line}
+use Rattle.type_reader_run.specs.Differences.{AreReasoned, is_of}
 use Rattle.type_reader_run.specs.Tables.{HasTable}
 use Rattle.type_reader_run.proofs.diff.lines_between.Goals as goal
 
@@ -43,27 +44,32 @@ returns-in_err-changes-clause-err c =
 
 pub returns-clause-ok : goal.returns-clause-ok
 returns-clause-ok c =
-    let paths = c.args.comparison.now.paths.now in
-    let changes = c.in_ok-changes.changes.items in
+    let comparison = c.args.comparison.now in
+    let table = c.in_ok-table.table.now in
+    let other = c.in_ok-other.other.now in
+    IfOk-weaker c.lines_by.result _ _
+    (λ lines x.
     record {
-      told = filter (is_of paths) changes;
+      told = x.told;
       are_told =
           record {
-            old = c.in_ok-table.table.now;
-            new = c.in_ok-other.other.now;
+            old = table;
+            new = other;
             has_old =
-                has_table c.args.old.now.bytes.items c.deref.result.now c.in_ok-table.table.now
+                has_table c.args.old.now.bytes.items c.deref.result.now table
                 c.in_ok-table.field-0-0 c.deref.ensures.value c.in_ok-table.ensures.ok;
             has_new =
-                has_table c.args.new.now.bytes.items c.deref-2.result.now
-                c.in_ok-other.other.now c.in_ok-other.field-0-0 c.deref-2.ensures.value
-                c.in_ok-other.ensures.ok;
+                has_table c.args.new.now.bytes.items c.deref-2.result.now other
+                c.in_ok-other.field-0-0 c.deref-2.ensures.value c.in_ok-other.ensures.ok;
             known = c.in_ok-check_paths.ensures.ok;
-            changes = changes;
+            changes = c.in_ok-changes.changes.items;
             changed = c.in_ok-changes.ensures.ok;
-            chosen = refl;
+            chosen =
+                subst
+                (λ (cs : List Change).
+                AreReasoned comparison.docs table other (filter (is_of comparison.paths.now) cs) x.told)
+                c.deref-3.ensures.value x.reasoned;
           };
-      lines =
-          c.in_ok-lines_of.ensures ∙ ap (flat_map (told_line paths)) c.deref-3.ensures.value
-          ∙ told_lines paths changes;
-    }
+      lines = x.lines;
+    })
+    c.lines_by.ensures.ok

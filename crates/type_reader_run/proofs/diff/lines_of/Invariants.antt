@@ -1,9 +1,12 @@
-use Rattle.std.proofs.Common.{◌≡◌, ◌++◌, drop, string_bytes}
-use Rattle.std.specs.List.{flat_map}
-use Rattle.type_reader_run.specs.Differences.{told_line}
+use Rattle.std.proofs.Common.{ℕ, List, drop, string_bytes}
+use Rattle.type_reader_io.specs.declared.command.Docs.{Docs}
+use Rattle.type_reader_run.proofs.Told.{IsSoFar}
+use Rattle.type_reader_run.specs.Differences.{IsSide}
 use Rattle.type_reader_run.proofs.diff.lines_of.Given as goal
 
 abbrev pub invariant-loop-change : goal.invariant-loop-change
 invariant-loop-change l =
-    string_bytes l.out ++ flat_map (told_line l.paths) (drop l.change-index l.changes)
-    ≡ flat_map (told_line l.paths) l.changes
+    (docs : Docs) (table other : List ℕ)
+    → IsSide docs table l.old.bytes.items l.old.registry.types
+    → IsSide docs other l.new.bytes.items l.new.registry.types
+    → IsSoFar docs table other l.paths l.changes (drop l.change-index l.changes) (string_bytes l.out)

@@ -1,0 +1,69 @@
+-- The first lines in which the declarations of two tables' types differ.
+use Rattle.std.specs.Prelude.{◌≡◌, ◌≢◌, ◌<◌, ◌++◌, ℕ, List, [], ◌∷◌, Option, None, Some, MatchOption}
+use Rattle.std.specs.Prelude.{codes, slice_get, unwrap_or}
+use Rattle.std.specs.Str.{trim_start}
+use Rattle.std.specs.Str.Lines.{lines}
+use Rattle.scale_info_describe.specs.TypeDeclarations.{description_at}
+use Rattle.scale_info_describe.specs.TypeNames.{type_at}
+use Rattle.scale_info_segments.specs.TypePaths.{joined}
+use Rattle.scale_info_tables.specs.declared.portable.PortableRegistry.{PortableRegistry}
+use Rattle.scale_info_types.specs.Portable.{Text, Description}
+use Rattle.scale_info_diff.specs.Differences.{IsPrunedTo}
+
+-- the line at a place; past the last one it is empty
+abbrev pub line_at : List Text → ℕ → Text
+line_at texts place = unwrap_or (slice_get texts place) []
+
+-- at no place have both texts lines that differ
+abbrev pub AreLinesAlike : List Text → List Text → Type 0
+AreLinesAlike texts others = (i : ℕ) → line_at texts i ≡ line_at others i
+
+-- the change of a line: the line, an arrow and the other line, both without the blanks before them
+abbrev pub line_change : Text → Text → Text
+line_change line other = trim_start line ++ (codes " -> " ++ trim_start other)
+
+-- this is the change of the first line that differs
+pub record IsLineChange (texts others : List Text) (change : Text) : Type 0 where
+  pub place : ℕ
+  pub below : (i : ℕ) → i < place → line_at texts i ≡ line_at others i
+  pub differ : line_at texts place ≢ line_at others place
+  pub is : change ≡ line_change (line_at texts place) (line_at others place)
+
+-- the lines of the declaration of the type with an id; none, where the id is no index
+abbrev pub lines_at : PortableRegistry → ℕ → List Text
+lines_at table id = lines (unwrap_or (description_at table id) [])
+
+-- a path, a colon and a blank; nothing, where there is no segment
+abbrev pub path_before : List Text → Text
+path_before [] = []
+path_before (segment ∷ segments) = joined (segment ∷ segments) ++ codes ": "
+
+-- the same of a type; nothing, where there is none
+abbrev pub type_before : Option Description → Text
+type_before None = []
+type_before (Some ty) = path_before ty.path.segments
+
+-- at no place are types of both tables declared by lines that differ
+abbrev pub AreDeclaredAlike : PortableRegistry → PortableRegistry → Type 0
+AreDeclaredAlike table other = (id : ℕ) → AreLinesAlike (lines_at table id) (lines_at other id)
+
+-- the text is the path of the first type, if it has one, that is declared by other lines in the
+-- other table, and the change of the first such line
+pub record IsDeclaredChange (table other : PortableRegistry) (text : Text) : Type 0 where
+  pub place : ℕ
+  pub below : (id : ℕ) → id < place → AreLinesAlike (lines_at table id) (lines_at other id)
+  pub change : Text
+  pub first : IsLineChange (lines_at table place) (lines_at other place) change
+  pub is : text ≡ type_before (type_at table place) ++ change
+
+-- the tables that two inputs encode, each pruned to its ids, are first declared by other lines so;
+-- or they are by none
+pub record TellsDeclaredChange (old old_ids new new_ids : List ℕ)
+    (found : Option Text) : Type 0 where
+  pub order : List ℕ
+  pub other_order : List ℕ
+  pub table : PortableRegistry
+  pub other : PortableRegistry
+  pub pruned : IsPrunedTo old old_ids order table.types
+  pub other_pruned : IsPrunedTo new new_ids other_order other.types
+  pub tells : MatchOption found (AreDeclaredAlike table other) (IsDeclaredChange table other)

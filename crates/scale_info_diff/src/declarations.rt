@@ -1,0 +1,139 @@
+//! The first lines in which the declarations of two tables' types differ.
+ghost use Rattle.std.specs.Prelude.{◌≡◌, ◌≤◌, ◌⊎◌, ◌++◌, [], IfOk, IfErr, MatchOption};
+ghost use Rattle.std.specs.Prelude.{length, option_map, string_bytes, unwrap_or};
+ghost use Rattle.scale_info_describe.specs.TypeDeclarations.{description_at};
+ghost use Rattle.scale_info_describe.specs.TypeNames.{Appends, type_at};
+ghost use Rattle.scale_info_diff.specs.Declarations.{AreDeclaredAlike, AreLinesAlike};
+ghost use Rattle.scale_info_diff.specs.Declarations.{IsDeclaredChange, IsLineChange, lines_at};
+ghost use Rattle.scale_info_diff.specs.Declarations.{TellsDeclaredChange, type_before};
+ghost use Rattle.scale_info_prune.specs.Prunes.{IsPruneError};
+
+use crate::difference::pruned;
+use crate::lines::{first_change, lines_of};
+use scale_info_describe::describe::append_description;
+use scale_info_prune::prune::PruneError;
+use scale_info_tables::portable::PortableRegistry;
+use std::alloc::{AllocError, Global};
+
+/// What two tables declare otherwise first, from given ids on, in words: the path of a type, if it
+/// has one, and the first line of its declaration that differs, as it is in the old table and as it
+/// is in the new one; None, where no types are declared by other lines.
+///
+/// So it tells a reader why a path has changed: the ids are those of the types with the path. Both
+/// tables are pruned to their ids, which count in ascending order, each once; then the types that
+/// are kept are gone over in both at once, in depth-first order of discovery. So the field of a
+/// type comes before what its own type has changed in. Types are declared as by [`describe`]; what
+/// that doesn't write doesn't count here, such as the names of types that fields hold. Past the
+/// last line of a declaration, and past the last type, come empty lines. Docs count: write both
+/// tables without docs first where they should not.
+///
+/// Errors: as those of [`first_difference`].
+///
+/// ```text
+/// // `a::T { x: u8, y: b::U }` in both, with ids 0 and 3; `b::U` has `z: u8` and then `z: u16`
+/// first_declared_change(alloc, &old, &[0], &new, &[3])?   // Some("b::U: z: u8, -> z: u16,")
+/// ```
+///
+/// [`describe`]: scale_info_describe::describe::describe
+/// [`first_difference`]: crate::difference::first_difference
+pub fn first_declared_change(
+    alloc: Global,
+    old: &[u8],
+    old_ids: &[u32],
+    new: &[u8],
+    new_ids: &[u32],
+) -> Result<Option<String>, PruneError>
+    ensures ok { IfOk result (λ found. TellsDeclaredChange old.now old_ids.now new.now
+        new_ids.now (option_map string_bytes found)) }
+    ensures cause { IfErr result (λ error. IsPruneError old.now old_ids.now error
+        ⊎ IsPruneError new.now new_ids.now error) }
+{
+    let (table, _) = pruned(alloc, old, old_ids)?;
+    let (other, _) = pruned(alloc, new, new_ids)?;
+    Ok(change_between(alloc, &table, &other)?)
+}
+
+/// What the two tables declare otherwise first; None, where that is nothing.
+fn change_between(
+    alloc: Global,
+    table: &PortableRegistry,
+    other: &PortableRegistry,
+) -> Result<Option<String>, AllocError>
+    requires few { length table.now.types ≤ 4294967295 }
+    requires other_few { length other.now.types ≤ 4294967295 }
+    ensures { IfOk result (λ found. MatchOption (option_map string_bytes found)
+        (AreDeclaredAlike table.now other.now) (IsDeclaredChange table.now other.now)) }
+{
+    for place in 0..table.len().max(other.len()) {
+        let id = place as u32;
+        if let Some(change) = change_at(alloc, table, other, id)? {
+            return Ok(Some(with_path(alloc, table, id, &change)?));
+        }
+    }
+    Ok(None)
+}
+
+/// The change of the first line in which the declarations of the types with this id differ; None,
+/// where there is none.
+fn change_at(
+    alloc: Global,
+    table: &PortableRegistry,
+    other: &PortableRegistry,
+    id: u32,
+) -> Result<Option<String>, AllocError>
+    ensures { IfOk result (λ found. MatchOption (option_map string_bytes found)
+        (AreLinesAlike (lines_at table.now id) (lines_at other.now id))
+        (IsLineChange (lines_at table.now id) (lines_at other.now id))) }
+{
+    let declaration = declaration_of(alloc, table, id)?;
+    let other_declaration = declaration_of(alloc, other, id)?;
+    let lines = lines_of(alloc, &declaration)?;
+    let others = lines_of(alloc, &other_declaration)?;
+    first_change(alloc, &lines, &others)
+}
+
+/// The declaration of the type with this id; empty, where the id is no index.
+fn declaration_of(alloc: Global, table: &PortableRegistry, id: u32) -> Result<String, AllocError>
+    ensures { IfOk result
+        (λ text. string_bytes text ≡ unwrap_or (description_at table.now id) []) }
+{
+    let mut out = String::new(alloc);
+    append_description(alloc, table, id, &mut out)?;
+    Ok(out)
+}
+
+/// A change of the type with this id, behind the path of the type, if it has one.
+fn with_path(
+    alloc: Global,
+    table: &PortableRegistry,
+    id: u32,
+    change: &str,
+) -> Result<String, AllocError>
+    ensures { IfOk result
+        (λ text. string_bytes text ≡ type_before (type_at table.now id) ++ change.now) }
+{
+    let mut out = String::new(alloc);
+    append_path(alloc, &mut out, table, id)?;
+    out.push_str(change)?;
+    Ok(out)
+}
+
+/// Appends the path of the type with this id, a colon and a blank; nothing, where it has no path.
+fn append_path(
+    alloc: Global,
+    out: &mut String,
+    table: &PortableRegistry,
+    id: u32,
+) -> Result<(), AllocError>
+    ensures { Appends result out.old out.new (type_before (type_at table.now id)) }
+{
+    let Some(ty) = table.resolve(id) else {
+        return Ok(());
+    };
+    if ty.path.is_empty() {
+        return Ok(());
+    }
+    let path = ty.path.to_string(alloc)?;
+    out.push_str(path.as_str())?;
+    out.push_str(": ")
+}

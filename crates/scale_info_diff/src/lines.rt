@@ -1,0 +1,57 @@
+//! The lines of texts.
+ghost use Rattle.std.specs.Prelude.{◌≡◌, IfOk, MatchOption, option_map, string_bytes};
+ghost use Rattle.std.specs.Str.Lines.{lines};
+ghost use Rattle.scale_info_segments.specs.TypePaths.{texts};
+ghost use Rattle.scale_info_diff.specs.Declarations.{AreLinesAlike, IsLineChange, line_at};
+ghost use Rattle.scale_info_diff.specs.Declarations.{line_change};
+
+use std::alloc::{AllocError, Global};
+
+/// The lines of a text.
+pub(crate) fn lines_of(alloc: Global, text: &str) -> Result<Vec<&str>, AllocError>
+    ensures { IfOk result (λ all. texts all.items ≡ lines text.now) }
+{
+    text.lines().collect(alloc)
+}
+
+/// The line at a place; past the last one it is empty.
+fn line_at<'a>(lines: &[&'a str], place: usize) -> &'a str
+    ensures { result.now ≡ line_at (texts lines.now) place }
+{
+    match lines.get(place) {
+        Some(line) => line,
+        None => "",
+    }
+}
+
+/// The line, an arrow and the other line, both without the blanks before them.
+fn change_of(alloc: Global, line: &str, other: &str) -> Result<String, AllocError>
+    ensures { IfOk result (λ change. string_bytes change ≡ line_change line.now other.now) }
+{
+    let mut change = String::new(alloc);
+    change.push_str(line.trim_start())?;
+    change.push_str(" -> ")?;
+    change.push_str(other.trim_start())?;
+    Ok(change)
+}
+
+/// The change of the first line that differs: the line, an arrow and the other line; None, where
+/// all lines are equal. Past the last line of a text come empty ones.
+pub(crate) fn first_change(
+    alloc: Global,
+    lines: &[&str],
+    others: &[&str],
+) -> Result<Option<String>, AllocError>
+    ensures { IfOk result (λ found. MatchOption (option_map string_bytes found)
+        (AreLinesAlike (texts lines.now) (texts others.now))
+        (IsLineChange (texts lines.now) (texts others.now))) }
+{
+    for place in 0..lines.len().max(others.len()) {
+        let line = line_at(lines, place);
+        let other = line_at(others, place);
+        if line != other {
+            return Ok(Some(change_of(alloc, line, other)?));
+        }
+    }
+    Ok(None)
+}
