@@ -279,6 +279,7 @@ fn call_of_people(rt: &HostRuntime, name: &str, input: &str) -> Result<Outcome, 
         "same_types" => people::compare(rt, input),
         "append_graph" => graphs::append(rt, input),
         "changes" | "changes_with_docs" => changes::list(rt, name, input),
+        "first_difference" | "first_declared_change" => changes::find(rt, name, input),
         _ => call_of_passes(rt, name, input),
     }
 }
