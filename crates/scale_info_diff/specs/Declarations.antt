@@ -1,6 +1,6 @@
 -- The first lines in which the declarations of two tables' types differ.
 use Rattle.std.specs.Prelude.{◌≡◌, ◌≢◌, ◌<◌, ◌++◌, ℕ, List, [], ◌∷◌, Option, None, Some, MatchOption}
-use Rattle.std.specs.Prelude.{codes, slice_get, unwrap_or}
+use Rattle.std.specs.Prelude.{◌==◌, codes, if◌then◌else◌, slice_get, unwrap_or}
 use Rattle.std.specs.Str.{trim_start}
 use Rattle.std.specs.Str.Lines.{lines}
 use Rattle.scale_info_describe.specs.TypeDeclarations.{description_at}
@@ -43,18 +43,22 @@ abbrev pub type_before : Option Description → Text
 type_before None = []
 type_before (Some ty) = path_before ty.path.segments
 
+-- the same of the type at a place; nothing of the first one, which is that of the least given id
+abbrev pub place_before : PortableRegistry → ℕ → Text
+place_before table place = if place == 0 then [] else type_before (type_at table place)
+
 -- at no place are types of both tables declared by lines that differ
 abbrev pub AreDeclaredAlike : PortableRegistry → PortableRegistry → Type 0
 AreDeclaredAlike table other = (id : ℕ) → AreLinesAlike (lines_at table id) (lines_at other id)
 
--- the text is the path of the first type, if it has one, that is declared by other lines in the
--- other table, and the change of the first such line
+-- the text is the change of the first line in which the first type that is declared by other lines
+-- in the other table differs, behind the path of that type, unless it has the least given id
 pub record IsDeclaredChange (table other : PortableRegistry) (text : Text) : Type 0 where
   pub place : ℕ
   pub below : (id : ℕ) → id < place → AreLinesAlike (lines_at table id) (lines_at other id)
   pub change : Text
   pub first : IsLineChange (lines_at table place) (lines_at other place) change
-  pub is : text ≡ type_before (type_at table place) ++ change
+  pub is : text ≡ place_before table place ++ change
 
 -- the tables that two inputs encode, each pruned to its ids, are first declared by other lines so;
 -- or they are by none

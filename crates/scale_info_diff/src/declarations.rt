@@ -5,7 +5,8 @@ ghost use Rattle.scale_info_describe.specs.TypeDeclarations.{description_at};
 ghost use Rattle.scale_info_describe.specs.TypeNames.{Appends, type_at};
 ghost use Rattle.scale_info_diff.specs.Declarations.{AreDeclaredAlike, AreLinesAlike};
 ghost use Rattle.scale_info_diff.specs.Declarations.{IsDeclaredChange, IsLineChange, lines_at};
-ghost use Rattle.scale_info_diff.specs.Declarations.{TellsDeclaredChange, type_before};
+ghost use Rattle.scale_info_diff.specs.Declarations.{TellsDeclaredChange, place_before};
+ghost use Rattle.scale_info_diff.specs.Declarations.{type_before};
 ghost use Rattle.scale_info_prune.specs.Prunes.{IsPruneError};
 
 use crate::difference::pruned;
@@ -16,8 +17,9 @@ use scale_info_tables::portable::PortableRegistry;
 use std::alloc::{AllocError, Global};
 
 /// What two tables declare otherwise first, from given ids on, in words: the path of a type, if it
-/// has one, and the first line of its declaration that differs, as it is in the old table and as it
-/// is in the new one; None, where no types are declared by other lines.
+/// has one and is not that of the least id, and the first line of its declaration that differs, as
+/// it is in the old table and as it is in the new one; None, where no types are declared by other
+/// lines.
 ///
 /// So it tells a reader why a path has changed: the ids are those of the types with the path. Both
 /// tables are pruned to their ids, which count in ascending order, each once; then the types that
@@ -102,7 +104,8 @@ fn declaration_of(alloc: Global, table: &PortableRegistry, id: u32) -> Result<St
     Ok(out)
 }
 
-/// A change of the type with this id, behind the path of the type, if it has one.
+/// A change of the type with this id, behind the path of the type, if it has one, and the id is not
+/// 0.
 fn with_path(
     alloc: Global,
     table: &PortableRegistry,
@@ -110,12 +113,28 @@ fn with_path(
     change: &str,
 ) -> Result<String, AllocError>
     ensures { IfOk result
-        (λ text. string_bytes text ≡ type_before (type_at table.now id) ++ change.now) }
+        (λ text. string_bytes text ≡ place_before table.now id ++ change.now) }
 {
     let mut out = String::new(alloc);
-    append_path(alloc, &mut out, table, id)?;
+    append_place(alloc, &mut out, table, id)?;
     out.push_str(change)?;
     Ok(out)
+}
+
+/// Appends the path of the type with this id, a colon and a blank; nothing, where the id is 0 or the
+/// type has no path.
+fn append_place(
+    alloc: Global,
+    out: &mut String,
+    table: &PortableRegistry,
+    id: u32,
+) -> Result<(), AllocError>
+    ensures { Appends result out.old out.new (place_before table.now id) }
+{
+    if id == 0 {
+        return Ok(());
+    }
+    append_path(alloc, out, table, id)
 }
 
 /// Appends the path of the type with this id, a colon and a blank; nothing, where it has no path.
