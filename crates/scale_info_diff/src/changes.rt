@@ -28,7 +28,8 @@ use std::alloc::{AllocError, Global};
 ///
 /// All paths of both tables are compared at once, and where they are not all the same, those of
 /// each half, down to single ones. Each comparison goes over both tables. So tables in which
-/// nothing changed are compared once, and there are at most twice as many comparisons as paths.
+/// nothing changed are compared once, and there are at most twice as many comparisons as paths: the
+/// work is linear in the tables where nothing changed, and quadratic where most paths have.
 ///
 /// Errors, of the old table before the new one: `Decode(Malformed)`, where no prefix of the input
 /// is a table; `Trailing`, where bytes come after it. Then `Retain(Dangling)`, where an entry of

@@ -246,8 +246,9 @@ pub fn run_with<R: Read, S: BufRead, W: Write, T: Reporter>(
 ///   the table of OLD, `- PATH`, only in that of NEW, `+ PATH`, or in both and not the same,
 ///   `~ PATH: WHY`: first the paths of the old table, in order, and then the added ones. Where
 ///   paths are given, only the lines of these are written. Docs count only after `--docs`. WHY is
-///   the first line of a declaration that differs, `OLD -> NEW`, after the path of the type that it
-///   declares, if that has one; with the colon it is left out where no declaration differs.
+///   the first line of a declaration that differs, `OLD -> NEW`, behind the path of the type that it
+///   declares, where that is not the first type with PATH; with the colon it is left out where no
+///   declaration differs, or one of the types reaches an id that is no index.
 /// - `value TABLE TYPE [HEX]`: the JSON text of the value of the type that the hexadecimal digits
 ///   write, and a line feed, are written.
 /// - `encode TABLE TYPE [JSON]`: the hexadecimal digits of the encoding of the value of the type
