@@ -17,6 +17,9 @@ use std::{env, io};
 use type_reader_io::command::{Command, Comparison, Request, command_of};
 use type_reader_run::run;
 
+/// How many bytes of lines are read at once, where there are as many.
+const BUFFER_SIZE: usize = 65536;
+
 /// The arguments after the program's name.
 fn arguments_of(rt: &HostRuntime) -> io::Result<Vec<Text>> {
     let mut arguments = Vec::new(rt.alloc());
@@ -96,7 +99,8 @@ fn main(rt: HostRuntime) -> ExitCode {
     }
     let table = Source::of_arguments(&rt, &arguments);
     if matches!(command, Some(Command::Lines(..))) {
-        if let Ok(mut second) = BufReader::new(rt.alloc(), rt.stdin()) {
+        let second = BufReader::with_capacity(rt.alloc(), BUFFER_SIZE, rt.stdin());
+        if let Ok(mut second) = second {
             return run_over(&rt, &arguments, table, &mut second);
         }
     }

@@ -1,48 +1,28 @@
-//! An input that is read line by line.
-ghost use Rattle.std.specs.Prelude.{◌≡◌, IfErr, IfOk, IsFalse, IsTrue, OnOk};
-ghost use Rattle.std.specs.Io.KnownBytes.{IsAtEnd, Keeps};
-ghost use Rattle.type_reader_io.specs.Inputs.{IsReadError, TakesLine};
-ghost use Rattle.type_reader_io.specs.Inputs.{without_end};
+//! The lines of an input.
+ghost use Rattle.std.specs.Prelude.{◌≡◌, ◌++◌, ◌∷◌, IfNone, IfSome};
+ghost use Rattle.std.specs.Str.Lines.{strip_carriage_return};
+ghost use Rattle.type_reader_io.specs.Inputs.{IsWithoutFeed};
 
-use crate::error::ReaderError;
-use std::io::{BufRead, ErrorKind};
+use memchr::memchr;
 
-/// A line without its end, which is a line feed or a carriage return and a line feed.
-fn without_end(line: &[u8]) -> &[u8]
-    ensures { result.now ≡ without_end line.now }
+/// The bytes up to the first line feed, and those after it; None, where there is no line feed.
+pub fn split_at_feed(bytes: &[u8]) -> Option<(&[u8], &[u8])>
+    ensures some { IfSome result (λ parts. IsWithoutFeed parts.0.now
+        × (bytes.now ≡ parts.0.now ++ 10 ∷ parts.1.now)) }
+    ensures none { IfNone result (IsWithoutFeed bytes.now) }
 {
-    match line.strip_suffix(b"\n") {
-        Some(text) => match text.strip_suffix(b"\r") {
-            Some(text) => text,
-            None => text,
-        },
-        None => line,
+    match memchr(b'\n', bytes) {
+        Some(index) => Some((&bytes[..index], &bytes[index + 1..])),
+        None => None,
     }
 }
 
-/// Reads the next line, without its end, and puts it in the place of the one before. It is false at
-/// the end of the input.
-///
-/// A line ends with a line feed, which the last one may lack; a carriage return before a line feed
-/// is no part of the line.
-///
-/// Errors: `Memory`, if an allocation failed; `Input`, if a read fails.
-pub fn read_line<S: BufRead>(reader: &mut S, line: &mut Vec<u8>) -> Result<bool, ReaderError>
-    ensures taken { IfOk result (λ more. IsTrue more
-        → TakesLine (S.remaining reader.old) (S.remaining reader.new) line.new.items) }
-    ensures end { IfOk result (λ more. IsFalse more → IsAtEnd (S.remaining reader.old)
-        × Keeps (S.remaining reader.old) (S.remaining reader.new)) }
-    ensures err { IfErr result IsReadError }
+/// What stands before a line feed, as a line: a carriage return at its end is no part of it.
+pub fn without_return(line: &[u8]) -> &[u8]
+    ensures { result.now ≡ strip_carriage_return line.now }
 {
-    line.clear();
-    match reader.read_until(b'\n', line) {
-        Ok(0) => Ok(false),
-        Ok(_) => {
-            let length = without_end(line).len();
-            line.truncate(length);
-            Ok(true)
-        }
-        Err(e) if e.kind() == ErrorKind::OutOfMemory => Err(ReaderError::Memory),
-        Err(_) => Err(ReaderError::Input),
+    match line.strip_suffix(b"\r") {
+        Some(text) => text,
+        None => line,
     }
 }

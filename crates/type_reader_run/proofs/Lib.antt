@@ -1,4 +1,5 @@
 pub mod Differences
+pub mod DigitValues
 pub mod Explained
 pub mod Faults
 pub mod Known
@@ -6,6 +7,6 @@ pub mod Outcomes
 pub mod Reports
 pub mod Runs
 pub mod Selections
-pub mod SoFar
+pub mod Steps
 pub mod Tables
 pub mod Told

@@ -1,42 +1,40 @@
--- What comes of lines, one line more.
+-- What comes of some lines, and then of others.
 use Rattle.std.proofs.Common.{◌≡◌, ◌+◌, ◌++◌, ◌&&◌, ℕ, List, [], ◌∷◌, ap, arith, length, refl}
 use Rattle.type_reader_io.specs.Lines.{bad_line}
 use Rattle.type_reader_io.specs.declared.command.Conversion.{Conversion}
 use Rattle.scale_info_tables.specs.declared.portable.PortableRegistry.{PortableRegistry}
-use Rattle.type_reader_run.specs.Conversions.{AreOutcomes, IsOutcome, Outcome, are_good, bad, made}
+use Rattle.type_reader_run.specs.Conversions.{AreOutcomes, Outcome, are_good, bad, made}
 use Rattle.type_reader_run.specs.Conversions.{reports_from}
 
--- of one line more at the end
-pub outcomes_more :
-    (conversion : Conversion) (table : PortableRegistry) (id : ℕ) (lines : List (List ℕ))
-    (outcomes : List Outcome) (line : List ℕ) (outcome : Outcome)
-    → AreOutcomes conversion table id lines outcomes
-    → IsOutcome conversion table id line outcome
-    → AreOutcomes conversion table id (lines ++ line ∷ []) (outcomes ++ outcome ∷ [])
-outcomes_more conversion table id [] [] line outcome are is = (is, tt)
-outcomes_more conversion table id [] (o ∷ outcomes) line outcome are is = absurd are
-outcomes_more conversion table id (l ∷ lines) [] line outcome are is = absurd are
-outcomes_more conversion table id (l ∷ lines) (o ∷ outcomes) line outcome are is =
-    (are.0, outcomes_more conversion table id lines outcomes line outcome are.1 is)
+pub outcomes_then :
+    (conversion : Conversion) (table : PortableRegistry) (id : ℕ) (lines more : List (List ℕ))
+    (outcomes others : List Outcome)
+    → AreOutcomes conversion table id lines outcomes → AreOutcomes conversion table id more others
+    → AreOutcomes conversion table id (lines ++ more) (outcomes ++ others)
+outcomes_then conversion table id [] more [] others are then = then
+outcomes_then conversion table id [] more (o ∷ outcomes) others are then = absurd are
+outcomes_then conversion table id (l ∷ lines) more [] others are then = absurd are
+outcomes_then conversion table id (l ∷ lines) more (o ∷ outcomes) others are then =
+    (are.0, outcomes_then conversion table id lines more outcomes others are.1 then)
 
--- the report of one line more comes after the others
-pub reports_more :
-    (number last : ℕ) (outcomes : List Outcome) (outcome : Outcome)
+-- the reports of the others come after those of the first
+pub reports_then :
+    (number last : ℕ) (outcomes others : List Outcome)
     → last ≡ number + length outcomes
-    → reports_from number (outcomes ++ outcome ∷ [])
-    ≡ reports_from number outcomes ++ reports_from last (outcome ∷ [])
-reports_more number last [] outcome is =
-    let same : number ≡ last = omega arith in ap (λ n. reports_from n (outcome ∷ [])) same
-reports_more number last (made output ∷ outcomes) outcome is =
-    reports_more (number + 1) last outcomes outcome (omega arith)
-reports_more number last (bad fault ∷ outcomes) outcome is =
+    → reports_from number (outcomes ++ others)
+    ≡ reports_from number outcomes ++ reports_from last others
+reports_then number last [] others is =
+    let same : number ≡ last = omega arith in ap (λ n. reports_from n others) same
+reports_then number last (made output ∷ outcomes) others is =
+    reports_then (number + 1) last outcomes others (omega arith)
+reports_then number last (bad fault ∷ outcomes) others is =
     ap (λ l. bad_line number fault ∷ l)
-    (reports_more (number + 1) last outcomes outcome (omega arith))
+    (reports_then (number + 1) last outcomes others (omega arith))
 
--- one bad line more, or one good one
-pub good_more :
-    (outcomes : List Outcome) (outcome : Outcome)
-    → are_good (outcomes ++ outcome ∷ []) ≡ (are_good outcomes && are_good (outcome ∷ []))
-good_more [] outcome = refl
-good_more (made output ∷ outcomes) outcome = good_more outcomes outcome
-good_more (bad fault ∷ outcomes) outcome = refl
+-- all are good where the first and the others are
+pub good_then :
+    (outcomes others : List Outcome)
+    → are_good (outcomes ++ others) ≡ (are_good outcomes && are_good others)
+good_then [] others = refl
+good_then (made output ∷ outcomes) others = good_then outcomes others
+good_then (bad fault ∷ outcomes) others = refl

@@ -1,5 +1,5 @@
 -- Values of a type, converted: one that is given, or one for each line of the second input.
-use Rattle.std.specs.Prelude.{◌≡◌, ◌+◌, ◌⊎◌, ℕ, List, [], ◌∷◌, Bool, true, false}
+use Rattle.std.specs.Prelude.{◌≡◌, ◌+◌, ◌++◌, ◌⊎◌, ℕ, List, [], ◌∷◌, Bool, true, false}
 use Rattle.scale_info_grammar.specs.Ty.{EncodesTypes}
 use Rattle.scale_info_tables.specs.declared.portable.PortableRegistry.{PortableRegistry}
 use Rattle.scale_info_types.specs.declared.ty.PortableType.{PortableType}
@@ -15,6 +15,12 @@ use Rattle.type_reader_run.specs.Encodings.{IsEncodedLine, IsEncodingError}
 use Rattle.type_reader_run.specs.Selections.{AreNamed, IsChoiceError}
 use Rattle.type_reader_run.specs.Tables.{HasTable, IsFoundError}
 use Rattle.type_reader_run.specs.Values.{IsValueError, IsValueLine}
+
+-- a list of bytes grew by a line of which the fact holds
+pub record AppendsLine (IsTheLine : List ℕ → Type 0) (old new : List ℕ) : Type 0 where
+  pub line : List ℕ
+  pub is_line : IsTheLine line
+  pub parts : new ≡ old ++ line
 
 -- the value, converted, is this line
 abbrev pub IsLine : Conversion → PortableRegistry → (id : ℕ) → (value line : List ℕ) → Type 0

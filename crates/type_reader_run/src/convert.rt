@@ -1,13 +1,15 @@
 //! Values of a type, converted one by one.
-ghost use Rattle.std.specs.Prelude.{◌≡◌, IfOk, IfErr};
+ghost use Rattle.std.specs.Prelude.{◌≡◌, IfOk, IfErr, OnErr, OnOk};
+ghost use Rattle.type_reader_run.specs.Conversions.{AppendsLine};
 ghost use Rattle.type_reader_run.specs.Conversions.{GivesNoType, GivesType, IsConversionError};
 ghost use Rattle.type_reader_run.specs.Conversions.{IsConverted, IsLine, IsLineError, error_of};
 ghost use Rattle.type_reader_run.specs.Tables.{IsOneTable};
 
-use crate::encode::encoded_line;
+use crate::digits::Digits;
+use crate::encode::append_encoded_line;
 use crate::selection::one_named;
 use crate::table::registry_of;
-use crate::value::value_line;
+use crate::value::append_value_line;
 use scale_info_collections::text::Text;
 use scale_info_tables::portable::PortableRegistry;
 use std::alloc::Global;
@@ -50,18 +52,31 @@ impl Converter {
         })
     }
 
-    /// The value, converted, as a line.
+    /// Appends the value, converted, as a line.
     ///
-    /// Errors: `Fault`, where there is none; `Memory`, if an allocation failed.
-    pub fn line_of(&self, alloc: Global, value: &[u8]) -> Result<Vec<u8>, LineError>
-        ensures ok { IfOk result (λ line.
-            IsLine self.now.conversion self.now.registry self.now.id value.now line.items) }
+    /// Errors: `Fault`, where there is none; `Memory`, if an allocation failed. The output is then
+    /// as it was.
+    pub fn append_line(
+        &self,
+        alloc: Global,
+        value: &[u8],
+        digits: &mut Digits,
+        output: &mut Vec<u8>,
+    ) -> Result<(), LineError>
+        ensures ok { OnOk result (AppendsLine
+            (IsLine self.now.conversion self.now.registry self.now.id value.now)
+            output.old.items output.new.items) }
         ensures err { IfErr result
             (IsLineError self.now.conversion self.now.registry self.now.id value.now) }
+        ensures keeps { OnErr result (output.new.items ≡ output.old.items) }
     {
         match self.conversion {
-            Conversion::Decode => value_line(alloc, &self.registry, self.id, value),
-            Conversion::Encode => encoded_line(alloc, &self.registry, self.id, value),
+            Conversion::Decode => {
+                append_value_line(alloc, &self.registry, self.id, value, digits, output)
+            }
+            Conversion::Encode => {
+                append_encoded_line(alloc, &self.registry, self.id, value, output)
+            }
         }
     }
 }
@@ -78,7 +93,7 @@ fn error_of(error: LineError) -> ReaderError
 
 /// The value of the one type that the text gives, converted, as a line.
 ///
-/// Errors: as [`Converter::new`] and [`Converter::line_of`].
+/// Errors: as [`Converter::new`] and [`Converter::append_line`].
 pub fn converted(
     alloc: Global,
     conversion: Conversion,
@@ -92,8 +107,10 @@ pub fn converted(
     ensures err { IfErr result (IsConversionError conversion table.now text.now value.now) }
 {
     let converter = Converter::new(alloc, conversion, table, text)?;
-    match converter.line_of(alloc, value.as_str().as_bytes()) {
-        Ok(line) => Ok(line),
+    let mut digits = Digits::new(alloc);
+    let mut line = Vec::new(alloc);
+    match converter.append_line(alloc, value.as_str().as_bytes(), &mut digits, &mut line) {
+        Ok(()) => Ok(line),
         Err(error) => Err(error_of(error)),
     }
 }

@@ -1,5 +1,5 @@
 //! Values from JSON text, as lines of hexadecimal digits.
-ghost use Rattle.std.specs.Prelude.{◌≡◌, ◌++◌, IfOk, IfErr, codes};
+ghost use Rattle.std.specs.Prelude.{◌≡◌, ◌++◌, IfOk, IfErr, OnErr, OnOk, codes};
 ghost use Rattle.hex.specs.Hex.{encode_lower};
 ghost use Rattle.serde_json.specs.View.{view};
 ghost use Rattle.scale_info_encode.specs.Writers.{written};
@@ -7,6 +7,7 @@ ghost use Rattle.scale_info_encode.specs.Writings.{writing};
 ghost use Rattle.scale_info_value.specs.declared.value.Dyn.{Dyn as DynValue};
 ghost use Rattle.scale_info_value_json.specs.Takers.{IsErrorOf, Taken};
 ghost use Rattle.type_reader_io.specs.declared.error.LineError.TheVariants as line_error;
+ghost use Rattle.type_reader_run.specs.Conversions.{AppendsLine};
 ghost use Rattle.type_reader_run.specs.Encodings.{IsEncodedLine, IsEncodingError, IsJsonOf};
 ghost use Rattle.type_reader_run.specs.Encodings.{IsTakingError, IsTreeError};
 
@@ -89,7 +90,7 @@ fn digits_line(alloc: Global, bytes: &[u8]) -> Result<Vec<u8>, AllocError>
 ///
 /// Errors: `Fault`, where the text is no JSON, or gives no value of the type; `Memory`, if an
 /// allocation failed.
-pub fn encoded_line(
+fn encoded_line(
     alloc: Global,
     table: &PortableRegistry,
     id: u32,
@@ -106,4 +107,24 @@ pub fn encoded_line(
         }
         Err(error) => Err(error_of(error)),
     }
+}
+
+/// Appends the line that [`encoded_line`] gives.
+///
+/// Errors: as [`encoded_line`]. The output is then as it was.
+pub fn append_encoded_line(
+    alloc: Global,
+    table: &PortableRegistry,
+    id: u32,
+    json: &[u8],
+    output: &mut Vec<u8>,
+) -> Result<(), LineError>
+    ensures ok { OnOk result (AppendsLine (IsEncodedLine table.now id json.now)
+        output.old.items output.new.items) }
+    ensures err { IfErr result (IsEncodingError table.now id json.now) }
+    ensures keeps { OnErr result (output.new.items ≡ output.old.items) }
+{
+    let line = encoded_line(alloc, table, id, json)?;
+    output.extend_from_slice(&line)?;
+    Ok(())
 }

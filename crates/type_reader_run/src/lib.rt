@@ -4,6 +4,7 @@
 mod compare;
 mod convert;
 mod diff;
+mod digits;
 mod encode;
 mod graph;
 mod lines;

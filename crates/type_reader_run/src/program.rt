@@ -259,9 +259,9 @@ pub fn run_with<R: Read, S: BufRead, W: Write, T: Reporter>(
 ///
 /// Where `value` or `encode` has no last argument, each line of `second` is one value, and TABLE is
 /// not `-`. A line ends with a line feed, which the last one may lack; a carriage return before a
-/// line feed is no part of the line. The output of a line is written before the next line is read.
-/// A bad line has no output, and is reported by its number, counted from 1; the lines after it are
-/// still converted. For `diff`, `second` gives what NEW names, which is as OLD must be, and is read
+/// line feed is no part of the line. The outputs of the lines that are read are written before the
+/// program waits for more of `second`. A bad line has no output, and is reported by its number,
+/// counted from 1; the lines after it are still converted. For `diff`, `second` gives what NEW names, which is as OLD must be, and is read
 /// to its end; one of the two at most is `-`. The other commands read nothing of `second`.
 ///
 /// The status is 0 if that was done, no line was bad, and nothing changed. It is 2 if the arguments

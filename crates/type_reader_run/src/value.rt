@@ -1,85 +1,84 @@
 //! Values as lines of JSON text.
-ghost use Rattle.std.specs.Prelude.{◌≡◌, ◌++◌, IfOk, IfErr, codes, option_map, string_bytes};
-ghost use Rattle.scale_info_metadata.specs.HexTexts.{without_mark};
-ghost use Rattle.scale_info_value.specs.Outcomes.{Outcome};
+ghost use Rattle.std.specs.Prelude.{◌≡◌, ◌++◌, List, ℕ, IfErr, OnErr, OnOk};
+ghost use Rattle.scale_info_value.specs.Outcomes.{IsErrorOf, Outcome};
+ghost use Rattle.scale_info_value.specs.Readings.{reading};
 ghost use Rattle.scale_info_value.specs.declared.value.Dyn.{Dyn as DynValue};
-ghost use Rattle.scale_info_value_text.specs.ValueTexts.{IsTextErrorOf};
+ghost use Rattle.scale_info_value_text.specs.ValueTexts.{IsTextOf};
+ghost use Rattle.type_reader_run.specs.Conversions.{AppendsLine};
 ghost use Rattle.type_reader_run.specs.Values.{IsReadingError, IsValueError, IsValueLine};
-ghost use Rattle.type_reader_run.specs.Values.{bytes_by_digits};
 
-use hex::FromHexError;
+use crate::digits::Digits;
 use scale_info_tables::portable::PortableRegistry;
 use scale_info_value::value::ValueError;
-use scale_info_value_text::value_text::{ValueTextError, value_json};
-use std::alloc::{AllocError, Global};
+use scale_info_value_text::value_text::append_value_json;
+use std::alloc::Global;
 use type_reader_io::error::{LineError, ValueFault};
 
-/// The digits without the mark `0x` before them.
-fn without_mark(text: &[u8]) -> &[u8]
-    ensures { result.now ≡ without_mark text.now }
-{
-    match text.strip_prefix(b"0x") {
-        Some(digits) => digits,
-        None => text,
-    }
-}
-
-/// The bytes that hexadecimal digits write, after `0x` or without it; None, where the text is no
-/// even number of digits.
-fn bytes_by_digits(alloc: Global, text: &[u8]) -> Result<Option<Vec<u8>>, AllocError>
-    ensures { IfOk result
-        (λ found. option_map (λ bytes. bytes.items) found ≡ bytes_by_digits text.now) }
-{
-    match hex::decode(alloc, without_mark(text)) {
-        Ok(bytes) => Ok(Some(bytes)),
-        Err(FromHexError::OutOfMemory) => Err(AllocError),
-        Err(_) => Ok(None),
-    }
-}
-
-/// The error of a line for one of the text of a value.
-fn error_of(error: ValueTextError) -> LineError
-    ensures { (outcome : Outcome DynValue) → IsTextErrorOf outcome error
+/// The error of a line for one of decoding a value.
+fn error_of(error: ValueError) -> LineError
+    ensures { (outcome : Outcome DynValue) → IsErrorOf outcome error
         → IsReadingError outcome result }
 {
     let fault = match error {
-        ValueTextError::Value(ValueError::Memory) => return LineError::Memory,
-        ValueTextError::Value(ValueError::NoSuchType) => ValueFault::NoSuchType,
-        ValueTextError::Value(ValueError::Unsupported) => ValueFault::Unsupported,
-        ValueTextError::Value(ValueError::TooDeep) => ValueFault::TooDeep,
-        ValueTextError::Value(ValueError::Malformed) => ValueFault::Malformed,
-        ValueTextError::Trailing => ValueFault::TrailingBytes,
+        ValueError::Memory => return LineError::Memory,
+        ValueError::NoSuchType => ValueFault::NoSuchType,
+        ValueError::Unsupported => ValueFault::Unsupported,
+        ValueError::TooDeep => ValueFault::TooDeep,
+        ValueError::Malformed => ValueFault::Malformed,
     };
     LineError::Fault(fault)
 }
 
-/// A line: the text and a line feed.
-fn line_of(text: String) -> Result<Vec<u8>, AllocError>
-    ensures { IfOk result (λ line. line.items ≡ string_bytes text ++ codes "\n") }
-{
-    let mut line = text.into_bytes();
-    line.push(b'\n')?;
-    Ok(line)
-}
-
-/// The JSON text of the value of this type that the digits write, and a line feed.
+/// Appends the JSON text of the bytes as one value of this type.
 ///
-/// Errors: `Fault`, where the digits write no value of the type, with nothing after it; `Memory`,
-/// if an allocation failed.
-pub fn value_line(
+/// Errors: `Fault`, where the bytes are no value of the type, or more than one; `Memory`, if an
+/// allocation failed. The output is then as it was.
+fn append_text(
     alloc: Global,
     table: &PortableRegistry,
     id: u32,
-    digits: &[u8],
-) -> Result<Vec<u8>, LineError>
-    ensures ok { IfOk result (λ line. IsValueLine table.now id digits.now line.items) }
-    ensures err { IfErr result (IsValueError table.now id digits.now) }
+    bytes: &[u8],
+    output: &mut Vec<u8>,
+) -> Result<(), LineError>
+    ensures ok { OnOk result ((text : List ℕ) × IsTextOf table.now id (reading table.now id 1 bytes.now) text
+        × (output.new.items ≡ output.old.items ++ text)) }
+    ensures err { IfErr result (IsReadingError (reading table.now id 1 bytes.now)) }
+    ensures keeps { OnErr result (output.new.items ≡ output.old.items) }
 {
-    let Some(bytes) = bytes_by_digits(alloc, digits)? else {
-        return Err(LineError::Fault(ValueFault::NoDigits));
-    };
-    match value_json(alloc, table, id, &bytes) {
-        Ok(text) => Ok(line_of(text)?),
+    let start = output.len();
+    match append_value_json(alloc, table, id, bytes, output) {
+        Ok(rest) if rest.is_empty() => Ok(()),
+        Ok(_) => {
+            output.truncate(start);
+            Err(LineError::Fault(ValueFault::TrailingBytes))
+        }
         Err(error) => Err(error_of(error)),
     }
+}
+
+/// Appends the JSON text of the value of this type that the digits write, and a line feed.
+///
+/// Errors: `Fault`, where the digits write no value of the type, with nothing after it; `Memory`,
+/// if an allocation failed. The output is then as it was.
+pub fn append_value_line(
+    alloc: Global,
+    table: &PortableRegistry,
+    id: u32,
+    text: &[u8],
+    digits: &mut Digits,
+    output: &mut Vec<u8>,
+) -> Result<(), LineError>
+    ensures ok { OnOk result (AppendsLine (IsValueLine table.now id text.now)
+        output.old.items output.new.items) }
+    ensures err { IfErr result (IsValueError table.now id text.now) }
+    ensures keeps { OnErr result (output.new.items ≡ output.old.items) }
+{
+    digits.decode(text)?;
+    let start = output.len();
+    append_text(alloc, table, id, &digits.bytes, output)?;
+    if output.push(b'\n').is_err() {
+        output.truncate(start);
+        return Err(LineError::Memory);
+    }
+    Ok(())
 }

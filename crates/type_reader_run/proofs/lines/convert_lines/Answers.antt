@@ -1,53 +1,106 @@
-use Rattle.std.proofs.Common.{refl, rules, subst, sym}
+use Rattle.std.proofs.Common.{subst}
 use Rattle.std.proofs.lemmas.Result.{err_from_is_err_and}
-use Rattle.type_reader_io.specs.Inputs.{TakesLine}
-use Rattle.type_reader_run.proofs.SoFar.{line_failed, none_yet, one_more, read_failed}
+use Rattle.type_reader_io.specs.Reports.{ReportsEach}
+use Rattle.type_reader_io.specs.declared.error.ReaderError.TheVariants as errors
+use Rattle.type_reader_run.proofs.Steps.{IsFirst, all_but_written, stopped_by_write}
+use Rattle.type_reader_run.proofs.Steps.{stopped_then_failed}
+use Rattle.type_reader_run.specs.Steps.{HasStoppedRead}
 use Rattle.type_reader_run.proofs.lines.convert_lines.Goals as goal
 
-pub loop-index-init : goal.loop-index-init
-loop-index-init g c =
-    none_yet g.T.Reporter.reported c.args.converter.now (g.S.Read.remaining c.args.second.now)
-    (g.W.Write.contents c.args.output.now) c.args.reporter.now
-
-pub returns-in_err-read_line-clause-err : goal.returns-in_err-read_line-clause-err
-returns-in_err-read_line-clause-err g c =
-    let known =
-    read_failed g.T.Reporter.reported c.args.converter.now c.loop-index.index
-    (g.S.Read.remaining c.args.second.now) (g.S.Read.remaining c.loop-index.second)
-    (g.W.Write.contents c.args.output.now) (g.W.Write.contents c.loop-index.output)
-    c.args.reporter.now c.loop-index.reporter c.loop-index.is_good c.in_err-read_line.field-0.0
-    c.loop-index.invariant c.in_err-read_line.ensures.err in
+pub returns-in_err-write_beyond-in-Ok-clause-err :
+    goal.returns-in_err-write_beyond-in-Ok-clause-err
+returns-in_err-write_beyond-in-Ok-clause-err g c =
+    let first : IsFirst c.new-progress.result =
+    record {
+      start = c.new-progress.ensures.start;
+      pending = c.new-progress.ensures.pending;
+      count = c.new-progress.ensures.count;
+      good = c.new-progress.ensures.good;
+    } in
     let p = err_from_is_err_and c.from_residual.result c.from_residual.ensures.1 in
-    rw (p.1, p.2) known
+    rw (p.1, p.2)
+    (all_but_written c.args.converter.now (g.S.Read.remaining c.args.second.now)
+    (g.S.Read.remaining c.convert_input.new.second) c.new-progress.result
+    c.convert_input.new.progress (g.W.Write.contents c.args.output.now)
+    (g.W.Write.contents c.convert_input.new.output) (g.W.Write.contents c.write_beyond.new.output)
+    (ReportsEach g.T.Reporter.reported c.args.reporter.now c.convert_input.new.reporter)
+    c.in_err-write_beyond-in-Ok.field-0.0 first c.in-Ok.ensures.ok
+    c.in_err-write_beyond-in-Ok.ensures.err c.in_err-write_beyond-in-Ok.ensures.error)
 
-pub returns-in_err-is_good-clause-err : goal.returns-in_err-is_good-clause-err
-returns-in_err-is_good-clause-err g c =
-    let takes =
+pub returns-in_err-write_beyond-in-Err-Memory-clause-err :
+    goal.returns-in_err-write_beyond-in-Err-Memory-clause-err
+returns-in_err-write_beyond-in-Err-Memory-clause-err g c =
+    let first : IsFirst c.new-progress.result =
+    record {
+      start = c.new-progress.ensures.start;
+      pending = c.new-progress.ensures.pending;
+      count = c.new-progress.ensures.count;
+      good = c.new-progress.ensures.good;
+    } in
+    let told = ReportsEach g.T.Reporter.reported c.args.reporter.now c.convert_input.new.reporter in
+    let stop =
     subst
-    (TakesLine (g.S.Read.remaining c.loop-index.second)
-    (g.S.Read.remaining c.read_line.new.reader))
-    (sym c.deref.ensures.value) (c.in_ok-read_line.ensures.taken (search rules)) in
-    let known =
-    line_failed g.T.Reporter.reported c.args.converter.now c.loop-index.index
-    (g.S.Read.remaining c.args.second.now) (g.S.Read.remaining c.loop-index.second)
-    (g.S.Read.remaining c.read_line.new.reader) (g.W.Write.contents c.args.output.now)
-    (g.W.Write.contents c.loop-index.output) (g.W.Write.contents c.convert_line.new.output)
-    c.args.reporter.now c.loop-index.reporter c.convert_line.new.reporter c.loop-index.is_good
-    c.deref.result.now c.in_err-is_good.field-0.0 c.loop-index.invariant takes
-    c.in_err-is_good.ensures.err in
-    search rules
+    (HasStoppedRead c.args.converter.now (g.S.Read.remaining c.args.second.now)
+    c.new-progress.result c.convert_input.new.progress (g.W.Write.contents c.args.output.now)
+    (g.W.Write.contents c.convert_input.new.output) told)
+    c.in-Err-Memory.field-0-is c.in-Err-Memory.ensures.err in
+    let p =
+    err_from_is_err_and c.from_residual-in_err-write_beyond-in-Err-Memory.result
+    c.from_residual-in_err-write_beyond-in-Err-Memory.ensures.1 in
+    rw (p.1, p.2)
+    (stopped_then_failed c.args.converter.now (g.S.Read.remaining c.args.second.now)
+    c.new-progress.result c.convert_input.new.progress (g.W.Write.contents c.args.output.now)
+    (g.W.Write.contents c.convert_input.new.output)
+    (g.W.Write.contents c.write_beyond-in-Err-Memory.new.output) told errors.Memory
+    c.in_err-write_beyond-in-Err-Memory.field-0.0 first (λ is. cc is) stop
+    c.in_err-write_beyond-in-Err-Memory.ensures.err
+    c.in_err-write_beyond-in-Err-Memory.ensures.error)
 
-pub loop-index-preserved : goal.loop-index-preserved
-loop-index-preserved g c =
-    let takes =
+pub returns-in_err-write_beyond-in-Err-Input-clause-err :
+    goal.returns-in_err-write_beyond-in-Err-Input-clause-err
+returns-in_err-write_beyond-in-Err-Input-clause-err g c =
+    let first : IsFirst c.new-progress.result =
+    record {
+      start = c.new-progress.ensures.start;
+      pending = c.new-progress.ensures.pending;
+      count = c.new-progress.ensures.count;
+      good = c.new-progress.ensures.good;
+    } in
+    let told = ReportsEach g.T.Reporter.reported c.args.reporter.now c.convert_input.new.reporter in
+    let stop =
     subst
-    (TakesLine (g.S.Read.remaining c.loop-index.second)
-    (g.S.Read.remaining c.read_line.new.reader))
-    (sym c.deref.ensures.value) (c.in_ok-read_line.ensures.taken (search rules)) in
-    one_more g.T.Reporter.reported c.args.converter.now c.loop-index.index
-    (g.S.Read.remaining c.args.second.now) (g.S.Read.remaining c.loop-index.second)
-    (g.S.Read.remaining c.read_line.new.reader) (g.W.Write.contents c.args.output.now)
-    (g.W.Write.contents c.loop-index.output) (g.W.Write.contents c.convert_line.new.output)
-    c.args.reporter.now c.loop-index.reporter c.convert_line.new.reporter c.loop-index.is_good
-    c.in_ok-is_good.field-0 _ c.deref.result.now c.loop-index.invariant takes
-    c.in_ok-is_good.ensures.ok refl
+    (HasStoppedRead c.args.converter.now (g.S.Read.remaining c.args.second.now)
+    c.new-progress.result c.convert_input.new.progress (g.W.Write.contents c.args.output.now)
+    (g.W.Write.contents c.convert_input.new.output) told)
+    c.in-Err-Input.field-0-is c.in-Err-Input.ensures.err in
+    let p =
+    err_from_is_err_and c.from_residual-in_err-write_beyond-in-Err-Input.result
+    c.from_residual-in_err-write_beyond-in-Err-Input.ensures.1 in
+    rw (p.1, p.2)
+    (stopped_then_failed c.args.converter.now (g.S.Read.remaining c.args.second.now)
+    c.new-progress.result c.convert_input.new.progress (g.W.Write.contents c.args.output.now)
+    (g.W.Write.contents c.convert_input.new.output)
+    (g.W.Write.contents c.write_beyond-in-Err-Input.new.output) told errors.Input
+    c.in_err-write_beyond-in-Err-Input.field-0.0 first (λ is. cc is) stop
+    c.in_err-write_beyond-in-Err-Input.ensures.err
+    c.in_err-write_beyond-in-Err-Input.ensures.error)
+
+pub returns : goal.returns
+returns g c =
+    let first : IsFirst c.new-progress.result =
+    record {
+      start = c.new-progress.ensures.start;
+      pending = c.new-progress.ensures.pending;
+      count = c.new-progress.ensures.count;
+      good = c.new-progress.ensures.good;
+    } in
+    record {
+      ok = tt;
+      err =
+          stopped_by_write c.args.converter.now (g.S.Read.remaining c.args.second.now)
+          c.new-progress.result c.convert_input.new.progress
+          (g.W.Write.contents c.args.output.now)
+          (g.W.Write.contents c.convert_input.new.output)
+          (ReportsEach g.T.Reporter.reported c.args.reporter.now c.convert_input.new.reporter)
+          c.in-Err.field-0 first c.in-Err.ensures.err;
+    }
