@@ -1,6 +1,6 @@
 -- The first lines in which the declarations of two tables' types differ.
-use Rattle.std.specs.Prelude.{◌≡◌, ◌≢◌, ◌<◌, ◌++◌, ℕ, List, [], ◌∷◌, Option, None, Some, MatchOption}
-use Rattle.std.specs.Prelude.{◌==◌, codes, if◌then◌else◌, slice_get, unwrap_or}
+use Rattle.std.specs.Prelude.{◌≡◌, ◌≢◌, ◌<◌, ◌++◌, ℕ, List, [], ◌∷◌, Option, None, Some}
+use Rattle.std.specs.Prelude.{MatchOption, ◌==◌, codes, if◌then◌else◌, slice_get, unwrap_or}
 use Rattle.std.specs.Str.{trim_start}
 use Rattle.std.specs.Str.Lines.{lines}
 use Rattle.scale_info_describe.specs.TypeDeclarations.{description_at}
@@ -52,7 +52,7 @@ abbrev pub AreDeclaredAlike : PortableRegistry → PortableRegistry → Type 0
 AreDeclaredAlike table other = (id : ℕ) → AreLinesAlike (lines_at table id) (lines_at other id)
 
 -- the text is the change of the first line in which the first type that is declared by other lines
--- in the other table differs, behind the path of that type, unless it has the least given id
+-- in the other table differs, after the path of that type, unless it has the least given id
 pub record IsDeclaredChange (table other : PortableRegistry) (text : Text) : Type 0 where
   pub place : ℕ
   pub below : (id : ℕ) → id < place → AreLinesAlike (lines_at table id) (lines_at other id)

@@ -21,7 +21,7 @@ use std::alloc::{AllocError, Global};
 /// it is in the old table and as it is in the new one; None, where no types are declared by other
 /// lines.
 ///
-/// So it tells a reader why a path has changed: the ids are those of the types with the path. Both
+/// So it says why a path has changed: the ids are those of the types with the path. Both
 /// tables are pruned to their ids, which count in ascending order, each once; then the types that
 /// are kept are gone over in both at once, in depth-first order of discovery. So the field of a
 /// type comes before what its own type has changed in. Types are declared as by [`describe`]; what
@@ -104,8 +104,7 @@ fn declaration_of(alloc: Global, table: &PortableRegistry, id: u32) -> Result<St
     Ok(out)
 }
 
-/// A change of the type with this id, behind the path of the type, if it has one, and the id is not
-/// 0.
+/// A change of the type with this id, after the path of the type, if it has one; not of the first.
 fn with_path(
     alloc: Global,
     table: &PortableRegistry,
@@ -121,8 +120,8 @@ fn with_path(
     Ok(out)
 }
 
-/// Appends the path of the type with this id, a colon and a blank; nothing, where the id is 0 or the
-/// type has no path.
+/// Appends the path of the type with this id, a colon and a blank; nothing, where the id is 0 or
+/// the type has no path.
 fn append_place(
     alloc: Global,
     out: &mut String,

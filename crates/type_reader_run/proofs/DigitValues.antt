@@ -23,6 +23,7 @@ pub record Values (digits values : List ℕ) (count greatest : ℕ) : Type 0 whe
       → (k : ℕ) → k < count → hex_digit_value (slice_index digits k) ≡ Some (slice_index values k)
   pub none : 16 ≤ greatest → HasNoDigit digits
 
+-- before the first digit
 pub no_values : (digits values : List ℕ) → length digits ≡ length values → Values digits values 0 0
 no_values digits values same = record {
   same = sym same;
@@ -92,6 +93,7 @@ values_more digits values index greatest value next so_far within is most = reco
           | inr no_less ↦ omega (arith, no_less)
         ]
 
+-- after the last digit, where each is one
 pub all_values :
     (digits values : List ℕ) (count greatest : ℕ) → Values digits values count greatest
     → length values ≤ count → greatest < 16 → AreValues digits values

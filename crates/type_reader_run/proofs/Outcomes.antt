@@ -6,6 +6,7 @@ use Rattle.scale_info_tables.specs.declared.portable.PortableRegistry.{PortableR
 use Rattle.type_reader_run.specs.Conversions.{AreOutcomes, Outcome, are_good, bad, made}
 use Rattle.type_reader_run.specs.Conversions.{reports_from}
 
+-- outcomes of some values, and then of others, are those of both
 pub outcomes_then :
     (conversion : Conversion) (table : PortableRegistry) (id : ℕ) (lines more : List (List ℕ))
     (outcomes others : List Outcome)

@@ -328,21 +328,20 @@ bad_one converter line fault before after waiting pending left old now new IsRep
       good = and_none before.is_good after.is_good good;
     }
 
-pub on_ok : {X E : Type 0} {P Q : Type 0} (r : Result X E) → (P → Q) → OnOk r P → OnOk r Q
-on_ok (Ok x) by p = by p
-on_ok (Err e) by p = tt
-
+-- a fact of an error that follows from another
 pub if_err :
     {X E : Type 0} {P Q : E → Type 0} (r : Result X E) → ((e : E) → P e → Q e) → IfErr r P
     → IfErr r Q
 if_err (Ok x) by p = tt
 if_err (Err e) by p = by e p
 
+-- a list of length 0 is empty
 pub empty_list : (xs : List ℕ) → true ≡ (length xs == 0) → xs ≡ []
 empty_list [] is = refl
 empty_list (x ∷ xs) is =
     let none : suc (length xs) ≡ 0 = eqb-true (suc (length xs)) 0 (sym is) in absurd (omega (arith, none))
 
+-- and one of another length is not
 pub some_list : (xs : List ℕ) → false ≡ (length xs == 0) → xs ≢ []
 some_list xs is none = cc (is ∙ ap (λ l. length l == 0) none)
 
@@ -550,6 +549,7 @@ stopped_after reported converter first last before middle after old now new told
           ∙ sym (append_assoc one.converted.values stop.values next.0),
     )
 
+-- an input is read to its end, where what one read leaves of it is
 pub still_ended :
     (first middle last : Option (List ℕ)) (read : List ℕ) → Consumes first middle read
     → OnSome middle (IsAtEnd last) → OnSome first (IsAtEnd last)

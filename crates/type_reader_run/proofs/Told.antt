@@ -20,7 +20,7 @@ pub next_of :
 next_of items i item within is =
     drop_more items i item within ∙ ap (λ t. t ∷ drop (i + 1) items) (sym is)
 
--- some first changes were gone over: those of these paths are told, each with its reason
+-- some first changes were gone over: those of these paths are there, each with its reason
 pub record IsSoFar (docs : Docs) (old new : List ℕ) (paths : List (List ℕ))
     (changes left : List Change) (text : List ℕ) : Type 0 where
   pub told : List ToldChange

@@ -28,7 +28,7 @@ path_of (Removed path) = path
 path_of (Added path) = path
 path_of (Changed path) = path
 
--- what stands behind a path that has changed: a colon, a blank and the reason, if one is told
+-- what follows a path that has changed: a colon, a blank and the reason, if there is one
 abbrev pub reason_text : Option (List ℕ) → List ℕ
 reason_text None = []
 reason_text (Some reason) = codes ": " ++ reason
@@ -39,7 +39,7 @@ change_line (Removed path) reason = codes "- " ++ (path ++ codes "\n")
 change_line (Added path) reason = codes "+ " ++ (path ++ codes "\n")
 change_line (Changed path) reason = codes "~ " ++ (path ++ (reason_text reason ++ codes "\n"))
 
--- a change, and the reason that is told of it
+-- a change, and the reason that is given of it
 abbrev pub ToldChange : Type 0
 ToldChange = Change × Option (List ℕ)
 
@@ -115,13 +115,13 @@ AppendsChange docs old new change before after =
     (reason : Option (List ℕ)) × HasReason docs old new change reason
     × (after ≡ before ++ change_line change reason)
 
--- these changes are told, each with its reason
+-- these are the changes, each with its reason
 pub record AreReasoned (docs : Docs) (old new : List ℕ) (changes : List Change)
     (told : List ToldChange) : Type 0 where
   pub of : map (λ one. one.0) told ≡ changes
   pub reasons : All (λ one. HasReason docs old new one.0 one.1) told
 
--- these changes are told, each with its reason, and the output is their lines
+-- these are the changes, each with its reason, and the output is their lines
 pub record AreLinesOf (docs : Docs) (old new : List ℕ) (changes : List Change)
     (output : List ℕ) : Type 0 where
   pub told : List ToldChange

@@ -84,8 +84,8 @@ impl Digits {
         }
     }
 
-    /// Puts the bytes that hexadecimal digits write, after `0x` or without it, in the place of those
-    /// before.
+    /// Puts the bytes that hexadecimal digits write, after `0x` or without it, in the place of
+    /// those before.
     ///
     /// Errors: `Fault(NoDigits)`, where the text is no even number of digits; `Memory`, if an
     /// allocation failed.

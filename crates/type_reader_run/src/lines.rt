@@ -84,8 +84,8 @@ fn write_beyond<W: Write>(
 /// Converts one line: its output becomes pending; or what is pending is written, and it is reported
 /// that the line is bad.
 ///
-/// Errors: `Memory`, if an allocation failed; `Output`, if a write or a flush fails; `Input`, if the
-/// line has no number.
+/// Errors: `Memory`, if an allocation failed; `Output`, if a write or a flush fails; `Input`, if
+/// the line has no number.
 fn convert_line<W: Write, T: Reporter>(
     alloc: Global,
     converter: &Converter,

@@ -246,7 +246,7 @@ pub fn run_with<R: Read, S: BufRead, W: Write, T: Reporter>(
 ///   the table of OLD, `- PATH`, only in that of NEW, `+ PATH`, or in both and not the same,
 ///   `~ PATH: WHY`: first the paths of the old table, in order, and then the added ones. Where
 ///   paths are given, only the lines of these are written. Docs count only after `--docs`. WHY is
-///   the first line of a declaration that differs, `OLD -> NEW`, behind the path of the type that it
+///   the first line of a declaration that differs, `OLD -> NEW`, after the path of the type that it
 ///   declares, where that is not the first type with PATH; with the colon it is left out where no
 ///   declaration differs, or one of the types reaches an id that is no index.
 /// - `value TABLE TYPE [HEX]`: the JSON text of the value of the type that the hexadecimal digits
@@ -261,8 +261,9 @@ pub fn run_with<R: Read, S: BufRead, W: Write, T: Reporter>(
 /// not `-`. A line ends with a line feed, which the last one may lack; a carriage return before a
 /// line feed is no part of the line. The outputs of the lines that are read are written before the
 /// program waits for more of `second`. A bad line has no output, and is reported by its number,
-/// counted from 1; the lines after it are still converted. For `diff`, `second` gives what NEW names, which is as OLD must be, and is read
-/// to its end; one of the two at most is `-`. The other commands read nothing of `second`.
+/// counted from 1; the lines after it are still converted. For `diff`, `second` gives what NEW
+/// names, which is as OLD must be, and is read to its end; one of the two at most is `-`. The other
+/// commands read nothing of `second`.
 ///
 /// The status is 0 if that was done, no line was bad, and nothing changed. It is 2 if the arguments
 /// are not a command: then the usage line is written to `errors`. It is 1 if something changed, as

@@ -40,7 +40,8 @@ fn append_text(
     bytes: &[u8],
     output: &mut Vec<u8>,
 ) -> Result<(), LineError>
-    ensures ok { OnOk result ((text : List ℕ) × IsTextOf table.now id (reading table.now id 1 bytes.now) text
+    ensures ok { OnOk result ((text : List ℕ)
+        × IsTextOf table.now id (reading table.now id 1 bytes.now) text
         × (output.new.items ≡ output.old.items ++ text)) }
     ensures err { IfErr result (IsReadingError (reading table.now id 1 bytes.now)) }
     ensures keeps { OnErr result (output.new.items ≡ output.old.items) }

@@ -4,7 +4,8 @@ use Rattle.std.proofs.lemmas.List.Elements.{All-nil}
 use Rattle.std.proofs.lemmas.Result.{err_from_is_err_and}
 use Rattle.type_reader_io.specs.Inputs.{IsWithoutFeed}
 use Rattle.type_reader_io.specs.Reports.{ReportsEach}
-use Rattle.type_reader_run.proofs.Steps.{if_err, none_written, on_ok, read_none, read_then}
+use Rattle.std.proofs.lemmas.Result.{on_ok_weaker}
+use Rattle.type_reader_run.proofs.Steps.{if_err, none_written, read_none, read_then}
 use Rattle.type_reader_run.proofs.Steps.{read_to_end, read_written, still_ended, stopped_after}
 use Rattle.type_reader_run.proofs.Steps.{stopped_reading, stops_at_write}
 use Rattle.type_reader_run.specs.declared.lines.Progress.{Progress}
@@ -44,7 +45,7 @@ returns-then-not-branch-clause-ok g c =
     (g.W.Write.contents c.args.output.now) (g.W.Write.contents c.loop.output)
     (g.W.Write.contents c.convert_buffered.new.output) c.args.reporter.now c.loop.reporter
     c.convert_buffered.new.reporter c.loop.invariant.1 c.in_ok-convert_buffered.ensures.ok in
-    on_ok c.end_input.result
+    on_ok_weaker c.end_input.result
     (read_to_end g.T.Reporter.reported c.args.converter.now
     (g.S.Read.remaining c.args.second.now) (g.S.Read.remaining c.convert_buffered.new.second)
     c.args.progress.now c.convert_buffered.new.progress c.end_input.new.progress

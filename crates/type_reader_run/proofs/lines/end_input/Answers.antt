@@ -2,7 +2,8 @@ use Rattle.std.proofs.Common.{◌≡◌, ◌∷◌, [], ◌∙◌, ap, refl, rul
 use Rattle.std.specs.Str.Lines.{lines}
 use Rattle.type_reader_io.proofs.Lines.{last_line}
 use Rattle.type_reader_io.specs.Reports.{ReportsEach}
-use Rattle.type_reader_run.proofs.Steps.{Converts-restart, converts_none, empty_list, on_ok}
+use Rattle.std.proofs.lemmas.Result.{on_ok_weaker}
+use Rattle.type_reader_run.proofs.Steps.{Converts-restart, converts_none, empty_list}
 use Rattle.type_reader_run.proofs.Steps.{some_list}
 use Rattle.type_reader_run.specs.Steps.{Converts}
 use Rattle.type_reader_run.proofs.lines.end_input.Goals as goal
@@ -26,7 +27,7 @@ returns-clause-ok g c =
     c.deref.ensures.value ∙ ap (λ v. v.items) c.replace-line.ensures.value in
     let values : c.deref.result.now ∷ [] ≡ lines start =
     ap (λ l. l ∷ []) line ∙ sym (last_line start (some_list start (search rules)) c.requires) in
-    on_ok c.convert_line.result
+    on_ok_weaker c.convert_line.result
     (λ converts.
     subst
     (λ v. Converts c.args.converter.now v c.args.progress.now c.convert_line.new.progress

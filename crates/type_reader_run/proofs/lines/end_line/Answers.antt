@@ -5,7 +5,8 @@ use Rattle.std.proofs.lemmas.Result.{err_from_is_err_and}
 use Rattle.std.specs.Str.Lines.{strip_carriage_return}
 use Rattle.type_reader_io.specs.Inputs.{IsWithoutFeed}
 use Rattle.type_reader_io.specs.Reports.{ReportsEach}
-use Rattle.type_reader_run.proofs.Steps.{empty_list, line_ended, none_written, on_ok, stops_kept}
+use Rattle.std.proofs.lemmas.Result.{on_ok_weaker}
+use Rattle.type_reader_run.proofs.Steps.{empty_list, line_ended, none_written, stops_kept}
 use Rattle.type_reader_run.proofs.lines.end_line.Goals as goal
 
 pub returns-then-is_empty-clause-ok : goal.returns-then-is_empty-clause-ok
@@ -14,7 +15,7 @@ returns-then-is_empty-clause-ok g c =
     empty_list c.args.progress.now.start.items (search rules) in
     let whole : c.args.progress.now.start.items ++ c.args.end.now ≡ c.args.end.now =
     ap (λ l. l ++ c.args.end.now) none in
-    on_ok c.convert_line.result
+    on_ok_weaker c.convert_line.result
     (line_ended c.args.converter.now c.args.end.now c.without_return.result.now
     c.args.progress.now c.args.progress.now c.convert_line.new.progress
     (g.W.Write.contents c.args.output.now) (g.W.Write.contents c.convert_line.new.output)
@@ -49,7 +50,7 @@ returns-clause-ok g c =
     c.deref.result.now ≡ c.args.progress.now.start.items ++ c.args.end.now =
     c.deref.ensures.value ∙ ap (λ v. v.items) c.replace-line.ensures.value
     ∙ c.in_ok-extend_from_slice.ensures.items in
-    on_ok c.convert_line-2.result
+    on_ok_weaker c.convert_line-2.result
     (line_ended c.args.converter.now c.args.end.now c.without_return-2.result.now
     c.args.progress.now
     (record {
