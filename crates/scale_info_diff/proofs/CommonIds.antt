@@ -1,5 +1,5 @@
 -- The ids of paths in both tables, path by path.
-use Rattle.std.proofs.Common.{◌≡◌, ◌≢◌, ◌∙◌, ◌++◌, ◌∷◌, ◌<◌, ◌==◌, inl, inr, ℕ, Bool, true, false, List, [], All, length, map, get_or, drop, ◌+◌}
+use Rattle.std.proofs.Common.{◌≡◌, ◌≢◌, ◌∙◌, ◌++◌, ◌∷◌, ◌<◌, ◌==◌, inl, inr, ℕ, zero, suc, Bool, true, false, List, [], All, Contains, length, map, get_or, drop, ◌+◌}
 use Rattle.std.proofs.Common.{ap, sym, subst, refl, arith, append-nil, append_assoc}
 use Rattle.std.proofs.lemmas.Bool.{false≢true}
 use Rattle.std.proofs.lemmas.Bool.Decides.{eqb_tells}
@@ -7,11 +7,13 @@ use Rattle.std.proofs.lemmas.List.{drop_more, nil_from_length}
 use Rattle.std.proofs.lemmas.List.Elements.{All-cons, All-nil}
 use Rattle.std.proofs.lemmas.Option.{slice_get-get_or}
 use Rattle.std.specs.List.{flat_map}
+use Rattle.scale_info_numberings.proofs.Places.{contains_head, contains_tail}
 use Rattle.scale_info_numberings.proofs.Zip.{zip_at}
 use Rattle.scale_info_types.specs.Portable.{Text}
 use Rattle.scale_info_types.specs.declared.ty.PortableType.{PortableType}
 use Rattle.scale_info_diff.proofs.AddedIds.{row_at}
 use Rattle.scale_info_diff.specs.Comparisons.{AreCommonIds, HasSameCount, own_ids}
+use Rattle.scale_info_diff.specs.Differing.{unmarked}
 use Rattle.scale_info_diff.specs.TypesByPath.{AreIdsByPath, ids_of}
 
 module _ (types others : List PortableType) where
@@ -29,18 +31,58 @@ pub record IsCommonSoFar (types others : List PortableType) (paths left : List T
   pub own_so_far : common ++ flat_map (own types others) left ≡ flat_map (own types others) paths
   pub theirs_so_far : other_ids ++ flat_map (theirs types others) left ≡ flat_map (theirs types others) paths
 
+-- a path without a mark is one of those
+among_unmarked :
+    (paths : List Text) (marks : List Bool) (i : ℕ) (p : Text) (m : Bool)
+    → i < length paths → length marks ≡ length paths → get_or marks i m ≡ false
+    → Contains (unmarked paths marks) (get_or paths i p)
+among_unmarked [] marks i p m within long is = absurd (omega (arith, within))
+among_unmarked (q ∷ paths) [] i p m within long is = absurd (omega (arith, long))
+among_unmarked (q ∷ paths) (true ∷ marks) zero p m within long is = absurd (false≢true (sym is))
+among_unmarked (q ∷ paths) (false ∷ marks) zero p m within long is = contains_head q (unmarked paths marks)
+among_unmarked (q ∷ paths) (true ∷ marks) (suc i) p m within long is =
+    among_unmarked paths marks i p m (omega (arith, within)) (omega (arith, long)) is
+among_unmarked (q ∷ paths) (false ∷ marks) (suc i) p m within long is =
+    contains_tail q (unmarked paths marks) (get_or paths i p)
+    (among_unmarked paths marks i p m (omega (arith, within)) (omega (arith, long)) is)
+
 -- before the first path
 pub at_start :
     (types others : List PortableType) (paths : List Text) → IsCommonSoFar types others paths paths [] []
 at_start types others paths = record { counts = λ all. all; own_so_far = refl; theirs_so_far = refl }
 
--- the next path, before those after it
-pub at_path :
-    (types others : List PortableType) (paths : List Text) (i : ℕ) (p : Text) (common other_ids : List ℕ)
-    → i < length paths → IsCommonSoFar types others paths (drop i paths) common other_ids
-    → IsCommonSoFar types others paths (get_or paths i p ∷ drop (i + 1) paths) common other_ids
-at_path types others paths i p common other_ids within x =
-    subst (λ ps. IsCommonSoFar types others paths ps common other_ids) (drop_more paths i p within) x
+-- the paths without a mark from a place on, by the path and the mark there
+left_at :
+    (paths : List Text) (marks : List Bool) (i : ℕ) (p : Text) (m b : Bool)
+    → i < length paths → length marks ≡ length paths → get_or marks i m ≡ b
+    → unmarked (drop i paths) (drop i marks)
+    ≡ unmarked (get_or paths i p ∷ drop (i + 1) paths) (b ∷ drop (i + 1) marks)
+left_at paths marks i p m b within long is =
+    ap (λ ps. unmarked ps (drop i marks)) (drop_more paths i p within)
+    ∙ ap (λ ms. unmarked (get_or paths i p ∷ drop (i + 1) paths) ms) (drop_more marks i m (omega (arith, long)))
+    ∙ ap (λ x. unmarked (get_or paths i p ∷ drop (i + 1) paths) (x ∷ drop (i + 1) marks)) is
+
+module _ (types others : List PortableType) (paths : List Text) (marks : List Bool) (i : ℕ) (p : Text) (m : Bool)
+    (common other_ids : List ℕ) (within : i < length paths) (long : length marks ≡ length paths)
+    (x : IsCommonSoFar types others (unmarked paths marks) (unmarked (drop i paths) (drop i marks)) common other_ids) where
+  -- a path with a mark
+  pub after_mark :
+      get_or marks i m ≡ true
+      → IsCommonSoFar types others (unmarked paths marks) (unmarked (drop (i + 1) paths) (drop (i + 1) marks)) common other_ids
+  after_mark is =
+      subst (λ ps. IsCommonSoFar types others (unmarked paths marks) ps common other_ids) (left_at paths marks i p m true within long is) x
+
+  -- the next path without one, before those after it
+  pub at_path :
+      get_or marks i m ≡ false
+      → IsCommonSoFar types others (unmarked paths marks)
+      (get_or paths i p ∷ unmarked (drop (i + 1) paths) (drop (i + 1) marks)) common other_ids
+  at_path is =
+      subst (λ ps. IsCommonSoFar types others (unmarked paths marks) ps common other_ids) (left_at paths marks i p m false within long is) x
+
+  -- such a path is one of those without one
+  pub is_unmarked : get_or marks i m ≡ false → Contains (unmarked paths marks) (get_or paths i p)
+  is_unmarked is = among_unmarked paths marks i p m within long is
 
 -- after the last path
 pub at_end :

@@ -3,8 +3,11 @@ pub mod CommonIds
 pub mod Compared
 pub mod Differences
 pub mod Encoded
+pub mod EntriesOf
 pub mod Inputs
 pub mod Listed
+pub mod Marked
 pub mod MatchParts
+pub mod NeverPaired
 pub mod Reaches
 pub mod WithoutDocs

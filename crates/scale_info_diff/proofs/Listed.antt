@@ -1,15 +1,16 @@
 -- Lists of changes.
-use Rattle.std.proofs.Common.{◌≡◌, ◌≢◌, ◌∙◌, ◌++◌, ◌∷◌, ℕ, true, false, List, [], All, length, take, drop, map, zero, suc}
+use Rattle.std.proofs.Common.{◌≡◌, ◌≢◌, ◌∙◌, ◌++◌, ◌∷◌, ℕ, Bool, true, List, [], All, length, take, drop, map, zero, suc}
 use Rattle.std.proofs.Common.{ap, sym, subst, refl, arith, append_assoc}
 use Rattle.std.proofs.lemmas.Bool.{false≢true}
 use Rattle.std.proofs.lemmas.Grind.{flat_map-append}
-use Rattle.std.proofs.lemmas.List.{take-append-drop}
-use Rattle.std.proofs.lemmas.List.Elements.{All-head, All-nil, All-tail}
+use Rattle.std.proofs.lemmas.List.{take-append-drop, take-map, drop-map}
+use Rattle.std.proofs.lemmas.List.Elements.{All-nil}
 use Rattle.std.specs.List.{AllZip, flat_map}
 use Rattle.scale_info_types.specs.Portable.{Text}
 use Rattle.scale_info_types.specs.declared.ty.PortableType.{PortableType}
 use Rattle.scale_info_diff.specs.TableChanges.{AreChanges, AreSame, IsOldChange, added_by, changed, new_change, removed, unchanged}
-use Rattle.scale_info_diff.specs.Comparisons.{AddsOldChanges, TellsSame, removed_by, removed_change}
+use Rattle.scale_info_diff.specs.Comparisons.{AddsOldChanges, TellsSame, removed_by}
+use Rattle.scale_info_diff.specs.Differing.{unmarked}
 use Rattle.scale_info_diff.specs.TypesByPath.{AreIdsByPath, ids_of, paths_of}
 use Rattle.scale_info_diff.specs.declared.change.Change.{Change}
 use Rattle.scale_info_diff.specs.declared.change.Change.TheVariants.{Changed, Removed}
@@ -17,7 +18,7 @@ use Rattle.scale_info_diff.specs.declared.change.Change.TheVariants.{Changed, Re
 cons_some : {A : Type 0} (x : A) (xs : List A) → (x ∷ xs) ≡ [] → ⊥
 cons_some x xs e = absurd (omega (arith, ap length e))
 
-join_zip :
+pub join_zip :
     {A B : Type 0} (P : A → B → Type 0) (xs more : List A) (ys others : List B)
     → AllZip P xs ys → AllZip P more others → AllZip P (xs ++ more) (ys ++ others)
 join_zip P [] more [] others z w = w
@@ -27,7 +28,7 @@ join_zip P (x ∷ xs) more (y ∷ ys) others z w = (z.0, join_zip P xs more ys o
 
 module _ (types others : List PortableType) where
   -- a path that has not changed, by the ids that it has in the new table
-  one_removed :
+  pub one_removed :
       (path : Text) (ids : List ℕ) → ids_of path others ≡ ids
       → (ids_of path others ≢ [] → AreSame types others path)
       → IsOldChange types others path (removed_by ids path)
@@ -35,31 +36,6 @@ module _ (types others : List PortableType) where
   one_removed path (id ∷ ids) is same =
       let some : ids_of path others ≢ [] = λ none. cons_some id ids (sym is ∙ none) in
       unchanged path some (same some)
-
-  all_removed :
-      (paths : List Text)
-      → All (λ path. ids_of path others ≢ [] → AreSame types others path) paths
-      → (parts : List (List Change)) × AllZip (IsOldChange types others) paths parts
-      × (flat_map (removed_change others) paths ≡ flat_map (λ part. part) parts)
-  all_removed [] same = ([], tt, refl)
-  all_removed (path ∷ paths) same =
-      let here =
-      one_removed path (ids_of path others) refl
-      (All-head (λ path. ids_of path others ≢ [] → AreSame types others path) path paths same) in
-      let rest =
-      all_removed paths
-      (All-tail (λ path. ids_of path others ≢ [] → AreSame types others path) path paths same) in
-      (removed_change others path ∷ rest.0, (here, rest.1), ap (λ cs. removed_change others path ++ cs) rest.2)
-
-  -- where none has changed, what became of the paths is which are removed
-  pub adds_removed :
-      (paths : List Text) (old new : List Change)
-      → TellsSame types others paths true
-      → new ≡ old ++ flat_map (removed_change others) paths
-      → AddsOldChanges types others paths old new
-  adds_removed paths old new tells is =
-      let all = all_removed paths (tells.all refl) in
-      record { parts = all.0; each = all.1; added = is ∙ ap (λ cs. old ++ cs) all.2 }
 
   -- a path that the new table has not
   pub adds_one_removed :
@@ -71,12 +47,12 @@ module _ (types others : List PortableType) where
   -- a path whose types are not the same
   pub adds_one_changed :
       (path : Text) (old new : List Change) → ids_of path others ≢ []
-      → TellsSame types others (path ∷ []) false
+      → ¬ (AreSame types others path)
       → new ≡ old ++ Changed path ∷ [] → AddsOldChanges types others (path ∷ []) old new
-  adds_one_changed path old new some tells is =
+  adds_one_changed path old new some differs is =
       record {
         parts = (Changed path ∷ []) ∷ [];
-        each = (changed path some (tells.one refl path refl some), tt);
+        each = (changed path some differs, tt);
         added = is;
       }
 
@@ -123,39 +99,48 @@ none_added (id ∷ ids) path some = refl
 
 -- ---- the first rows and the others
 
--- the first rows are those of the first paths
-pub take_rows :
-    {V : Type 0} (row : V → List ℕ) (types : List PortableType) (n : ℕ) (paths : List Text) (vs : List V)
-    → AreIdsByPath types paths (map row vs) → AreIdsByPath types (take n paths) (map row (take n vs))
-take_rows row types zero [] [] z = tt
-take_rows row types zero [] (v ∷ vs) z = absurd z
-take_rows row types zero (p ∷ ps) [] z = absurd z
-take_rows row types zero (p ∷ ps) (v ∷ vs) z = tt
-take_rows row types (suc n) [] [] z = tt
-take_rows row types (suc n) [] (v ∷ vs) z = absurd z
-take_rows row types (suc n) (p ∷ ps) [] z = absurd z
-take_rows row types (suc n) (p ∷ ps) (v ∷ vs) z = (z.0, take_rows row types n ps vs z.1)
+-- what holds place by place holds so of the first ones
+pub take_zip :
+    {A B : Type 0} (P : A → B → Type 0) (n : ℕ) (xs : List A) (ys : List B)
+    → AllZip P xs ys → AllZip P (take n xs) (take n ys)
+take_zip P zero xs ys z = tt
+take_zip P (suc n) [] [] z = tt
+take_zip P (suc n) [] (y ∷ ys) z = absurd z
+take_zip P (suc n) (x ∷ xs) [] z = absurd z
+take_zip P (suc n) (x ∷ xs) (y ∷ ys) z = (z.0, take_zip P n xs ys z.1)
 
--- the others are those of the other paths
-pub drop_rows :
-    {V : Type 0} (row : V → List ℕ) (types : List PortableType) (n : ℕ) (paths : List Text) (vs : List V)
-    → AreIdsByPath types paths (map row vs) → AreIdsByPath types (drop n paths) (map row (drop n vs))
-drop_rows row types zero [] [] z = tt
-drop_rows row types zero [] (v ∷ vs) z = absurd z
-drop_rows row types zero (p ∷ ps) [] z = absurd z
-drop_rows row types zero (p ∷ ps) (v ∷ vs) z = z
-drop_rows row types (suc n) [] [] z = tt
-drop_rows row types (suc n) [] (v ∷ vs) z = absurd z
-drop_rows row types (suc n) (p ∷ ps) [] z = absurd z
-drop_rows row types (suc n) (p ∷ ps) (v ∷ vs) z = drop_rows row types n ps vs z.1
+-- and of the others
+pub drop_zip :
+    {A B : Type 0} (P : A → B → Type 0) (n : ℕ) (xs : List A) (ys : List B)
+    → AllZip P xs ys → AllZip P (drop n xs) (drop n ys)
+drop_zip P zero xs ys z = z
+drop_zip P (suc n) [] [] z = tt
+drop_zip P (suc n) [] (y ∷ ys) z = absurd z
+drop_zip P (suc n) (x ∷ xs) [] z = absurd z
+drop_zip P (suc n) (x ∷ xs) (y ∷ ys) z = drop_zip P n xs ys z.1
+
+module _ {V : Type 0} (row : V → List ℕ) (types : List PortableType) (n : ℕ) (paths : List Text) (vs : List V)
+    (z : AreIdsByPath types paths (map row vs)) where
+  -- the first rows are those of the first paths
+  pub take_rows : AreIdsByPath types (take n paths) (map row (take n vs))
+  take_rows =
+      subst (λ rows. AreIdsByPath types (take n paths) rows) (take-map row n vs)
+      (take_zip (λ path ids. ids ≡ ids_of path types) n paths (map row vs) z)
+
+  -- the others are those of the other paths
+  pub drop_rows : AreIdsByPath types (drop n paths) (map row (drop n vs))
+  drop_rows =
+      subst (λ rows. AreIdsByPath types (drop n paths) rows) (drop-map row n vs)
+      (drop_zip (λ path ids. ids ≡ ids_of path types) n paths (map row vs) z)
 
 -- no paths have changed
 pub same_none :
-    (types others : List PortableType) (paths : List Text) → paths ≡ [] → TellsSame types others paths true
-same_none types others paths none =
+    (types others : List PortableType) (paths : List Text) (marks : List Bool) → paths ≡ []
+    → TellsSame types others (unmarked paths marks) true
+same_none types others paths marks none =
     record {
       all = λ e.
-          subst (λ ps. All (λ path. ids_of path others ≢ [] → AreSame types others path) ps) (sym none)
+          subst (λ ps. All (λ path. ids_of path others ≢ [] → AreSame types others path) (unmarked ps marks)) (sym none)
           (All-nil (λ path. ids_of path others ≢ [] → AreSame types others path));
       one = λ e. absurd (false≢true (sym e));
     }

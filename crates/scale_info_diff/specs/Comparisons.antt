@@ -56,7 +56,3 @@ pub record TellsSame (types others : List PortableType) (paths : List Text)
 abbrev pub removed_by : List ℕ → Text → List Change
 removed_by [] path = Removed path ∷ []
 removed_by (id ∷ ids) path = []
-
--- what became of a path of the old table, if none has changed
-abbrev pub removed_change : List PortableType → Text → List Change
-removed_change others path = removed_by (ids_of path others) path

@@ -26,10 +26,11 @@ use std::alloc::{AllocError, Global};
 /// those of the old table first, in the order of the first types that have them, and then those
 /// that are new.
 ///
-/// All paths of both tables are compared at once, and where they are not all the same, those of
-/// each half, down to single ones. Each comparison goes over both tables. So tables in which
-/// nothing changed are compared once, and there are at most twice as many comparisons as paths: the
-/// work is linear in the tables where nothing changed, and quadratic where most paths have.
+/// All paths of both tables are compared at once. Where they are not all the same, one pass over
+/// both tables finds the paths that have changed since contents or counts differ below them, and
+/// the others are compared at once again. That is linear in the tables. Only where a difference is
+/// left, which takes a type of one table that stands for two of the other, are the halves compared,
+/// down to single paths, each time with a pass over both tables.
 ///
 /// Errors, of the old table before the new one: `Decode(Malformed)`, where no prefix of the input
 /// is a table; `Trailing`, where bytes come after it. Then `Retain(Dangling)`, where an entry of
@@ -68,14 +69,7 @@ pub fn changes_with_docs(alloc: Global, old: &[u8], new: &[u8]) -> Result<Vec<Ch
     let old = NamedTable::of(alloc, old)?;
     let new = NamedTable::of(alloc, new)?;
     let mut changes = Vec::new(alloc);
-    push_old_changes(
-        alloc,
-        old.bytes,
-        &new,
-        old.paths.elements(),
-        &old.ids,
-        &mut changes,
-    )?;
+    push_old_changes(alloc, &old, &new, &mut changes)?;
     push_added(alloc, &old, new.paths.elements(), &mut changes)?;
     Ok(changes)
 }

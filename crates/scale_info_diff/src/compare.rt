@@ -1,10 +1,10 @@
 //! Paths of an old table, compared with a new table.
 ghost use Rattle.std.specs.Prelude.{◌≡◌, ◌++◌, ◌≢◌, List, IfOk, IfErr, OnOk, IsOk, true, false};
 ghost use Rattle.std.specs.Prelude.{◌∷◌, [], All, MatchOption, length, map};
-ghost use Rattle.std.specs.List.{flat_map};
 ghost use Rattle.scale_info_diff.specs.TableChanges.{AreSame, IsCompareError, IsOldChange};
 ghost use Rattle.scale_info_diff.specs.Comparisons.{AddsOldChanges, AreCommonIds};
-ghost use Rattle.scale_info_diff.specs.Comparisons.{HaveOtherCounts, TellsSame, removed_change};
+ghost use Rattle.scale_info_diff.specs.Comparisons.{HaveOtherCounts, TellsSame};
+ghost use Rattle.scale_info_diff.specs.Differing.{AreMarks, marked_changes, unmarked};
 ghost use Rattle.scale_info_diff.specs.NamedTables.{IsNamedTable};
 ghost use Rattle.scale_info_diff.specs.TypesByPath.{AreIdsByPath, ids_of};
 ghost use Rattle.scale_info_grammar.specs.Ty.{EncodesTypes};
@@ -12,6 +12,7 @@ ghost use Rattle.scale_info_types.specs.Portable as portable;
 ghost use Rattle.scale_info_types.specs.declared.ty.PortableType.{PortableType};
 
 use crate::change::Change;
+use crate::differing::changed_paths;
 use crate::named::NamedTable;
 use scale_info_collections::text::Text;
 use scale_info_collections::try_clone::TryClone;
@@ -19,27 +20,69 @@ use scale_info_prune::prune::PruneError;
 use scale_info_prune::same_types::same_types;
 use std::alloc::{AllocError, Global};
 
-/// Pushes what became of these paths of the old table, whose ids are given, in order.
+/// Pushes what became of the paths of the old table, in order.
 ///
-/// The types of all of them are compared at once, and only where they are not the same, those of
-/// each half of the paths. On an error some changes may have been pushed.
+/// The types of all of them are compared at once. Where they are not the same, the paths that are
+/// known to have changed are marked, and the others compared, all at once and then by halves. On an
+/// error some changes may have been pushed.
 ///
 /// Errors: `Retain(Dangling)`, where an entry refers to an id that is no index; `Memory`, where an
 /// allocation failed.
 pub(crate) fn push_old_changes(
     alloc: Global,
+    old: &NamedTable<'_>,
+    new: &NamedTable<'_>,
+    changes: &mut Vec<Change>,
+) -> Result<(), PruneError>
+    requires { length old.now.ids.items ≡ length old.now.paths }
+    ensures ok { OnOk result ((types others : List PortableType)
+        → IsNamedTable types old.now.bytes.now old.now.paths
+        (map (λ row. row.items) old.now.ids.items)
+        → IsNamedTable others new.now.bytes.now new.now.paths
+        (map (λ row. row.items) new.now.ids.items)
+        → AddsOldChanges types others old.now.paths changes.old.items changes.new.items) }
+    ensures cause { IfErr result (λ error. (types others : List PortableType)
+        → IsNamedTable types old.now.bytes.now old.now.paths
+        (map (λ row. row.items) old.now.ids.items)
+        → IsNamedTable others new.now.bytes.now new.now.paths
+        (map (λ row. row.items) new.now.ids.items)
+        → IsCompareError types others error) }
+{
+    let paths = old.paths.elements();
+    let mut marks = Vec::new(alloc);
+    marks.resize(paths.len(), false)?;
+    if are_same(alloc, old.bytes, new, paths, &old.ids, &marks)? {
+        return Ok(push_marked(alloc, new, paths, &marks, changes)?);
+    }
+    let marks = changed_paths(alloc, old, new)?;
+    push_by_halves(alloc, old.bytes, new, paths, &old.ids, &marks, changes)
+}
+
+/// Pushes what became of these paths of the old table, whose ids are given, in order; those with a
+/// mark are known to have changed.
+///
+/// The types of all others are compared at once, and only where they are not the same, those of
+/// each half of the paths. On an error some changes may have been pushed.
+///
+/// Errors: `Retain(Dangling)`, where an entry refers to an id that is no index; `Memory`, where an
+/// allocation failed.
+fn push_by_halves(
+    alloc: Global,
     old: &[u8],
     new: &NamedTable<'_>,
     paths: &[Text],
     ids: &[Vec<u32>],
+    marks: &[bool],
     changes: &mut Vec<Change>,
 ) -> Result<(), PruneError>
-    requires { length ids.now ≡ length paths.now }
+    requires ids { length ids.now ≡ length paths.now }
+    requires marks { length marks.now ≡ length paths.now }
     ensures ok { OnOk result ((types others : List PortableType)
         → EncodesTypes types old.now
         → IsNamedTable others new.now.bytes.now new.now.paths
         (map (λ row. row.items) new.now.ids.items)
         → AreIdsByPath types paths.now (map (λ row. row.items) ids.now)
+        → AreMarks types others paths.now marks.now
         → AddsOldChanges types others paths.now changes.old.items changes.new.items) }
     ensures cause { IfErr result (λ error. (types others : List PortableType)
         → EncodesTypes types old.now
@@ -48,8 +91,8 @@ pub(crate) fn push_old_changes(
         → AreIdsByPath types paths.now (map (λ row. row.items) ids.now)
         → IsCompareError types others error) }
 {
-    if paths.is_empty() || are_same(alloc, old, new, paths, ids)? {
-        return Ok(push_removed(alloc, new, paths, changes)?);
+    if paths.is_empty() || are_same(alloc, old, new, paths, ids, marks)? {
+        return Ok(push_marked(alloc, new, paths, marks, changes)?);
     }
     if paths.len() == 1 {
         return Ok(push_difference(alloc, new, &paths[0], changes)?);
@@ -57,11 +100,13 @@ pub(crate) fn push_old_changes(
     let middle = paths.len() / 2;
     let (first, second) = paths.split_at(middle);
     let (first_ids, second_ids) = ids.split_at(middle);
-    push_old_changes(alloc, old, new, first, first_ids, changes)?;
-    push_old_changes(alloc, old, new, second, second_ids, changes)
+    let (first_marks, second_marks) = marks.split_at(middle);
+    push_by_halves(alloc, old, new, first, first_ids, first_marks, changes)?;
+    push_by_halves(alloc, old, new, second, second_ids, second_marks, changes)
 }
 
-/// Whether the types of all of these paths of the old table that the new one has are the same.
+/// Whether the types of all of these paths of the old table that have no mark, and that the new one
+/// has, are the same.
 ///
 /// False says nothing of any one of several paths.
 ///
@@ -72,14 +117,16 @@ fn are_same(
     new: &NamedTable<'_>,
     paths: &[Text],
     ids: &[Vec<u32>],
+    marks: &[bool],
 ) -> Result<bool, PruneError>
-    requires { length ids.now ≡ length paths.now }
+    requires ids { length ids.now ≡ length paths.now }
+    requires marks { length marks.now ≡ length paths.now }
     ensures ok { IfOk result (λ same. (types others : List PortableType)
         → EncodesTypes types old.now
         → IsNamedTable others new.now.bytes.now new.now.paths
         (map (λ row. row.items) new.now.ids.items)
         → AreIdsByPath types paths.now (map (λ row. row.items) ids.now)
-        → TellsSame types others paths.now same) }
+        → TellsSame types others (unmarked paths.now marks.now) same) }
     ensures cause { IfErr result (λ error. (types others : List PortableType)
         → EncodesTypes types old.now
         → IsNamedTable others new.now.bytes.now new.now.paths
@@ -87,14 +134,14 @@ fn are_same(
         → AreIdsByPath types paths.now (map (λ row. row.items) ids.now)
         → IsCompareError types others error) }
 {
-    match common_ids(alloc, new, paths, ids)? {
+    match common_ids(alloc, new, paths, ids, marks)? {
         None => Ok(false),
         Some((common, others)) => same_types(alloc, old, &common, new.bytes, &others),
     }
 }
 
-/// The ids of these paths of the old table that the new one has, and those that they have there,
-/// path by path; None, where one of them has another number of types there.
+/// The ids of these paths of the old table that have no mark and that the new one has, and those
+/// that they have there, path by path; None, where one of them has another number of types there.
 ///
 /// Errors: `AllocError`, if an allocation failed.
 fn common_ids(
@@ -102,18 +149,24 @@ fn common_ids(
     new: &NamedTable<'_>,
     paths: &[Text],
     ids: &[Vec<u32>],
+    marks: &[bool],
 ) -> Result<Option<(Vec<u32>, Vec<u32>)>, AllocError>
-    requires { length ids.now ≡ length paths.now }
+    requires ids { length ids.now ≡ length paths.now }
+    requires marks { length marks.now ≡ length paths.now }
     ensures { IfOk result (λ found. (types others : List PortableType)
         → IsNamedTable others new.now.bytes.now new.now.paths
         (map (λ row. row.items) new.now.ids.items)
         → AreIdsByPath types paths.now (map (λ row. row.items) ids.now)
-        → MatchOption found (HaveOtherCounts types others paths.now)
-        (λ both. AreCommonIds types others paths.now both.0.items both.1.items)) }
+        → MatchOption found (HaveOtherCounts types others (unmarked paths.now marks.now))
+        (λ both. AreCommonIds types others (unmarked paths.now marks.now) both.0.items
+        both.1.items)) }
 {
     let mut common = Vec::new(alloc);
     let mut others = Vec::new(alloc);
     for index in 0..paths.len() {
+        if marks[index] {
+            continue;
+        }
         let there = new.ids_of(&paths[index]);
         if there.is_empty() {
             continue;
@@ -128,22 +181,27 @@ fn common_ids(
     Ok(Some((common, others)))
 }
 
-/// Pushes that these paths were removed, as far as the new table has no type with them. On an error
-/// some changes may have been pushed.
-fn push_removed(
+/// Pushes that these paths have changed, as far as they have a mark, and that the others were
+/// removed, as far as the new table has no type with them. On an error some changes may have been
+/// pushed.
+fn push_marked(
     alloc: Global,
     new: &NamedTable<'_>,
     paths: &[Text],
+    marks: &[bool],
     changes: &mut Vec<Change>,
 ) -> Result<(), AllocError>
+    requires { length marks.now ≡ length paths.now }
     ensures { OnOk result ((others : List PortableType)
         → IsNamedTable others new.now.bytes.now new.now.paths
         (map (λ row. row.items) new.now.ids.items)
-        → changes.new.items ≡ changes.old.items
-        ++ flat_map (λ path. removed_change others path) paths.now) }
+        → changes.new.items ≡ changes.old.items ++ marked_changes others paths.now marks.now) }
 {
-    for path in paths {
-        if new.ids_of(path).is_empty() {
+    for index in 0..paths.len() {
+        let path = &paths[index];
+        if marks[index] {
+            changes.push(Change::Changed(path.try_clone(alloc)?))?;
+        } else if new.ids_of(path).is_empty() {
             changes.push(Change::Removed(path.try_clone(alloc)?))?;
         }
     }
@@ -161,7 +219,7 @@ fn push_difference(
     ensures { OnOk result ((types others : List PortableType)
         → IsNamedTable others new.now.bytes.now new.now.paths
         (map (λ row. row.items) new.now.ids.items)
-        → TellsSame types others (path.now ∷ []) false
+        → (ids_of path.now others ≢ [] → ¬ (AreSame types others path.now))
         → AddsOldChanges types others (path.now ∷ []) changes.old.items changes.new.items) }
 {
     let copy = path.try_clone(alloc)?;

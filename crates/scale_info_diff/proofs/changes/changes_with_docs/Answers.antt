@@ -2,7 +2,7 @@ use Rattle.std.proofs.Common.{◌∙◌, ◌++◌, [], List, ap, subst}
 use Rattle.std.proofs.lemmas.Result.{err_from_is_err_and}
 use Rattle.std.specs.List.{flat_map}
 use Rattle.scale_info_grammar.specs.Ty.{EncodesTypes}
-use Rattle.scale_info_diff.proofs.Inputs.{given_rows, input_error}
+use Rattle.scale_info_diff.proofs.Inputs.{input_error}
 use Rattle.scale_info_diff.proofs.Listed.{are_changes}
 use Rattle.scale_info_diff.specs.TableChanges.{new_change}
 use Rattle.scale_info_diff.specs.Comparisons.{AddsOldChanges}
@@ -21,9 +21,7 @@ returns-in_err-push_old_changes-clause-cause c =
     (subst (EncodesTypes x.0) c.in_ok-old.ensures.bytes x.1.encodes)
     (subst (EncodesTypes y.0) c.in_ok-new.ensures.bytes y.1.encodes)
     c.in_err-push_old_changes.field-0.0
-    (c.in_err-push_old_changes.ensures.cause x.0 y.0 x.1.encodes y.1
-    (given_rows (λ row. row.items) x.0 c.in_ok-old.old.paths c.elements.result.now c.in_ok-old.old.ids.items
-    c.deref.result.now c.elements.ensures.list c.deref.ensures.value x.1.are_ids)))
+    (c.in_err-push_old_changes.ensures.cause x.0 y.0 x.1 y.1))
 
 pub returns-clause-ok : goal.returns-clause-ok
 returns-clause-ok c =
@@ -37,11 +35,9 @@ returns-clause-ok c =
       other_encodes = subst (EncodesTypes y.0) c.in_ok-new.ensures.bytes y.1.encodes;
       changed =
           are_changes x.0 y.0 middle c.push_added.new.changes.items
-          (subst (λ ps. AddsOldChanges x.0 y.0 ps [] middle) (c.elements.ensures.list ∙ x.1.are_paths)
-          (subst (λ (before : List Change). AddsOldChanges x.0 y.0 c.elements.result.now before middle) c.new-changes.ensures.items
-          (c.in_ok-push_old_changes.ensures.ok x.0 y.0 x.1.encodes y.1
-          (given_rows (λ row. row.items) x.0 c.in_ok-old.old.paths c.elements.result.now c.in_ok-old.old.ids.items
-          c.deref.result.now c.elements.ensures.list c.deref.ensures.value x.1.are_ids))))
+          (subst (λ ps. AddsOldChanges x.0 y.0 ps [] middle) x.1.are_paths
+          (subst (λ (before : List Change). AddsOldChanges x.0 y.0 c.in_ok-old.old.paths before middle) c.new-changes.ensures.items
+          (c.in_ok-push_old_changes.ensures.ok x.0 y.0 x.1 y.1)))
           (c.in_ok-push_added.ensures x.0 x.1
-          ∙ ap (λ ps. middle ++ flat_map (new_change x.0) ps) (c.elements-2.ensures.list ∙ y.1.are_paths));
+          ∙ ap (λ ps. middle ++ flat_map (new_change x.0) ps) (c.elements.ensures.list ∙ y.1.are_paths));
     }

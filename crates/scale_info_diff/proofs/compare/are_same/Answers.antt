@@ -2,20 +2,21 @@ use Rattle.std.proofs.lemmas.Result.{IfErr-weaker, IfOk-weaker}
 use Rattle.scale_info_diff.proofs.CommonIds.{given_ids}
 use Rattle.scale_info_diff.proofs.Compared.{other_counts, tells_same}
 use Rattle.scale_info_diff.proofs.Encoded.{compare_error}
+use Rattle.scale_info_diff.specs.Differing.{unmarked}
 use Rattle.scale_info_diff.proofs.compare.are_same.Goals as goal
 
 pub returns-in-None-clause-ok : goal.returns-in-None-clause-ok
 returns-in-None-clause-ok c = λ types others x y z.
-    other_counts types others c.args.paths.now
+    other_counts types others (unmarked c.args.paths.now c.args.marks.now)
     (rw c.in-None.is at (c.in_ok-common_ids.ensures types others y z))
 
 pub returns-in-Some-clause-ok : goal.returns-in-Some-clause-ok
 returns-in-Some-clause-ok c =
     IfOk-weaker c.same_types.result _ _
     (λ same tells types others x y z.
-    tells_same types others c.args.paths.now c.args.old.now c.args.new.now.bytes.now c.deref.result.now
+    tells_same types others (unmarked c.args.paths.now c.args.marks.now) c.args.old.now c.args.new.now.bytes.now c.deref.result.now
     c.deref-in-Some.result.now same x y.encodes
-    (given_ids types others c.args.paths.now c.in-Some.common.items c.deref.result.now c.in-Some.others.items
+    (given_ids types others (unmarked c.args.paths.now c.args.marks.now) c.in-Some.common.items c.deref.result.now c.in-Some.others.items
     c.deref-in-Some.result.now c.deref.ensures.value c.deref-in-Some.ensures.value
     (rw c.in-Some.is at (c.in_ok-common_ids.ensures types others y z)))
     tells)
@@ -25,9 +26,9 @@ pub returns-in-Some-clause-cause : goal.returns-in-Some-clause-cause
 returns-in-Some-clause-cause c =
     IfErr-weaker c.same_types.result _ _
     (λ error why types others x y z.
-    compare_error types others c.args.paths.now c.args.old.now c.args.new.now.bytes.now c.deref.result.now
+    compare_error types others (unmarked c.args.paths.now c.args.marks.now) c.args.old.now c.args.new.now.bytes.now c.deref.result.now
     c.deref-in-Some.result.now x y.encodes
-    (given_ids types others c.args.paths.now c.in-Some.common.items c.deref.result.now c.in-Some.others.items
+    (given_ids types others (unmarked c.args.paths.now c.args.marks.now) c.in-Some.common.items c.deref.result.now c.in-Some.others.items
     c.deref-in-Some.result.now c.deref.ensures.value c.deref-in-Some.ensures.value
     (rw c.in-Some.is at (c.in_ok-common_ids.ensures types others y z)))
     error why)

@@ -15,5 +15,6 @@ pub returns : goal.returns
 returns c = λ types others x tells.
     let some = is_some c.ids_of.result.now c.is_empty.result c.is_empty.ensures c.if-is_empty.false in
     adds_one_changed types others c.args.path.now c.args.changes.now.items c.push-2.new.self.items
-    (λ none. some (c.ids_of.ensures others x ∙ none)) tells
+    (λ none. some (c.ids_of.ensures others x ∙ none))
+    (tells (λ none. some (c.ids_of.ensures others x ∙ none)))
     (c.in_ok-push-2.ensures.items ∙ ap (λ p. c.args.changes.now.items ++ Changed p ∷ []) c.in_ok-copy.ensures)

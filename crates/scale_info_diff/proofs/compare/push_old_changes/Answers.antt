@@ -1,0 +1,31 @@
+use Rattle.std.proofs.Common.{arith, refl, rules, ◌≡◌, ◌∙◌, ap, false, length, subst, sym, true}
+use Rattle.scale_info_diff.proofs.EntriesOf.{resized}
+use Rattle.scale_info_diff.proofs.Inputs.{given_rows}
+use Rattle.scale_info_diff.proofs.Marked.{adds_marked, given_marks, no_marks}
+use Rattle.scale_info_diff.specs.Comparisons.{AddsOldChanges, TellsSame}
+use Rattle.scale_info_diff.specs.Differing.{unmarked}
+use Rattle.scale_info_diff.proofs.compare.push_old_changes.Goals as goal
+
+pub returns-then-branch-clause-ok : goal.returns-then-branch-clause-ok
+returns-then-branch-clause-ok c = λ types others x y.
+    let paths = c.elements-paths.result.now in
+    let marks = c.resize.new.self.items in
+    let given = c.deref-then-branch.result.now in
+    let long : length marks ≡ length paths = search rules in
+    let none =
+    resized marks (length paths) false long
+    (λ k d below. c.in_ok-resize.ensures.by_index.1 k d refl (omega (arith, c.new-marks.ensures.len)) below) in
+    let tells : TellsSame types others (unmarked paths given) true =
+    subst (λ ms. TellsSame types others (unmarked paths ms) true) (c.deref-2.ensures.value ∙ sym c.deref-then-branch.ensures.value)
+    (subst (λ same. TellsSame types others (unmarked paths c.deref-2.result.now) same) c.if-branch.true
+    (c.in_ok-are_same.ensures.ok types others x.encodes y
+    (given_rows (λ row. row.items) types c.args.old.now.paths paths c.args.old.now.ids.items c.deref.result.now
+    c.elements-paths.ensures.list c.deref.ensures.value x.are_ids))) in
+    subst (λ ps. AddsOldChanges types others ps c.args.changes.now.items c.push_marked.new.changes.items) c.elements-paths.ensures.list
+    (adds_marked types others paths given c.args.changes.now.items c.push_marked.new.changes.items tells
+    (given_marks types others paths paths marks given refl c.deref-then-branch.ensures.value (no_marks types others paths marks long none))
+    (c.in_ok-push_marked.ensures others y))
+
+pub push_by_halves-requires-clause-marks : goal.push_by_halves-requires-clause-marks
+push_by_halves-requires-clause-marks c =
+    ap length c.deref-4.ensures.value ∙ c.in_ok-marks.ensures.long ∙ ap length (sym c.elements-paths.ensures.list)
