@@ -31,6 +31,7 @@ use Rattle.scale_info_diff.specs.TableChanges.{IsCompareError, IsDangling}
 use Rattle.scale_info_diff.specs.Comparisons.{AreCommonIds, own_ids}
 use Rattle.scale_info_diff.specs.TypesByPath.{has_path, ids_of}
 
+-- tables have one encoding
 pub types_law : IsEncoding EncodesTypes
 types_law = list_law portable_type_law
 

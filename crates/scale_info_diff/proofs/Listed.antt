@@ -18,6 +18,7 @@ use Rattle.scale_info_diff.specs.declared.change.Change.TheVariants.{Changed, Re
 cons_some : {A : Type 0} (x : A) (xs : List A) → (x ∷ xs) ≡ [] → ⊥
 cons_some x xs e = absurd (omega (arith, ap length e))
 
+-- what holds place by place of two lists and of what follows them holds of all
 pub join_zip :
     {A B : Type 0} (P : A → B → Type 0) (xs more : List A) (ys others : List B)
     → AllZip P xs ys → AllZip P more others → AllZip P (xs ++ more) (ys ++ others)

@@ -151,9 +151,7 @@ pub stays :
     → Grows old new → slice_get old i ≡ Some x → slice_get new i ≡ Some x
 stays old new i x g e = subst (λ xs. slice_get xs i ≡ Some x) (sym g.1) (at_left old g.0 i x e)
 
-pub grows_none : {A : Type 0} (xs : List A) → Grows xs xs
-grows_none xs = ([], sym (append-nil xs))
-
+-- more, and then more again, is more
 pub grows_both : {A : Type 0} (xs ys zs : List A) → Grows xs ys → Grows ys zs → Grows xs zs
 grows_both xs ys zs g h =
     (g.0 ++ h.0, h.1 ∙ ap (λ more. more ++ h.0) g.1 ∙ append_assoc xs g.0 h.0)
@@ -163,6 +161,7 @@ module _ (types others : List PortableType) (old new : List (ℕ × ℕ)) (g : G
   still_differing : (number : ℕ) → IsDiffering types others old number → IsDiffering types others new number
   still_differing number d = (d.0, stays old new number d.0 g d.1, d.2)
 
+  -- so do marks
   pub still_all : (marks : List Bool) → AreDiffering types others old marks → AreDiffering types others new marks
   still_all marks are number e = still_differing number (are number e)
 
@@ -170,6 +169,7 @@ module _ (types others : List PortableType) (old new : List (ℕ × ℕ)) (g : G
   still_edge edge e =
       (e.0, e.1, stays old new edge.0 e.0 g e.2, stays old new edge.1 e.1 g e.3, e.4)
 
+  -- so do edges
   pub still_edges : (edges : List (ℕ × ℕ)) → All (IsEdge types others old) edges → All (IsEdge types others new) edges
   still_edges edges all = λ k d within. still_edge (get_or edges k d) (all k d within)
 

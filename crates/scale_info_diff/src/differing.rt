@@ -4,11 +4,11 @@
 //! to at the same places. Two types are not the same where their contents differ, or where a pair
 //! that they refer to is not the same. What is found so has changed; of what is not, nothing is
 //! said, since a type of one table may stand for two of the other.
-ghost use Rattle.std.specs.Prelude.{◌≡◌, ◌≢◌, [], All, List, IfOk, IsTrue, OnOk, ℕ, Some, length, map};
-ghost use Rattle.std.specs.Prelude.{slice_get};
+ghost use Rattle.std.specs.Prelude.{◌≡◌, ◌≢◌, [], All, List, IfOk, IsTrue, OnOk, ℕ, Some};
+ghost use Rattle.std.specs.Prelude.{length, map, slice_get};
 ghost use Rattle.scale_info_diff.specs.Differing.{AreDiffering, AreEntriesOf, AreMarks};
-ghost use Rattle.scale_info_diff.specs.Differing.{AreNeverPaired, Grows, HasReferences, HaveNoMatch};
-ghost use Rattle.scale_info_diff.specs.Differing.{IsDiffering, IsEdge};
+ghost use Rattle.scale_info_diff.specs.Differing.{AreNeverPaired, Grows, HasReferences};
+ghost use Rattle.scale_info_diff.specs.Differing.{HaveNoMatch, IsDiffering, IsEdge};
 ghost use Rattle.scale_info_diff.specs.NamedTables.{IsNamedTable};
 ghost use Rattle.scale_info_diff.specs.TypesByPath.{AreIdsByPath};
 ghost use Rattle.scale_info_types.specs.declared.ty.PortableType.{PortableType};
