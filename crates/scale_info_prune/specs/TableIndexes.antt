@@ -5,6 +5,7 @@ use Rattle.scale_info_grammar.specs.Ty.{EncodesTypes}
 use Rattle.scale_info_passes.specs.Entries.{AreAtOffsets, AreKeptEntries, AreStarts, reference_ids}
 use Rattle.scale_info_types.specs.Portable.{Id}
 use Rattle.scale_info_types.specs.declared.ty.PortableType.{PortableType}
+use Rattle.scale_info_prune.specs.declared.indexed.IndexedTable.{IndexedTable}
 
 -- the input encodes a table of so many entries, with nothing after it; in its body, which is what
 -- comes after the count, the descriptions are at these offsets; and the references of each entry
@@ -16,6 +17,12 @@ pub record IsTableIndex (count : ℕ) (input body offsets starts references : Li
   pub at_offsets : AreAtOffsets body types offsets
   pub are_starts : AreStarts 0 types starts
   pub are_references : references ≡ flat_map reference_ids types
+
+-- this is the index of the table that the input encodes
+abbrev pub IsIndexed : (input : List ℕ) → IndexedTable → Type 0
+IsIndexed input table =
+    IsTableIndex table.count input table.body.now table.index.offsets.items
+    table.index.starts.items table.index.references.items
 
 -- the input begins with a table, and goes on
 pub record HasTrailing (input : List ℕ) : Type 0 where

@@ -2,6 +2,7 @@
 #![tactic(auto)]
 
 mod byte_references;
+pub mod indexed;
 pub mod laws;
 pub mod prune;
 mod roots;

@@ -1,14 +1,15 @@
 //! Pruning of a table from bytes to bytes.
 ghost use Rattle.std.specs.Prelude.{◌≡◌, ◌≤◌, List, ℕ, length, IfOk, IfErr, OnOk, OnErr};
 ghost use Rattle.scale_info_prune.specs.Prunes.{IsIndexError, IsIndexNumbering};
-ghost use Rattle.scale_info_prune.specs.Prunes.{HasNewIds, IsNumberedTable, IsPruneError};
+ghost use Rattle.scale_info_prune.specs.Prunes.{HasNewIds, IsPruneError};
 ghost use Rattle.scale_info_prune.specs.Prunes.{IsNumberedFrom, IsPrunedEncoding};
 ghost use Rattle.scale_info_prune.specs.Prunes.{IsRootsNumberingError};
 ghost use Rattle.scale_info_prune.specs.declared.prune.PruneError.TheVariants as prune_error;
 
 use crate::byte_references::ByteReferences;
+use crate::indexed::IndexedTable;
 use crate::roots::{RootsError, roots_of};
-use crate::table_index::{append_kept, index_table};
+use crate::table_index::append_kept;
 use scale_info_bytes::error::{DecodeError, EncodeError};
 use scale_info_collections::failure::AllocationFailure;
 use scale_info_passes::entries::EntryIndex;
@@ -75,13 +76,15 @@ pub fn prune(
     ensures err { OnErr result (out.new.items ≡ out.old.items) }
     ensures cause { IfErr result (IsPruneError input.now ids.now) }
 {
-    let (body, index, found) = number_table(alloc, input, ids)?;
+    let table = IndexedTable::of(alloc, input)?;
+    let found = table.number(alloc, ids)?;
     let new_ids = map_of_numbers(alloc, &found.numbers)?;
-    append_kept(alloc, body, &index, &found, out)?;
+    append_kept(alloc, table.body, &table.index, &found, out)?;
     Ok(new_ids)
 }
 
-/// Appends what [`prune`] appends, and makes no map of ids.
+/// Appends what [`prune`] appends, and makes no map of ids. Who prunes a table more than once takes
+/// an [`IndexedTable`] of it.
 ///
 /// Errors: as those of [`prune`].
 pub fn append_pruned(
@@ -95,31 +98,12 @@ pub fn append_pruned(
     ensures err { OnErr result (out.new.items ≡ out.old.items) }
     ensures cause { IfErr result (IsPruneError input.now ids.now) }
 {
-    let (body, index, found) = number_table(alloc, input, ids)?;
-    append_kept(alloc, body, &index, &found, out)?;
-    Ok(())
-}
-
-/// The bytes of a table after its count, where its entries are, and the numbering of what the given
-/// ids reach.
-///
-/// Errors: as those of [`prune`].
-fn number_table<'a>(
-    alloc: Global,
-    input: &'a [u8],
-    ids: &[u32],
-) -> Result<(&'a [u8], EntryIndex, Renumbering), PruneError>
-    ensures ok { IfOk result (λ found. IsNumberedTable input.now ids.now found.0.now
-        found.1.offsets.items found.2.order.items found.2.numbers.items) }
-    ensures cause { IfErr result (IsPruneError input.now ids.now) }
-{
-    let (count, body, index) = index_table(alloc, input)?;
-    let found = number_index(alloc, count, &index, ids)?;
-    Ok((body, index, found))
+    let table = IndexedTable::of(alloc, input)?;
+    table.append_pruned(alloc, ids, out)
 }
 
 /// Numbers what the given ids reach, over the index of a table.
-fn number_index(
+pub(crate) fn number_index(
     alloc: Global,
     count: u32,
     index: &EntryIndex,

@@ -5,8 +5,8 @@ use Rattle.scale_info_prune.proofs.prune.prune.Goals as goal
 
 pub returns-clause-ok : goal.returns-clause-ok
 returns-clause-ok c =
-    let table = c.in_ok-body.ensures.ok in (
-      c.in_ok-body.found.order.items,
+    let table = c.in_ok-found.ensures.ok c.args.input.now c.in_ok-table.ensures.ok in (
+      c.in_ok-found.found.order.items,
       table.new_ids c.in_ok-new_ids.new_ids
           (subst (λ (ns : List ℕ). (old new : ℕ) → (get nat_cmp c.in_ok-new_ids.new_ids old ≡ Some new)
           ↔ ((slice_get ns old ≡ Some new) × (new ≢ 4294967295))) c.deref.ensures.value c.in_ok-new_ids.ensures),
@@ -14,4 +14,4 @@ returns-clause-ok c =
     )
 
 pub map_of_numbers-requires : goal.map_of_numbers-requires
-map_of_numbers-requires c = rw c.deref.ensures.value c.in_ok-body.ensures.ok.long
+map_of_numbers-requires c = rw c.deref.ensures.value (c.in_ok-found.ensures.ok c.args.input.now c.in_ok-table.ensures.ok).long
