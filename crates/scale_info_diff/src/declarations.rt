@@ -1,5 +1,5 @@
 //! The first lines in which the declarations of two tables' types differ.
-ghost use Rattle.std.specs.Prelude.{◌≡◌, ◌≤◌, ◌⊎◌, ◌++◌, [], IfOk, IfErr, MatchOption};
+ghost use Rattle.std.specs.Prelude.{◌≡◌, ◌≤◌, ◌⊎◌, ◌++◌, [], ℕ, List, IfOk, IfErr, MatchOption};
 ghost use Rattle.std.specs.Prelude.{length, option_map, string_bytes, unwrap_or};
 ghost use Rattle.scale_info_describe.specs.TypeDeclarations.{description_at};
 ghost use Rattle.scale_info_describe.specs.TypeNames.{Appends, type_at};
@@ -7,11 +7,14 @@ ghost use Rattle.scale_info_diff.specs.Declarations.{AreDeclaredAlike, AreLinesA
 ghost use Rattle.scale_info_diff.specs.Declarations.{IsDeclaredChange, IsLineChange, lines_at};
 ghost use Rattle.scale_info_diff.specs.Declarations.{TellsDeclaredChange, place_before};
 ghost use Rattle.scale_info_diff.specs.Declarations.{type_before};
+ghost use Rattle.scale_info_diff.specs.Differences.{IsPrunedTo};
 ghost use Rattle.scale_info_prune.specs.Prunes.{IsPruneError};
+ghost use Rattle.scale_info_prune.specs.TableIndexes.{IsIndexed};
 
-use crate::difference::pruned;
 use crate::lines::{first_change, lines_of};
+use crate::named::table_of;
 use scale_info_describe::describe::append_description;
+use scale_info_prune::indexed::IndexedTable;
 use scale_info_prune::prune::PruneError;
 use scale_info_tables::portable::PortableRegistry;
 use std::alloc::{AllocError, Global};
@@ -50,9 +53,58 @@ pub fn first_declared_change(
     ensures cause { IfErr result (λ error. IsPruneError old.now old_ids.now error
         ⊎ IsPruneError new.now new_ids.now error) }
 {
-    let (table, _) = pruned(alloc, old, old_ids)?;
-    let (other, _) = pruned(alloc, new, new_ids)?;
+    let old = IndexedTable::of(alloc, old)?;
+    let table = pruned_to(alloc, &old, old_ids)?;
+    let new = IndexedTable::of(alloc, new)?;
+    let other = pruned_to(alloc, &new, new_ids)?;
     Ok(change_between(alloc, &table, &other)?)
+}
+
+/// What [`first_declared_change`] says of the bytes, of tables that were read before: who asks of
+/// many paths reads both tables once.
+///
+/// Errors, of the old table before the new one: `NoSuchType`, for the first id that is no index;
+/// `Retain(Dangling)`, where an id is reached that is no index; `Memory`, where an allocation
+/// failed.
+pub fn declared_change_of(
+    alloc: Global,
+    old: &IndexedTable<'_>,
+    old_ids: &[u32],
+    new: &IndexedTable<'_>,
+    new_ids: &[u32],
+) -> Result<Option<String>, PruneError>
+    requires old { (input : List ℕ) × IsIndexed input old.now }
+    requires new { (input : List ℕ) × IsIndexed input new.now }
+    ensures ok { IfOk result (λ found. (input other : List ℕ)
+        → IsIndexed input old.now → IsIndexed other new.now
+        → TellsDeclaredChange input old_ids.now other new_ids.now
+        (option_map string_bytes found)) }
+    ensures cause { IfErr result (λ error. (input other : List ℕ)
+        → IsIndexed input old.now → IsIndexed other new.now
+        → IsPruneError input old_ids.now error ⊎ IsPruneError other new_ids.now error) }
+{
+    let table = pruned_to(alloc, old, old_ids)?;
+    let other = pruned_to(alloc, new, new_ids)?;
+    Ok(change_between(alloc, &table, &other)?)
+}
+
+/// The table that a table is, pruned to these ids.
+///
+/// Errors: as those of [`declared_change_of`], for one table.
+fn pruned_to(
+    alloc: Global,
+    table: &IndexedTable<'_>,
+    ids: &[u32],
+) -> Result<PortableRegistry, PruneError>
+    requires { (input : List ℕ) × IsIndexed input table.now }
+    ensures ok { IfOk result (λ kept. (input : List ℕ) → IsIndexed input table.now
+        → (order : List ℕ) × IsPrunedTo input ids.now order kept.types) }
+    ensures cause { IfErr result (λ error. (input : List ℕ) → IsIndexed input table.now
+        → IsPruneError input ids.now error) }
+{
+    let mut bytes = Vec::new(alloc);
+    table.append_pruned(alloc, ids, &mut bytes)?;
+    table_of(alloc, &bytes)
 }
 
 /// What the two tables declare otherwise first; None, where that is nothing.

@@ -56,7 +56,7 @@ pub fn first_difference(
 /// The table that a table is, pruned to these ids, and the place of each old id that is kept.
 ///
 /// Errors: as those of [`first_difference`], for one table.
-pub(crate) fn pruned(
+fn pruned(
     alloc: Global,
     input: &[u8],
     ids: &[u32],

@@ -3,7 +3,8 @@
 //! [`changes::changes`] lists the paths of types that are gone, new, or no longer the same; docs
 //! don't count. [`changes::changes_with_docs`] does so where docs count.
 //! [`difference::first_difference`] finds where types of two tables differ first, and
-//! [`declarations::first_declared_change`] says it in words.
+//! [`declarations::first_declared_change`] says it in words; for many paths,
+//! [`declarations::declared_change_of`] says it of tables that were read once.
 #![tactic(auto)]
 
 pub mod change;
@@ -15,6 +16,6 @@ mod differing;
 mod edges;
 mod entries;
 mod lines;
-mod named;
+pub mod named;
 mod pairs;
 mod paths;

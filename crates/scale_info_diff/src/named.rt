@@ -15,8 +15,13 @@ use scale_info_tables::portable::PortableRegistry;
 use std::alloc::Global;
 
 /// A table, and its types by their paths.
+///
+/// ```text
+/// let table = NamedTable::of(alloc, &bytes)?;
+/// table.ids_of(&Text::try_from_str(alloc, "a::T")?)   // [3, 7]
+/// ```
 #[derive(Drop)]
-pub(crate) struct NamedTable<'a> {
+pub struct NamedTable<'a> {
     /// The table's bytes.
     pub bytes: &'a [u8],
     /// The paths of its types, each once, in the order of the first types that have them.
@@ -41,7 +46,7 @@ impl<'a> NamedTable<'a> {
         Ok(NamedTable { bytes, paths, ids })
     }
 
-    /// The ids, ascending, of the types with this path.
+    /// The ids, ascending, of the types with this path; none, where no type has it.
     pub fn ids_of(&self, path: &Text) -> &[u32]
         ensures { (types : List PortableType) → IsNamedTable types self.now.bytes.now
             self.now.paths (map (λ row. row.items) self.now.ids.items)

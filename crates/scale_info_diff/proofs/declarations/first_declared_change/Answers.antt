@@ -3,10 +3,24 @@ use Rattle.scale_info_diff.proofs.declarations.first_declared_change.Goals as go
 
 pub change_between-requires-clause-few : goal.change_between-requires-clause-few
 change_between-requires-clause-few c =
-    let x = c.in_ok-table.ensures.ok in
-    few_types c.in_ok-table.table.types x.2.bytes x.2.encodes
+    let x = c.in_ok-table.ensures.ok c.args.old.now c.in_ok-old.ensures.ok in
+    few_types c.in_ok-table.table.types x.1.bytes x.1.encodes
 
 pub change_between-requires-clause-other_few : goal.change_between-requires-clause-other_few
 change_between-requires-clause-other_few c =
-    let y = c.in_ok-other.ensures.ok in
-    few_types c.in_ok-other.other.types y.2.bytes y.2.encodes
+    let y = c.in_ok-other.ensures.ok c.args.new.now c.in_ok-new.ensures.ok in
+    few_types c.in_ok-other.other.types y.1.bytes y.1.encodes
+
+pub returns-clause-ok : goal.returns-clause-ok
+returns-clause-ok c =
+    let pruned = c.in_ok-table.ensures.ok c.args.old.now c.in_ok-old.ensures.ok in
+    let other_pruned = c.in_ok-other.ensures.ok c.args.new.now c.in_ok-new.ensures.ok in
+    record {
+      order = pruned.0;
+      other_order = other_pruned.0;
+      table = c.in_ok-table.table;
+      other = c.in_ok-other.other;
+      pruned = pruned.1;
+      other_pruned = other_pruned.1;
+      tells = c.in_ok-change_between.ensures;
+    }

@@ -1,0 +1,38 @@
+use Rattle.std.proofs.Common.{inl, inr}
+use Rattle.std.proofs.lemmas.Result.{err_from_is_err_and}
+use Rattle.scale_info_diff.proofs.Encoded.{few_types}
+use Rattle.scale_info_diff.proofs.declarations.declared_change_of.Goals as goal
+
+pub returns-in_err-table-clause-cause : goal.returns-in_err-table-clause-cause
+returns-in_err-table-clause-cause c =
+    let p = err_from_is_err_and c.from_residual.result c.from_residual.ensures.1 in
+    rw (p.1, p.2) (λ input other x y. inl (c.in_err-table.ensures.cause input x))
+
+pub returns-in_err-other-clause-cause : goal.returns-in_err-other-clause-cause
+returns-in_err-other-clause-cause c =
+    let p = err_from_is_err_and c.from_residual-in_err-other.result c.from_residual-in_err-other.ensures.1 in
+    rw (p.1, p.2) (λ input other x y. inr (c.in_err-other.ensures.cause other y))
+
+pub change_between-requires-clause-few : goal.change_between-requires-clause-few
+change_between-requires-clause-few c =
+    let x = c.in_ok-table.ensures.ok c.requires.old.0 c.requires.old.1 in
+    few_types c.in_ok-table.table.types x.1.bytes x.1.encodes
+
+pub change_between-requires-clause-other_few : goal.change_between-requires-clause-other_few
+change_between-requires-clause-other_few c =
+    let y = c.in_ok-other.ensures.ok c.requires.new.0 c.requires.new.1 in
+    few_types c.in_ok-other.other.types y.1.bytes y.1.encodes
+
+pub returns-clause-ok : goal.returns-clause-ok
+returns-clause-ok c = λ input other x y.
+    let pruned = c.in_ok-table.ensures.ok input x in
+    let other_pruned = c.in_ok-other.ensures.ok other y in
+    record {
+      order = pruned.0;
+      other_order = other_pruned.0;
+      table = c.in_ok-table.table;
+      other = c.in_ok-other.other;
+      pruned = pruned.1;
+      other_pruned = other_pruned.1;
+      tells = c.in_ok-change_between.ensures;
+    }
