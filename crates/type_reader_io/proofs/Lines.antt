@@ -1,7 +1,7 @@
 -- The first line of some bytes, and those after it.
-use Rattle.std.proofs.Common.{◌≡◌, ◌≢◌, ℕ, suc, ◌-◌, ◌<◌, ◌+◌, ◌==◌, ◌&&◌, eqb, ltb, All}
-use Rattle.std.proofs.Common.{true, false, List, [], ◌∷◌, ◌++◌, ◌∙◌, length, take, get_or, refl}
-use Rattle.std.proofs.Common.{sym, ap, subst, arith, lt-ltb, ne_eqb, if◌then◌else◌}
+use Rattle.std.proofs.Common.{◌≡◌, ◌≢◌, ℕ, suc, ◌<◌, ◌==◌, eqb}
+use Rattle.std.proofs.Common.{false, List, [], ◌∷◌, ◌++◌, ◌∙◌, length, refl}
+use Rattle.std.proofs.Common.{ap, arith, ne_eqb, if◌then◌else◌}
 use Rattle.std.proofs.lemmas.List.Splits.{length-slice_split, slice_split_at, slice_split_none}
 use Rattle.std.specs.List.{slice_split}
 use Rattle.std.specs.Str.Lines.{lines, lines_of_parts, strip_carriage_return}

@@ -1,17 +1,22 @@
 -- Of which error a line is.
 use Rattle.std.proofs.Common.{◌≡◌, ◌+◌, ◌*◌, ◌<◌, ◌≤◌, ◌^◌, ◌++◌, ◌∙◌, ◌==◌, ◌||◌, ℕ, List, [], ◌∷◌}
-use Rattle.std.proofs.Common.{true, false, ap, append_assoc, arith, codes, decimal, drop, eqb}
-use Rattle.std.proofs.Common.{get_or, if◌then◌else◌, leb, not, refl, subst, sym, take}
-use Rattle.std.proofs.Common.{take-append-drop}
+use Rattle.std.proofs.Common.{Bool, true, false, ap, append-nil, append_assoc, arith, codes, decimal}
+use Rattle.std.proofs.Common.{drop, eqb, get_or, if◌then◌else◌, leb, leb-true, ne_eqb, not, refl, subst, sym}
+use Rattle.std.proofs.Common.{take, take-append-drop}
 use Rattle.std.proofs.lemmas.Fmt.{decimal_injective, decimal_is_IsNumeral}
 use Rattle.std.proofs.lemmas.List.{append_cancel_left}
-use Rattle.std.specs.Char.{digit_value}
+use Rattle.std.proofs.lemmas.List.Elements.{All-from_get_or}
+use Rattle.std.proofs.lemmas.List.Splits.{slice_split_at}
+use Rattle.std.proofs.lemmas.Str.Parse.{digit_at}
+use Rattle.std.specs.List.{slice_split}
 use Rattle.std.specs.Str.Parse.{AllDigits}
 use Rattle.type_reader_io.specs.declared.error.ReaderError.{ReaderError}
 use Rattle.type_reader_io.specs.declared.error.ReaderError.TheVariants as errors
 use Rattle.type_reader_io.specs.declared.error.ValueFault.{ValueFault}
 use Rattle.type_reader_io.specs.declared.error.ValueFault.TheVariants as faults
-use Rattle.type_reader_io.specs.Lines.{HasSmallNumber, IsReportedAs, fault_text, line_of, line_with}
+use Rattle.type_reader_io.specs.Inputs.{IsWithoutFeed}
+use Rattle.type_reader_io.specs.Lines.{HasSmallNumber, IsPathStart, IsReportedAs, fault_text}
+use Rattle.type_reader_io.specs.Lines.{line_of, line_with}
 
 -- an error without what it holds
 abbrev kind_of : ReaderError → ReaderError
@@ -47,119 +52,79 @@ kind_at n =
     else if n == mark (line_of errors.Input) then errors.Input
     else errors.Output
 
--- a line of an error by its places, which stay where more comes after them
-pub record Places (error : ReaderError) : Type 0 where
-  kind : kind_at (mark (line_of error)) ≡ kind_of error
-  stay : (rest : List ℕ) → mark (line_of error ++ rest) ≡ mark (line_of error)
-  name : take 13 (line_of error) ≡ codes "type_reader: "
-  pub letter : leb 97 (get_or (line_of error) 13 0) ≡ true
-  pub no_line : eqb (get_or (line_of error) 13 0) 108 ≡ false
-  pub trailing :
-      (not (eqb (get_or (line_of error) 13 0) 116) || eqb (get_or (line_of error) 14 0) 114) ≡ true
+-- What a line shows in its first places: the kind of an error, and the name of the program; whether
+-- the word after the name begins with a small letter, whether with an `l`, and whether an `r` comes
+-- second where a `t` comes first.
+record Signs : Type 0 where
+  kind : ReaderError
+  name : List ℕ
+  small : Bool
+  line : Bool
+  trailing : Bool
 
--- of each error
-pub places : (error : ReaderError) → Places error
-places errors.Malformed = record {
-  kind = refl;
-  stay = λ r. refl;
-  name = refl;
-  letter = refl;
-  no_line = refl;
-  trailing = refl;
+abbrev signs : List ℕ → Signs
+signs line = record {
+  kind = kind_at (mark line);
+  name = take 13 line;
+  small = leb 97 (get_or line 13 0);
+  line = eqb (get_or line 13 0) 108;
+  trailing = not (eqb (get_or line 13 0) 116) || eqb (get_or line 14 0) 114;
 }
-places errors.TrailingBytes = record {
-  kind = refl;
-  stay = λ r. refl;
-  name = refl;
-  letter = refl;
-  no_line = refl;
-  trailing = refl;
+
+-- what the line of an error shows
+abbrev signs_of : ReaderError → Signs
+signs_of error = record {
+  kind = kind_of error;
+  name = codes "type_reader: ";
+  small = true;
+  line = false;
+  trailing = true;
 }
-places (errors.Version v) = record {
-  kind = refl;
-  stay = λ r. refl;
-  name = refl;
-  letter = refl;
-  no_line = refl;
-  trailing = refl;
-}
-places (errors.NoSuchType id) = record {
-  kind = refl;
-  stay = λ r. refl;
-  name = refl;
-  letter = refl;
-  no_line = refl;
-  trailing = refl;
-}
-places (errors.NoSuchPath p) = record {
-  kind = refl;
-  stay = λ r. refl;
-  name = refl;
-  letter = refl;
-  no_line = refl;
-  trailing = refl;
-}
-places (errors.SharedPath p) = record {
-  kind = refl;
-  stay = λ r. refl;
-  name = refl;
-  letter = refl;
-  no_line = refl;
-  trailing = refl;
-}
-places (errors.NoValue f) = record {
-  kind = refl;
-  stay = λ r. refl;
-  name = refl;
-  letter = refl;
-  no_line = refl;
-  trailing = refl;
-}
-places (errors.Dangling id) = record {
-  kind = refl;
-  stay = λ r. refl;
-  name = refl;
-  letter = refl;
-  no_line = refl;
-  trailing = refl;
-}
-places errors.Memory = record {
-  kind = refl;
-  stay = λ r. refl;
-  name = refl;
-  letter = refl;
-  no_line = refl;
-  trailing = refl;
-}
-places errors.Input = record {
-  kind = refl;
-  stay = λ r. refl;
-  name = refl;
-  letter = refl;
-  no_line = refl;
-  trailing = refl;
-}
-places errors.Output = record {
-  kind = refl;
-  stay = λ r. refl;
-  name = refl;
-  letter = refl;
-  no_line = refl;
-  trailing = refl;
-}
+
+-- it shows that also where more comes after it
+shown_before :
+    (error : ReaderError) (rest : List ℕ) → signs (line_of error ++ rest) ≡ signs_of error
+shown_before errors.Malformed rest = refl
+shown_before errors.TrailingBytes rest = refl
+shown_before (errors.Version version) rest = refl
+shown_before (errors.NoSuchType id) rest = refl
+shown_before (errors.NoSuchPath path) rest = refl
+shown_before (errors.SharedPath path) rest = refl
+shown_before (errors.NoValue fault) rest = refl
+shown_before (errors.Dangling id) rest = refl
+shown_before errors.Memory rest = refl
+shown_before errors.Input rest = refl
+shown_before errors.Output rest = refl
+
+shown : (error : ReaderError) → signs (line_of error) ≡ signs_of error
+shown error = ap signs (sym (append-nil (line_of error))) ∙ shown_before error []
+
+-- the word after the name begins with a small letter
+pub small_letter : (error : ReaderError) → 97 ≤ get_or (line_of error) 13 0
+small_letter error = leb-true 97 (get_or (line_of error) 13 0) (ap (λ s. s.small) (shown error))
+
+-- it is none of `line`
+pub no_line : (error : ReaderError) → eqb (get_or (line_of error) 13 0) 108 ≡ false
+no_line error = ap (λ s. s.line) (shown error)
+
+-- and `trailing` if it begins with its first letter
+pub trailing :
+    (error : ReaderError)
+    → (not (eqb (get_or (line_of error) 13 0) 116) || eqb (get_or (line_of error) 14 0) 114) ≡ true
+trailing error = ap (λ s. s.trailing) (shown error)
 
 -- a line of an error begins with the name of the program
 pub named :
     (error : ReaderError) → line_of error ≡ codes "type_reader: " ++ drop 13 (line_of error)
 named error =
     sym (take-append-drop 13 (line_of error))
-    ∙ ap (λ l. l ++ drop 13 (line_of error)) (places error).name
+    ∙ ap (λ s. s.name ++ drop 13 (line_of error)) (shown error)
 
 -- a line of an error begins with that of an error only where they are of one kind
 same_kind :
     (f g : ReaderError) (rest : List ℕ) → line_of f ≡ line_of g ++ rest → kind_of f ≡ kind_of g
 same_kind f g rest e =
-    sym (places f).kind ∙ ap kind_at (ap mark e ∙ (places g).stay rest) ∙ (places g).kind
+    ap (λ s. s.kind) (sym (shown f) ∙ ap signs e ∙ shown_before g rest)
 
 -- what an error holds
 abbrev number_of : ReaderError → ℕ
@@ -208,22 +173,30 @@ of_kind :
 of_kind f g same =
     sym (made_again f) ∙ ap (λ k. made_of k (number_of f) (path_of f) (fault_of f)) same
 
--- a line feed is no digit
-no_digit : (c : ℕ) → c ≡ 10 → digit_value c < 10 → ⊥
-no_digit c is h =
-    let fed : digit_value 10 < 10 = subst (λ d. digit_value d < 10) is h in omega (arith, fed)
+-- no digit is a line feed
+digits_without_feed : (digits : List ℕ) → AllDigits 10 digits → IsWithoutFeed digits
+digits_without_feed digits all =
+    All-from_get_or (λ byte. (byte == 10) ≡ false) digits 0
+    (λ i few.
+    let from : 48 ≤ get_or digits i 0 = (digit_at digits i all few).0 in
+    ne_eqb (get_or digits i 0) 10 (λ is. omega (arith, is, from)))
+
+-- digits before a line feed are the first part
+first_part :
+    (digits rest : List ℕ) → AllDigits 10 digits
+    → get_or (slice_split (λ b. b == 10) (digits ++ 10 ∷ rest)) 0 [] ≡ digits
+first_part digits rest all =
+    ap (λ parts. get_or parts 0 [])
+    (slice_split_at (λ b. b == 10) digits 10 rest (digits_without_feed digits all) refl)
 
 -- digits that end before the same line feed are the same
 same_digits :
     (ds es rest : List ℕ) → AllDigits 10 ds → AllDigits 10 es → ds ++ 10 ∷ [] ≡ es ++ 10 ∷ rest
     → ds ≡ es
-same_digits [] [] rest d e is = refl
-same_digits [] (y ∷ es) rest d e is = absurd (no_digit y (sym (ap (λ l. get_or l 0 0) is)) e.0)
-same_digits (x ∷ ds) [] rest d e is = absurd (no_digit x (ap (λ l. get_or l 0 0) is) d.0)
-same_digits (x ∷ ds) (y ∷ es) rest d e is =
-    let head : x ≡ y = ap (λ l. get_or l 0 0) is in
-    let tail = same_digits ds es rest d.1 e.1 (ap (drop 1) is) in
-    ap (λ z. z ∷ ds) head ∙ ap (λ zs. y ∷ zs) tail
+same_digits ds es rest d e is =
+    sym (first_part ds [] d)
+    ∙ ap (λ l. get_or (slice_split (λ b. b == 10) l) 0 []) is
+    ∙ first_part es rest e
 
 -- what comes after the same text
 after_text :
@@ -284,6 +257,20 @@ pub same_error :
     → line_of f ≡ line_of g ++ rest → IsReportedAs g f
 same_error f g rest sf sg e = at g sg (of_kind f g (same_kind f g rest e)) e
   where
+    of_number :
+        (make : ℕ → ReaderError) (text : List ℕ) (n : ℕ) → number_of f ≤ 4294967295
+        → n ≤ 4294967295 → f ≡ make (number_of f)
+        → line_with text (decimal (number_of f)) ≡ line_with text (decimal n) ++ rest → f ≡ make n
+    of_number make text n few few' is lines =
+        is ∙ ap make (same_number text (number_of f) n rest few few' lines)
+
+    of_path :
+        (make : List ℕ → ReaderError) (text start : List ℕ) → f ≡ make (path_of f)
+        → line_with text (path_of f) ≡ line_with text start ++ rest
+        → (path : List ℕ) × (f ≡ make path) × IsPathStart start path
+    of_path make text start is lines =
+        (path_of f, is, (rest, after_text text (path_of f) start rest lines))
+
     at :
         (g : ReaderError) → HasSmallNumber g
         → f ≡ made_of (kind_of g) (number_of f) (path_of f) (fault_of f)
@@ -295,38 +282,20 @@ same_error f g rest sf sg e = at g sg (of_kind f g (same_kind f g rest e)) e
     at errors.Output sg is e = is
     at (errors.Version n) sg is e =
         let few : number_of f ≤ 255 = subst HasSmallNumber is sf in
-        is
-        ∙ ap (λ m. errors.Version m)
-        (same_number (codes "type_reader: metadata of version ") (number_of f) n rest
-        (omega (arith, few)) (omega (arith, sg)) (sym (ap line_of is) ∙ e))
+        of_number (λ m. errors.Version m) (codes "type_reader: metadata of version ") n
+        (omega (arith, few)) (omega (arith, sg)) is (sym (ap line_of is) ∙ e)
     at (errors.NoSuchType n) sg is e =
-        is
-        ∙ ap (λ m. errors.NoSuchType m)
-        (same_number (codes "type_reader: no such type ") (number_of f) n rest
-        (subst HasSmallNumber is sf) sg (sym (ap line_of is) ∙ e))
+        of_number (λ m. errors.NoSuchType m) (codes "type_reader: no such type ") n
+        (subst HasSmallNumber is sf) sg is (sym (ap line_of is) ∙ e)
     at (errors.Dangling n) sg is e =
-        is
-        ∙ ap (λ m. errors.Dangling m)
-        (same_number (codes "type_reader: dangling id ") (number_of f) n rest
-        (subst HasSmallNumber is sf) sg (sym (ap line_of is) ∙ e))
-    at (errors.NoSuchPath start) sg is e = (
-      path_of f,
-      is,
-      (
-        rest,
-        after_text (codes "type_reader: no such path ") (path_of f) start rest
-            (sym (ap line_of is) ∙ e),
-      ),
-    )
-    at (errors.SharedPath start) sg is e = (
-      path_of f,
-      is,
-      (
-        rest,
-        after_text (codes "type_reader: several types with path ") (path_of f) start rest
-            (sym (ap line_of is) ∙ e),
-      ),
-    )
+        of_number (λ m. errors.Dangling m) (codes "type_reader: dangling id ") n
+        (subst HasSmallNumber is sf) sg is (sym (ap line_of is) ∙ e)
+    at (errors.NoSuchPath start) sg is e =
+        of_path (λ p. errors.NoSuchPath p) (codes "type_reader: no such path ") start is
+        (sym (ap line_of is) ∙ e)
+    at (errors.SharedPath start) sg is e =
+        of_path (λ p. errors.SharedPath p) (codes "type_reader: several types with path ") start is
+        (sym (ap line_of is) ∙ e)
     at (errors.NoValue fault) sg is e =
         is
         ∙ ap (λ x. errors.NoValue x)

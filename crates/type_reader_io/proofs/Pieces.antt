@@ -2,9 +2,9 @@
 use Rattle.std.proofs.Common.{◌≡◌, ◌⊎◌, ◌≤◌, ◌++◌, ◌∙◌, ℕ, zero, suc, List, [], ◌∷◌, Option, None, Some, ap}
 use Rattle.std.proofs.Common.{append-nil, append_assoc, arith, codes, decimal, drop, get_or, inl, inr, refl}
 use Rattle.std.proofs.Common.{subst, sym, take, take-append-drop}
-use Rattle.std.proofs.Common.{eqb, leb-true, not, ◌||◌, eqb-true, eq-eqb, true, true≢false}
+use Rattle.std.proofs.Common.{eqb, not, ◌||◌, eqb-true, eq-eqb, true, true≢false}
 use Rattle.std.proofs.lemmas.List.{append_cancel_left}
-use Rattle.type_reader_io.proofs.OneError.{named, places, same_error}
+use Rattle.type_reader_io.proofs.OneError.{named, no_line, same_error, small_letter, trailing}
 use Rattle.type_reader_io.specs.declared.error.ReaderError.{ReaderError}
 use Rattle.type_reader_io.specs.declared.error.ValueFault.{ValueFault}
 use Rattle.type_reader_io.specs.Lines.{HasSmallNumber, IsReportedAs, bad_line, fault_text, line_of}
@@ -164,11 +164,11 @@ no_start error count tail rest begin is = at count (sym (named error) ∙ is) is
     at (suc (suc (suc (suc (suc (suc (suc (suc (suc (suc (suc (suc zero)))))))))))) e is =
         at_end (get_or (line_of error) 13 0) (get_or (line_of error) 14 0)
         (ap (λ l. get_or l 13 0) is) (ap (λ l. get_or l 14 0) is)
-        (leb-true 97 (get_or (line_of error) 13 0) (places error).letter) (places error).trailing
+        (small_letter error) (trailing error)
     at (suc (suc (suc (suc (suc (suc (suc (suc (suc (suc (suc (suc (suc count))))))))))))) e is =
         true≢false
         (sym (eq-eqb (get_or (line_of error) 13 0) 108 (ap (λ l. get_or l 13 0) is))
-        ∙ (places error).no_line)
+        ∙ no_line error)
 
 -- a report of a bad line
 abbrev pub IsBadLine : List ℕ → Type 0
@@ -211,8 +211,7 @@ no_piece error text count rest bad begin is =
 pub not_bad_lines :
     (error : ReaderError) (texts : List (List ℕ)) → AreBadLines texts → Pieces (line_of error) texts → ⊥
 not_bad_lines error [] are none =
-    let letter = leb-true 97 (get_or (line_of error) 13 0) (places error).letter in
-    omega (arith, letter, ap (λ l. get_or l 13 0) none)
+    omega (arith, small_letter error, ap (λ l. get_or l 13 0) none)
 not_bad_lines error (text ∷ texts) are h =
     at (λ pieces. not_bad_lines error texts are.1 pieces) h.0 h.1 h.2 h.3
   where

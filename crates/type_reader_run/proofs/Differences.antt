@@ -1,14 +1,19 @@
 -- What is said of changes, by what is known of the inputs.
-use Rattle.std.proofs.Common.{◌≡◌, ◌⊎◌, ◌∙◌, ℕ, List, [], ◌∷◌, Option, None, Some, IfSome}
+use Rattle.std.proofs.Common.{◌≡◌, ◌≢◌, ◌⊎◌, ◌++◌, ◌∙◌, ℕ, List, [], ◌∷◌, Option, None, Some, IfSome}
 use Rattle.std.proofs.Common.{ap, arith, flat_map, get_or, inl, inr, length, refl, subst, sym}
 use Rattle.std.proofs.KnownBytes.{Appends-nil}
 use Rattle.std.proofs.lemmas.List.Concat.{flat_map-cons}
+use Rattle.scale_info_diff.specs.Declarations.{TellsDeclaredChange}
+use Rattle.scale_info_diff.specs.TypesByPath.{ids_of}
 use Rattle.scale_info_diff.specs.declared.change.Change.TheVariants.{Removed, Added, Changed}
+use Rattle.scale_info_types.specs.declared.ty.PortableType.{PortableType}
+use Rattle.type_reader_io.specs.declared.command.Docs.{Docs}
 use Rattle.type_reader_io.specs.declared.command.Comparison.{Comparison}
 use Rattle.type_reader_io.specs.declared.error.ReaderError.{ReaderError}
 use Rattle.type_reader_io.specs.declared.error.ReaderError.TheVariants as errors
 use Rattle.type_reader_run.specs.Differences.{AreLines, AreTold, IfBoth, IsDiffError}
-use Rattle.type_reader_run.specs.Differences.{IsOwnError, IsPathError, IsReferenceError}
+use Rattle.type_reader_run.specs.Differences.{IsNotPruned, IsOwnError, IsPathError, IsReason}
+use Rattle.type_reader_run.specs.Differences.{IsReferenceError, IsSide}
 use Rattle.type_reader_run.specs.Differences.{ToldChange, WritesChanges, told_line}
 use Rattle.type_reader_run.specs.Tables.{HasTable, input_bytes}
 
@@ -16,21 +21,17 @@ no_line : (lines : List ℕ) → length lines ≡ 0 → lines ≡ []
 no_line [] none = refl
 no_line (byte ∷ lines) none = absurd (omega (arith, none))
 
+-- the line of a change is not empty
+some_line : (one : ToldChange) (more : List ℕ) → told_line one ++ more ≢ []
+some_line (Removed path, reason) more none = omega (arith, ap (λ l. get_or l 0 0) none)
+some_line (Added path, reason) more none = omega (arith, ap (λ l. get_or l 0 0) none)
+some_line (Changed path, reason) more none = omega (arith, ap (λ l. get_or l 0 0) none)
+
 -- where there is no line there is no change
 no_change : (told : List ToldChange) → flat_map told_line told ≡ [] → told ≡ []
 no_change [] none = refl
-no_change ((Removed path, reason) ∷ told) none =
-    absurd
-    (omega
-    (arith, ap (λ l. get_or l 0 0) (sym (flat_map-cons told_line (Removed path, reason) told) ∙ none)))
-no_change ((Added path, reason) ∷ told) none =
-    absurd
-    (omega
-    (arith, ap (λ l. get_or l 0 0) (sym (flat_map-cons told_line (Added path, reason) told) ∙ none)))
-no_change ((Changed path, reason) ∷ told) none =
-    absurd
-    (omega
-    (arith, ap (λ l. get_or l 0 0) (sym (flat_map-cons told_line (Changed path, reason) told) ∙ none)))
+no_change (one ∷ told) none =
+    absurd (some_line one (flat_map told_line told) (sym (flat_map-cons told_line one told) ∙ none))
 
 -- the bytes of an input, where it is known
 abbrev pub IsRead : Option (List ℕ) → List ℕ → Type 0
@@ -80,61 +81,85 @@ own_error paths bytes others errors.Output cause = cause
 
 -- a path that is refused
 pub path_error :
-    (paths : List (List ℕ)) (bytes others old new : List ℕ) (error : ReaderError)
+    (paths : List (List ℕ)) {bytes others old new : List ℕ} (error : ReaderError)
     → HasTable bytes old → HasTable others new → IsPathError paths old new error
     → IsDiffError paths bytes others error
-path_error paths bytes others old new errors.Malformed has_old has_new cause = absurd cause
-path_error paths bytes others old new errors.TrailingBytes has_old has_new cause = absurd cause
-path_error paths bytes others old new (errors.Version version) has_old has_new cause = absurd cause
-path_error paths bytes others old new (errors.NoSuchType id) has_old has_new cause = absurd cause
-path_error paths bytes others old new (errors.NoSuchPath path) has_old has_new cause =
+path_error paths errors.Malformed has_old has_new cause = absurd cause
+path_error paths errors.TrailingBytes has_old has_new cause = absurd cause
+path_error paths (errors.Version version) has_old has_new cause = absurd cause
+path_error paths (errors.NoSuchType id) has_old has_new cause = absurd cause
+path_error paths {old = old} {new = new} (errors.NoSuchPath path) has_old has_new cause =
     record { old = old; new = new; has_old = has_old; has_new = has_new; unknown = cause }
-path_error paths bytes others old new (errors.SharedPath path) has_old has_new cause = absurd cause
-path_error paths bytes others old new (errors.NoValue fault) has_old has_new cause = absurd cause
-path_error paths bytes others old new (errors.Dangling id) has_old has_new cause = absurd cause
-path_error paths bytes others old new errors.Memory has_old has_new cause = tt
-path_error paths bytes others old new errors.Input has_old has_new cause = absurd cause
-path_error paths bytes others old new errors.Output has_old has_new cause = absurd cause
+path_error paths (errors.SharedPath path) has_old has_new cause = absurd cause
+path_error paths (errors.NoValue fault) has_old has_new cause = absurd cause
+path_error paths (errors.Dangling id) has_old has_new cause = absurd cause
+path_error paths errors.Memory has_old has_new cause = tt
+path_error paths errors.Input has_old has_new cause = absurd cause
+path_error paths errors.Output has_old has_new cause = absurd cause
 
 -- a table that refers to an id that is no index
 reference_error :
-    (bytes table : List ℕ) (error : ReaderError)
+    {bytes table : List ℕ} (error : ReaderError)
     → HasTable bytes table → IsReferenceError table error
     → IsOwnError bytes error ⊎ (error ≡ errors.Memory)
-reference_error bytes table errors.Malformed has cause = absurd cause
-reference_error bytes table errors.TrailingBytes has cause = absurd cause
-reference_error bytes table (errors.Version version) has cause = absurd cause
-reference_error bytes table (errors.NoSuchType id) has cause = absurd cause
-reference_error bytes table (errors.NoSuchPath path) has cause = absurd cause
-reference_error bytes table (errors.SharedPath path) has cause = absurd cause
-reference_error bytes table (errors.NoValue fault) has cause = absurd cause
-reference_error bytes table (errors.Dangling id) has cause =
+reference_error errors.Malformed has cause = absurd cause
+reference_error errors.TrailingBytes has cause = absurd cause
+reference_error (errors.Version version) has cause = absurd cause
+reference_error (errors.NoSuchType id) has cause = absurd cause
+reference_error (errors.NoSuchPath path) has cause = absurd cause
+reference_error (errors.SharedPath path) has cause = absurd cause
+reference_error (errors.NoValue fault) has cause = absurd cause
+reference_error {table = table} (errors.Dangling id) has cause =
     inl (record { table = table; has_table = has; dangling = cause })
-reference_error bytes table errors.Memory has cause = inr refl
-reference_error bytes table errors.Input has cause = absurd cause
-reference_error bytes table errors.Output has cause = absurd cause
+reference_error errors.Memory has cause = inr refl
+reference_error errors.Input has cause = absurd cause
+reference_error errors.Output has cause = absurd cause
 
-memory_error :
-    (paths : List (List ℕ)) (bytes others : List ℕ) (error : ReaderError)
-    → error ≡ errors.Memory → IsDiffError paths bytes others error
-memory_error paths bytes others error memory =
+-- an error of one of two inputs, or that of an allocation
+own_or_memory :
+    (paths : List (List ℕ)) (bytes others : List ℕ) (error : ReaderError) {Own : Type 0}
+    → (Own → IsOwnError bytes error ⊎ IsOwnError others error) → Own ⊎ (error ≡ errors.Memory)
+    → IsDiffError paths bytes others error
+own_or_memory paths bytes others error by (inl own) = own_error paths bytes others error (by own)
+own_or_memory paths bytes others error by (inr memory) =
     subst (IsDiffError paths bytes others) (sym memory) tt
 
 -- one of two tables that refers to an id that is no index
 pub changes_error :
-    (paths : List (List ℕ)) (bytes others old new : List ℕ) (error : ReaderError)
+    (paths : List (List ℕ)) {bytes others old new : List ℕ} (error : ReaderError)
     → HasTable bytes old → HasTable others new
     → IsReferenceError old error ⊎ IsReferenceError new error
     → IsDiffError paths bytes others error
-changes_error paths bytes others old new error has_old has_new (inl cause) =
-    at (reference_error bytes old error has_old cause)
-  where
-    at : IsOwnError bytes error ⊎ (error ≡ errors.Memory) → IsDiffError paths bytes others error
-    at (inl own) = own_error paths bytes others error (inl own)
-    at (inr memory) = memory_error paths bytes others error memory
-changes_error paths bytes others old new error has_old has_new (inr cause) =
-    at (reference_error others new error has_new cause)
-  where
-    at : IsOwnError others error ⊎ (error ≡ errors.Memory) → IsDiffError paths bytes others error
-    at (inl own) = own_error paths bytes others error (inr own)
-    at (inr memory) = memory_error paths bytes others error memory
+changes_error paths {bytes = bytes} {others = others} error has_old has_new (inl cause) =
+    own_or_memory paths bytes others error (λ own. inl own) (reference_error error has_old cause)
+changes_error paths {bytes = bytes} {others = others} error has_old has_new (inr cause) =
+    own_or_memory paths bytes others error (λ own. inr own) (reference_error error has_new cause)
+
+-- what a reason says of the ids of two tables
+abbrev TellsReason : Option (List ℕ) → (old old_ids new new_ids : List ℕ) → Type 0
+TellsReason reason old old_ids new new_ids =
+    TellsDeclaredChange old old_ids new new_ids reason
+    ⊎ (IsNotPruned old old_ids new new_ids × (reason ≡ None))
+
+-- why a path has changed, by inputs that are those of the two sides
+pub reasoned_by :
+    {docs : Docs} {table other path : List ℕ} {bytes others a b ids more : List ℕ}
+    {types other_types : List PortableType} (reason : Option (List ℕ))
+    → IsSide docs table bytes types → IsSide docs other others other_types
+    → a ≡ bytes → ids ≡ ids_of path types → b ≡ others → more ≡ ids_of path other_types
+    → TellsReason reason a ids b more → IsReason docs table other path reason
+reasoned_by {path = path} {bytes = bytes} {others = others} {a = a} {b = b} {ids = ids}
+    {types = types} {other_types = other_types} reason side other_side p q r s tells =
+    let to = TellsReason reason in
+    record {
+      bytes = bytes;
+      others = others;
+      types = types;
+      other_types = other_types;
+      side = side;
+      other_side = other_side;
+      tells =
+          subst (λ x. to x (ids_of path types) others (ids_of path other_types)) p
+          (subst (λ x. to a x others (ids_of path other_types)) q
+          (subst (λ x. to a ids x (ids_of path other_types)) r (subst (to a ids b) s tells)));
+    }

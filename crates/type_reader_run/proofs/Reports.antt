@@ -1,6 +1,7 @@
 -- Texts that were reported, one after another.
 use Rattle.std.proofs.Common.{◌≡◌, ◌++◌, ◌∙◌, ℕ, List, [], ◌∷◌, Option, ap, refl, subst}
 use Rattle.type_reader_io.specs.Reports.{ReportsEach}
+use Rattle.type_reader_io.specs.declared.report.ErrorWriter.{ErrorWriter}
 use Rattle.type_table_io.specs.Reports.{AppendsPrefix}
 
 -- these, and then those
@@ -24,7 +25,7 @@ each_and reported old middle new texts text a b =
     each_then reported old middle new texts (text ∷ []) a (new, b, refl)
 
 -- by another word for what was reported
-pub each_by :
+each_by :
     {T U : Type 0} (reported : T → T → List ℕ → Type 0) (told : U → U → List ℕ → Type 0)
     (seen : T → U)
     → ((old new : T) (text : List ℕ) → reported old new text → told (seen old) (seen new) text)
@@ -38,7 +39,7 @@ each_by reported told seen by old new (text ∷ texts) h = (
 )
 
 -- a reporter that keeps a name has it at the end
-pub each_keeps :
+each_keeps :
     {T N : Type 0} (reported : T → T → List ℕ → Type 0) (name : T → N)
     → ((old new : T) (text : List ℕ) → reported old new text → name new ≡ name old)
     → (old new : T) (texts : List (List ℕ)) → ReportsEach reported old new texts
@@ -48,9 +49,27 @@ each_keeps reported name keeps old new (text ∷ texts) h =
     each_keeps reported name keeps h.0 new texts h.2 ∙ keeps old h.0 text h.1
 
 -- what a writer holds at the end
-pub ends_at :
+ends_at :
     {F : Type 0} (contents : F → Option (List ℕ)) (told : Option (List ℕ)) (now last : F)
     (texts : List (List ℕ)) → now ≡ last → ReportsEach AppendsPrefix told (contents now) texts
     → ReportsEach AppendsPrefix told (contents last) texts
 ends_at contents told now last texts same each =
     subst (λ f. ReportsEach AppendsPrefix told (contents f) texts) same each
+
+-- what the writer for errors was given stands in it: of each text a prefix, or all of it
+pub each_written :
+    {F : Type 0} (reported : ErrorWriter F → ErrorWriter F → List ℕ → Type 0)
+    (contents : F → Option (List ℕ)) (old new : ErrorWriter F) (last : F)
+    → ((before after : ErrorWriter F) (text : List ℕ) → reported before after text
+    → (after.errors.ghost_name ≡ before.errors.ghost_name)
+    × AppendsPrefix (contents before.errors.now) (contents after.errors.now) text)
+    → (new.errors.ghost_name ≡ old.errors.ghost_name → new.errors.now ≡ last)
+    → (texts : List (List ℕ)) → ReportsEach reported old new texts
+    → ReportsEach AppendsPrefix (contents old.errors.now) (contents last) texts
+each_written reported contents old new last by ends texts h =
+    let named =
+    each_keeps reported (λ w. w.errors.ghost_name) (λ old new text r. (by old new text r).0) old
+    new texts h in
+    ends_at contents (contents old.errors.now) new.errors.now last texts (ends named)
+    (each_by reported AppendsPrefix (λ w. contents w.errors.now)
+    (λ old new text r. (by old new text r).1) old new texts h)

@@ -34,46 +34,62 @@ have_outcomes conversion text (Some bytes) converter values outcomes way type ar
       subst (λ w. AreOutcomes w converter.registry converter.id values outcomes) way are;
 }
 
--- all lines were converted
-pub converts_all :
-    (conversion : Conversion) (text : List ℕ)
-    (input second second_new old new : Option (List ℕ)) (converter : Converter)
-    (IsReported : List (List ℕ) → Type 0) (is_good : Bool)
-    → converter.conversion ≡ conversion
-    → IfSome input (λ bytes.
-    HasType (input_bytes bytes) text converter.registry converter.id)
-    → HasConvertedLines converter second second_new old new IsReported is_good
-    → ConvertsAll conversion text input second old new IsReported is_good
-converts_all conversion text input second second_new old new converter IsReported is_good way type h = record {
+module _ {conversion : Conversion} {text : List ℕ} {input second old new : Option (List ℕ)}
+    {converter : Converter} {IsReported : List (List ℕ) → Type 0} where
+  -- all lines were converted
+  pub converts_all :
+      {second_new : Option (List ℕ)} {is_good : Bool}
+      → converter.conversion ≡ conversion
+      → IfSome input (λ bytes.
+      HasType (input_bytes bytes) text converter.registry converter.id)
+      → HasConvertedLines converter second second_new old new IsReported is_good
+      → ConvertsAll conversion text input second old new IsReported is_good
+  converts_all way type h = record {
+    values = h.values;
+    are_lines = h.are_lines;
+    outcomes = h.outcomes;
+    have_outcomes =
+        have_outcomes conversion text input converter h.values h.outcomes way type h.are_outcomes;
+    appends = h.appends;
+    reports = h.reports;
+    good = h.good;
+  }
+
+  -- the first lines were
+  pub stops_after :
+      {error : ReaderError}
+      → converter.conversion ≡ conversion
+      → IfSome input (λ bytes.
+      HasType (input_bytes bytes) text converter.registry converter.id)
+      → (h : HasStopped converter second old new IsReported error)
+      → StopsAfter conversion text input second old new h.outcomes error
+  stops_after way type h = record {
+    values = h.values;
+    are_first = h.are_first;
+    have_outcomes =
+        have_outcomes conversion text input converter h.values h.outcomes way type h.are_outcomes;
+    explains = h.explains;
+  }
+
+-- of all lines, by another word for what was reported
+converts_by :
+    {conversion : Conversion} {text : List ℕ} {input second old new : Option (List ℕ)}
+    {is_good : Bool} {P Q : List (List ℕ) → Type 0}
+    → ((texts : List (List ℕ)) → P texts → Q texts)
+    → ConvertsAll conversion text input second old new P is_good
+    → ConvertsAll conversion text input second old new Q is_good
+converts_by by h = record {
   values = h.values;
   are_lines = h.are_lines;
   outcomes = h.outcomes;
-  have_outcomes =
-      have_outcomes conversion text input converter h.values h.outcomes way type h.are_outcomes;
+  have_outcomes = h.have_outcomes;
   appends = h.appends;
-  reports = h.reports;
+  reports = by (reports_from 1 h.outcomes) h.reports;
   good = h.good;
 }
 
--- the first lines were
-pub stops_after :
-    (conversion : Conversion) (text : List ℕ) (input second old new : Option (List ℕ))
-    (converter : Converter) (IsReported : List (List ℕ) → Type 0) (error : ReaderError)
-    → converter.conversion ≡ conversion
-    → IfSome input (λ bytes.
-    HasType (input_bytes bytes) text converter.registry converter.id)
-    → (h : HasStopped converter second old new IsReported error)
-    → StopsAfter conversion text input second old new h.outcomes error
-stops_after conversion text input second old new converter IsReported error way type h = record {
-  values = h.values;
-  are_first = h.are_first;
-  have_outcomes =
-      have_outcomes conversion text input converter h.values h.outcomes way type h.are_outcomes;
-  explains = h.explains;
-}
-
 -- by another word for what was reported
-pub does_by :
+does_by :
     (command : Command) (input second old new : Option (List ℕ))
     (P Q : List (List ℕ) → Type 0) → ((texts : List (List ℕ)) → P texts → Q texts)
     → Does command input second old new P → Does command input second old new Q
@@ -83,19 +99,11 @@ does_by (commands.Once request) input second old new P Q by h =
       writes = h.writes;
       reports = by (texts_of h.notes) h.reports;
     }
-does_by (commands.Lines conversion text) input second old new P Q by h = record {
-  values = h.values;
-  are_lines = h.are_lines;
-  outcomes = h.outcomes;
-  have_outcomes = h.have_outcomes;
-  appends = h.appends;
-  reports = by (reports_from 1 h.outcomes) h.reports;
-  good = h.good;
-}
+does_by (commands.Lines conversion text) input second old new P Q by h = converts_by by h
 does_by (commands.Diff comparison) input second old new P Q by h = (h.0, by [] h.1)
 
 -- what a command refuses, by what follows from its reports
-pub refuses_by :
+refuses_by :
     (command : Command) (input second old new : Option (List ℕ))
     (P Q : List (List ℕ) → Type 0) → ((texts : List (List ℕ)) → P texts → Q texts)
     → Refuses command input second old new P → Refuses command input second old new Q
@@ -108,16 +116,7 @@ refuses_by (commands.Once request) input second old new P Q by h = record {
 refuses_by (commands.Lines conversion text) input second old new P Q by (no_type {error = error} small without reports) =
     no_type small without (by (line_of error ∷ []) reports)
 refuses_by (commands.Lines conversion text) input second old new P Q by (bad_lines h) =
-    bad_lines
-    (record {
-      values = h.values;
-      are_lines = h.are_lines;
-      outcomes = h.outcomes;
-      have_outcomes = h.have_outcomes;
-      appends = h.appends;
-      reports = by (reports_from 1 h.outcomes) h.reports;
-      good = h.good;
-    })
+    bad_lines (converts_by by h)
 refuses_by (commands.Lines conversion text) input second old new P Q by (stopped {outcomes = outcomes} {error = error} stops reports) =
     stopped stops (by (reports_from 1 outcomes ++ line_of error ∷ []) reports)
 refuses_by (commands.Diff comparison) input second old new P Q by (has_changes writes reports) =
@@ -125,26 +124,27 @@ refuses_by (commands.Diff comparison) input second old new P Q by (has_changes w
 refuses_by (commands.Diff comparison) input second old new P Q by (not_compared error small explains reports) =
     not_compared error small explains (by (line_of error ∷ []) reports)
 
--- the same of a command that the arguments name
-pub done_by :
-    {arguments : List (List ℕ)} {input second old new : Option (List ℕ)}
-    (P Q : List (List ℕ) → Type 0) → ((texts : List (List ℕ)) → P texts → Q texts)
-    → HasCommand arguments (λ command. Does command input second old new P)
-    → HasCommand arguments (λ command. Does command input second old new Q)
-done_by {input = input} {second = second} {old = old} {new = new} P Q by h = record {
+-- of a command that the arguments name, by what follows from what holds of it
+holds_by :
+    {arguments : List (List ℕ)} {P Q : Command → Type 0}
+    → ((command : Command) → P command → Q command) → HasCommand arguments P
+    → HasCommand arguments Q
+holds_by by h = record {
   command = h.command;
   names = h.names;
-  holds = does_by h.command input second old new P Q by h.holds;
+  holds = by h.command h.holds;
 }
 
--- the same of arguments
-pub refused_by :
-    {arguments : List (List ℕ)} {input second old new : Option (List ℕ)}
-    (P Q : List (List ℕ) → Type 0) → ((texts : List (List ℕ)) → P texts → Q texts)
-    → HasCommand arguments (λ command. Refuses command input second old new P)
-    → HasCommand arguments (λ command. Refuses command input second old new Q)
-refused_by {input = input} {second = second} {old = old} {new = new} P Q by h = record {
-  command = h.command;
-  names = h.names;
-  holds = refuses_by h.command input second old new P Q by h.holds;
-}
+module _ {arguments : List (List ℕ)} {input second old new : Option (List ℕ)}
+    (P Q : List (List ℕ) → Type 0) (by : (texts : List (List ℕ)) → P texts → Q texts) where
+  -- what was done, by another word for what was reported
+  pub done_by :
+      HasCommand arguments (λ command. Does command input second old new P)
+      → HasCommand arguments (λ command. Does command input second old new Q)
+  done_by h = holds_by (λ command. does_by command input second old new P Q by) h
+
+  -- what was refused
+  pub refused_by :
+      HasCommand arguments (λ command. Refuses command input second old new P)
+      → HasCommand arguments (λ command. Refuses command input second old new Q)
+  refused_by h = holds_by (λ command. refuses_by command input second old new P Q by) h

@@ -40,36 +40,47 @@ none_told docs old new paths changes = record {
   lines = refl;
 }
 
-module _ (docs : Docs) (old new : List ℕ) (paths : List (List ℕ)) (changes : List Change)
-    (change : Change) (left : List Change) (text : List ℕ)
-    (x : IsSoFar docs old new paths changes (change ∷ left) text) where
+module _ {docs : Docs} {old new : List ℕ} {paths : List (List ℕ)} {changes : List Change}
+    {text : List ℕ} (i : ℕ) (change : Change) (within : i < length changes)
+    (at : change ≡ get_or changes i change)
+    (so_far : IsSoFar docs old new paths changes (drop i changes) text) where
+  -- what was gone over before the change at the index, and what is left from it on
+  at_next : IsSoFar docs old new paths changes (change ∷ drop (i + 1) changes) text
+  at_next =
+      subst (λ left. IsSoFar docs old new paths changes left text) (next_of changes i change within at)
+      so_far
+
   -- a change of no such path
-  pub not_told : is_of paths change ≡ false → IsSoFar docs old new paths changes left text
-  not_told isnt = record {
-    told = x.told;
-    whole =
-        ap (λ b. map (λ one. one.0) x.told
-        ++ cond b (change ∷ filter (is_of paths) left) (filter (is_of paths) left)) (sym isnt)
-        ∙ x.whole;
-    reasons = x.reasons;
-    lines = x.lines;
-  }
+  pub not_told :
+      is_of paths change ≡ false
+      → IsSoFar docs old new paths changes (drop (i + 1) changes) text
+  not_told isnt =
+      let x = at_next in
+      let left = filter (is_of paths) (drop (i + 1) changes) in
+      record {
+        told = x.told;
+        whole =
+            ap (λ b. map (λ one. one.0) x.told ++ cond b (change ∷ left) left) (sym isnt)
+            ∙ x.whole;
+        reasons = x.reasons;
+        lines = x.lines;
+      }
 
   -- a change of such a path
   pub one_told :
-      (after : List ℕ) → is_of paths change ≡ true
+      {after : List ℕ} → is_of paths change ≡ true
       → AppendsChange docs old new change text after
-      → IsSoFar docs old new paths changes left after
-  one_told after is y =
+      → IsSoFar docs old new paths changes (drop (i + 1) changes) after
+  one_told is y =
+      let x = at_next in
+      let left = filter (is_of paths) (drop (i + 1) changes) in
       let one : ToldChange = (change, y.0) in
       record {
         told = x.told ++ one ∷ [];
         whole =
-            ap (λ cs. cs ++ filter (is_of paths) left)
-            (map-append (λ (t : ToldChange). t.0) x.told (one ∷ []))
-            ∙ append_assoc (map (λ (t : ToldChange). t.0) x.told) (change ∷ []) (filter (is_of paths) left)
-            ∙ ap (λ b. map (λ one. one.0) x.told
-            ++ cond b (change ∷ filter (is_of paths) left) (filter (is_of paths) left)) (sym is)
+            ap (λ cs. cs ++ left) (map-append (λ (t : ToldChange). t.0) x.told (one ∷ []))
+            ∙ append_assoc (map (λ (t : ToldChange). t.0) x.told) (change ∷ []) left
+            ∙ ap (λ b. map (λ one. one.0) x.told ++ cond b (change ∷ left) left) (sym is)
             ∙ x.whole;
         reasons =
             All-append (λ (t : ToldChange). HasReason docs old new t.0 t.1) x.told (one ∷ []) x.reasons
@@ -83,11 +94,11 @@ module _ (docs : Docs) (old new : List ℕ) (paths : List (List ℕ)) (changes :
 
 -- after the last change
 pub all_told :
-    (docs : Docs) (old new : List ℕ) (paths : List (List ℕ)) (changes left : List Change)
-    (text : List ℕ)
+    {docs : Docs} {old new : List ℕ} {paths : List (List ℕ)} {changes left : List Change}
+    {text : List ℕ}
     → left ≡ [] → IsSoFar docs old new paths changes left text
     → AreLinesOf docs old new (filter (is_of paths) changes) text
-all_told docs old new paths changes left text none x = record {
+all_told {paths = paths} none x = record {
   told = x.told;
   reasoned = record {
     of =

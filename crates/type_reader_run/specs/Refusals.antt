@@ -23,58 +23,53 @@ pub record HasSelectionError (table : List ℕ) (texts : List (List ℕ)) (error
   pub encodes : EncodesTypes types table
   pub cause : IsSelectionError types texts error
 
--- the types that the texts give reach this id, which is no index of the table
-pub record ReachesOutside (table : List ℕ) (texts : List (List ℕ)) (id : ℕ) : Type 0 where
+-- the texts give types of the table, and this is said of them, of their ids and of the id
+pub record LeadOutside (Outside : List PortableType → List ℕ → ℕ → Type 0) (table : List ℕ)
+    (texts : List (List ℕ)) (id : ℕ) : Type 0 where
   pub types : List PortableType
   pub encodes : EncodesTypes types table
   pub ids : List ℕ
   pub selected : AreSelected types texts ids
-  pub dangling : HasDangling table ids id
+  pub outside : Outside types ids id
 
--- why a table is not pruned to the ids, which are all indices of it
+-- why nothing is made of ids that are all indices of a table: this is said of an id that is none
+abbrev pub IsOutsideError : (Outside : ℕ → Type 0) → ReaderError → Type 0
+IsOutsideError Outside (errors.Dangling id) = Outside id
+IsOutsideError Outside errors.Memory = Unit {0}
+IsOutsideError Outside error = ⊥
+
+-- why nothing is made of the types that the texts give: they give none, or as above
+abbrev pub IsTypesError : (Outside : List PortableType → List ℕ → ℕ → Type 0) → (table : List ℕ)
+    → List (List ℕ) → ReaderError → Type 0
+IsTypesError Outside table texts (errors.NoSuchType id) =
+    HasSelectionError table texts (errors.NoSuchType id)
+IsTypesError Outside table texts (errors.NoSuchPath path) =
+    HasSelectionError table texts (errors.NoSuchPath path)
+IsTypesError Outside table texts (errors.Dangling id) = LeadOutside Outside table texts id
+IsTypesError Outside table texts errors.Memory = Unit {0}
+IsTypesError Outside table texts error = ⊥
+
+-- why a table is not pruned to the ids, which are all indices of it: an id is reached that is none
 abbrev pub IsReachingError : List ℕ → List ℕ → ReaderError → Type 0
-IsReachingError table ids (errors.Dangling id) = HasDangling table ids id
-IsReachingError table ids errors.Memory = Unit {0}
-IsReachingError table ids error = ⊥
+IsReachingError table ids error = IsOutsideError (HasDangling table ids) error
 
 -- why a table is not pruned to the types that the texts give
 abbrev pub IsPruningError : List ℕ → List (List ℕ) → ReaderError → Type 0
-IsPruningError table texts (errors.NoSuchType id) =
-    HasSelectionError table texts (errors.NoSuchType id)
-IsPruningError table texts (errors.NoSuchPath path) =
-    HasSelectionError table texts (errors.NoSuchPath path)
-IsPruningError table texts (errors.Dangling id) = ReachesOutside table texts id
-IsPruningError table texts errors.Memory = Unit {0}
-IsPruningError table texts error = ⊥
+IsPruningError table texts error =
+    IsTypesError (λ types ids id. HasDangling table ids id) table texts error
 
 -- the types with these ids lead, by references, to this id, which is no index
-pub record LeadOutside (types : List PortableType) (ids : List ℕ) (id : ℕ) : Type 0 where
+pub record IsLedTo (types : List PortableType) (ids : List ℕ) (id : ℕ) : Type 0 where
   pub reached : IsReached (types_system types) ids id
   pub outside : length types ≤ id
 
--- so do the types of the table that the texts give
-pub record LeadsOutside (table : List ℕ) (texts : List (List ℕ)) (id : ℕ) : Type 0 where
-  pub types : List PortableType
-  pub encodes : EncodesTypes types table
-  pub ids : List ℕ
-  pub selected : AreSelected types texts ids
-  pub lead : LeadOutside types ids id
-
 -- why there is no graph of what the types with these ids reach, which are all indices
 abbrev pub IsLeadingError : List PortableType → List ℕ → ReaderError → Type 0
-IsLeadingError types ids (errors.Dangling id) = LeadOutside types ids id
-IsLeadingError types ids errors.Memory = Unit {0}
-IsLeadingError types ids error = ⊥
+IsLeadingError types ids error = IsOutsideError (IsLedTo types ids) error
 
 -- why there is no graph of what the types reach that the texts give
 abbrev pub IsGraphingError : List ℕ → List (List ℕ) → ReaderError → Type 0
-IsGraphingError table texts (errors.NoSuchType id) =
-    HasSelectionError table texts (errors.NoSuchType id)
-IsGraphingError table texts (errors.NoSuchPath path) =
-    HasSelectionError table texts (errors.NoSuchPath path)
-IsGraphingError table texts (errors.Dangling id) = LeadsOutside table texts id
-IsGraphingError table texts errors.Memory = Unit {0}
-IsGraphingError table texts error = ⊥
+IsGraphingError table texts error = IsTypesError IsLedTo table texts error
 
 -- why the request has no output for the table; an allocation may fail
 abbrev pub IsOutputError : Request → (table : List ℕ) → ReaderError → Type 0

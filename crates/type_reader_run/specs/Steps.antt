@@ -1,5 +1,6 @@
 -- The second input, converted line by line by one converter.
 use Rattle.std.specs.Prelude.{◌≡◌, ◌⊎◌, ◌+◌, ◌++◌, ◌&&◌, ℕ, List, [], Bool, IfSome, Some, length}
+use Rattle.std.specs.Prelude.{true}
 use Rattle.std.specs.declared.option.Option.{Option}
 use Rattle.std.specs.Io.KnownBytes.{Appends, Consumes}
 use Rattle.std.specs.List.{flat_map}
@@ -12,6 +13,13 @@ use Rattle.type_reader_run.specs.Conversions.{output_of, reports_from}
 use Rattle.type_reader_run.specs.Runs.{ExplainsStop}
 use Rattle.type_reader_run.specs.declared.convert.Converter.{Converter}
 use Rattle.type_reader_run.specs.declared.lines.Progress.{Progress}
+
+-- no line was converted yet, and nothing was read
+pub record IsFirst (at : Progress) : Type 0 where
+  pub start : at.start.items ≡ []
+  pub pending : at.pending.items ≡ []
+  pub count : at.count ≡ 0
+  pub good : at.is_good ≡ true
 
 -- of pending output the start was written: known bytes grew by it, and the rest is still pending
 pub record HasWritten (pending left : List ℕ) (old new : Option (List ℕ)) : Type 0 where

@@ -16,7 +16,7 @@ ghost use Rattle.type_reader_run.specs.Tables.{IsOneTable};
 
 use crate::reason::{Side, is_at, reason_of, side_of};
 use crate::selection::no_such_path;
-use crate::table::{Input, find_table, registry_of};
+use crate::table::{Input, registry_of, table_in};
 use scale_info_collections::text::Text;
 use scale_info_diff::change::Change;
 use scale_info_diff::changes::{changes, changes_with_docs};
@@ -80,27 +80,7 @@ fn append_reasoned(out: &mut String, path: &Text, reason: &Option<String>) -> Re
     out.push_str("\n")
 }
 
-/// Appends the line of a path that has changed between two tables, and why it has.
-fn append_changed(
-    alloc: Global,
-    out: &mut String,
-    old: &Side,
-    new: &Side,
-    path: &Text,
-) -> Result<(), AllocError>
-    requires few { length old.now.registry.types ≤ 4294967295 }
-    requires new_few { length new.now.registry.types ≤ 4294967295 }
-    ensures { OnOk result ((docs : DocsValue) (table other : List ℕ)
-        → IsSide docs table old.now.bytes.items old.now.registry.types
-        → IsSide docs other new.now.bytes.items new.now.registry.types
-        → AppendsChange docs table other (changed.Changed path.now)
-        (string_bytes out.old) (string_bytes out.new)) }
-{
-    let reason = reason_of(alloc, old, new, path)?;
-    append_reasoned(out, path, &reason)
-}
-
-/// Appends the line of a change between two tables.
+/// Appends the line of a change between two tables; of a path that has changed, with why it has.
 fn append_change(
     alloc: Global,
     out: &mut String,
@@ -119,7 +99,10 @@ fn append_change(
     match change {
         Change::Removed(path) => append_path(out, "- ", path),
         Change::Added(path) => append_path(out, "+ ", path),
-        Change::Changed(path) => append_changed(alloc, out, old, new, path),
+        Change::Changed(path) => {
+            let reason = reason_of(alloc, old, new, path)?;
+            append_reasoned(out, path, &reason)
+        }
     }
 }
 
@@ -273,7 +256,7 @@ fn changes_between(
 
 /// The lines of what changed between the tables of two inputs, of the paths of the comparison.
 ///
-/// Errors: as those of [`find_table`], of either input; `NoSuchPath`, where neither table has a
+/// Errors: as those of [`table_in`], of either input; `NoSuchPath`, where neither table has a
 /// path; `Dangling`, where an entry of one of them refers to an id that is no index; `Memory`, if
 /// an allocation failed.
 pub fn lines_between(
@@ -287,8 +270,8 @@ pub fn lines_between(
     ensures err { IfErr result
         (IsDiffError comparison.now.paths.now old.now.bytes.items new.now.bytes.items) }
 {
-    let (_, table) = find_table(&old.bytes)?;
-    let (_, other) = find_table(&new.bytes)?;
+    let table = table_in(old)?;
+    let other = table_in(new)?;
     check_paths(alloc, table, other, comparison.paths)?;
     let changes = changes_between(alloc, comparison.docs, table, other)?;
     lines_by(alloc, comparison, table, other, &changes)

@@ -1,6 +1,6 @@
 //! The second input, converted line by line.
 ghost use Rattle.std.specs.Prelude.{◌≡◌, ◌++◌, [], ◌∷◌, List, ℕ, IfErr, IfOk, OnErr, OnOk};
-ghost use Rattle.std.specs.Prelude.{IsFalse, OnSome, true};
+ghost use Rattle.std.specs.Prelude.{IsFalse, OnSome};
 ghost use Rattle.std.specs.Io.KnownBytes.{Appends, IsAtEnd};
 ghost use Rattle.std.specs.Str.Lines.{lines};
 ghost use Rattle.type_reader_io.specs.Inputs.{IsReadError, IsWithoutFeed};
@@ -9,7 +9,7 @@ ghost use Rattle.type_reader_io.specs.declared.error.ReaderError.TheVariants as 
 ghost use Rattle.type_reader_run.specs.Steps.{Converts, HasConverted, HasConvertedAll};
 ghost use Rattle.type_reader_run.specs.Steps.{HasConvertedLines, HasConvertedRead};
 ghost use Rattle.type_reader_run.specs.Steps.{HasStopped, HasStoppedIn, HasStoppedRead};
-ghost use Rattle.type_reader_run.specs.Steps.{HasWritten, Stops};
+ghost use Rattle.type_reader_run.specs.Steps.{HasWritten, IsFirst, Stops};
 ghost use Rattle.type_table_io.specs.Reports.{AppendsPrefix};
 
 use crate::convert::Converter;
@@ -44,10 +44,7 @@ pub struct Progress {
 impl Progress {
     /// Before the first line.
     fn new(alloc: Global) -> Progress
-        ensures start { result.start.items ≡ [] }
-        ensures pending { result.pending.items ≡ [] }
-        ensures count { result.count ≡ 0 }
-        ensures good { result.is_good ≡ true }
+        ensures { IsFirst result }
     {
         Progress {
             count: 0,
@@ -322,15 +319,13 @@ pub fn convert_lines<S: BufRead, W: Write, T: Reporter>(
             write_beyond(output, &mut progress.pending, 0)?;
             Ok(progress.is_good)
         }
-        Err(ReaderError::Memory) => {
-            write_beyond(output, &mut progress.pending, 0)?;
-            Err(ReaderError::Memory)
-        }
-        Err(ReaderError::Input) => {
-            write_beyond(output, &mut progress.pending, 0)?;
-            Err(ReaderError::Input)
-        }
-        // A write failed, so nothing more is written.
-        Err(_) => Err(ReaderError::Output),
+        Err(error) => match error {
+            // A write failed, so nothing more is written.
+            ReaderError::Output => Err(ReaderError::Output),
+            error => {
+                write_beyond(output, &mut progress.pending, 0)?;
+                Err(error)
+            }
+        },
     }
 }

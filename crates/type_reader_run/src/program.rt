@@ -20,8 +20,8 @@ use crate::compare::run_diff;
 use crate::convert::Converter;
 use crate::lines::convert_lines;
 use crate::output::output_of;
-use crate::reading::read_input;
-use crate::table::{Input, find_table, input_of};
+use crate::reading::{read_input, read_whole};
+use crate::table::{Input, input_of, table_in};
 use crate::writing::write_output;
 use scale_info_collections::text::Text;
 use std::alloc::Global;
@@ -98,7 +98,7 @@ fn converter_in(
     ensures way { IfOk result (λ converter. converter.conversion ≡ conversion) }
     ensures err { IfErr result (IsTypeError input.now.bytes.items text.now) }
 {
-    let (_, table) = find_table(&input.bytes)?;
+    let table = table_in(input)?;
     Converter::new(alloc, conversion, table, text)
 }
 
@@ -119,7 +119,7 @@ fn read_converter<R: Read>(
     ensures err { IfErr result (λ e. (e ≡ reader_error.Input)
         ⊎ IfSome (R.remaining reader.old) (λ bytes. IsTypeError (input_bytes bytes) text.now e)) }
 {
-    let input = input_of(alloc, read_input(alloc, reader)?)?;
+    let input = read_whole(alloc, reader)?;
     converter_in(alloc, conversion, text, &input)
 }
 

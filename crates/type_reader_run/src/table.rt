@@ -3,8 +3,8 @@ ghost use Rattle.std.specs.Prelude.{◌≡◌, IfOk, IfErr};
 ghost use Rattle.scale_info_grammar.specs.Ty.{EncodesTypes};
 ghost use Rattle.scale_info_metadata.specs.TablesFound.{IsTableOf};
 ghost use Rattle.type_reader_io.specs.declared.error.ReaderError.TheVariants as reader_error;
-ghost use Rattle.type_reader_run.specs.Tables.{IsOneTable, IsFoundError, error_of, input_bytes};
-ghost use Rattle.type_reader_run.specs.Tables.{is_hexadecimal};
+ghost use Rattle.type_reader_run.specs.Tables.{HasTable, IsFoundError, IsOneTable, error_of};
+ghost use Rattle.type_reader_run.specs.Tables.{input_bytes, is_hexadecimal};
 
 use scale_info_metadata::hexadecimal::bytes_of_text;
 use scale_info_metadata::metadata::{MetadataError, Source, table_of};
@@ -65,6 +65,18 @@ pub fn find_table(bytes: &[u8]) -> Result<(Source, &[u8]), ReaderError>
         Ok(found) => Ok(found),
         Err(error) => Err(error_of(error)),
     }
+}
+
+/// The bytes of the table of an input. Nothing is allocated.
+///
+/// Errors: as those of [`find_table`].
+pub fn table_in(input: &Input) -> Result<&[u8], ReaderError>
+    ensures ok { IfOk result (λ table. HasTable input.now.bytes.items table.now) }
+    ensures table { IfOk result (λ table. IsOneTable table.now) }
+    ensures err { IfErr result (IsFoundError input.now.bytes.items) }
+{
+    let (_, table) = find_table(&input.bytes)?;
+    Ok(table)
 }
 
 /// The descriptions of a table.

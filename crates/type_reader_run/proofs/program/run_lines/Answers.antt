@@ -1,7 +1,6 @@
 use Rattle.std.proofs.Common.{refl, rules}
 use Rattle.std.proofs.KnownBytes.{Keeps-refl}
 use Rattle.type_reader_io.specs.Lines.{line_of}
-use Rattle.type_reader_io.specs.Reports.{ReportsEach}
 use Rattle.type_reader_run.proofs.Reports.{each_and}
 use Rattle.type_reader_run.proofs.Runs.{stops_after}
 use Rattle.type_reader_run.specs.Conversions.{reports_from}
@@ -21,11 +20,7 @@ pub returns-clause-refused : goal.returns-clause-refused
 returns-clause-refused g c _ =
     let stop = c.in-Err-convert_lines.ensures.err in
     stopped {outcomes = stop.outcomes} {error = c.in-Err-convert_lines.error}
-    (stops_after c.args.conversion c.args.text.now (g.R.Read.remaining c.args.reader.now)
-    (g.S.Read.remaining c.args.second.now) (g.W.Write.contents c.args.output.now)
-    (g.W.Write.contents c.convert_lines.new.output) c.in-Ok.converter
-    (ReportsEach g.T.Reporter.reported c.args.reporter.now c.convert_lines.new.reporter)
-    c.in-Err-convert_lines.error c.in-Ok.ensures.way c.in-Ok.ensures.ok stop)
+    (stops_after c.in-Ok.ensures.way c.in-Ok.ensures.ok stop)
     (each_and g.T.Reporter.reported c.args.reporter.now c.convert_lines.new.reporter
     c.report-in-Err-convert_lines.new.self (reports_from 1 stop.outcomes)
     (line_of c.in-Err-convert_lines.error) stop.reports c.report-in-Err-convert_lines.ensures)
