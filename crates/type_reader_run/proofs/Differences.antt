@@ -1,11 +1,13 @@
 -- What is said of changes, by what is known of the inputs.
 use Rattle.std.proofs.Common.{◌≡◌, ◌≢◌, ◌⊎◌, ◌++◌, ◌∙◌, ℕ, List, [], ◌∷◌, Option, None, Some, IfSome}
-use Rattle.std.proofs.Common.{ap, arith, flat_map, get_or, inl, inr, length, refl, subst, sym}
+use Rattle.std.proofs.Common.{ap, arith, flat_map, get_or, inl, inr, length, map, refl, subst, sym}
 use Rattle.std.proofs.KnownBytes.{Appends-nil}
 use Rattle.std.proofs.lemmas.List.Concat.{flat_map-cons}
 use Rattle.scale_info_diff.specs.Declarations.{TellsDeclaredChange}
 use Rattle.scale_info_diff.specs.TypesByPath.{ids_of}
 use Rattle.scale_info_diff.specs.declared.change.Change.TheVariants.{Removed, Added, Changed}
+use Rattle.scale_info_diff.specs.NamedTables.{IsNamedTable}
+use Rattle.scale_info_prune.specs.TableIndexes.{IsIndexed}
 use Rattle.scale_info_types.specs.declared.ty.PortableType.{PortableType}
 use Rattle.type_reader_io.specs.declared.command.Docs.{Docs}
 use Rattle.type_reader_io.specs.declared.command.Comparison.{Comparison}
@@ -13,8 +15,9 @@ use Rattle.type_reader_io.specs.declared.error.ReaderError.{ReaderError}
 use Rattle.type_reader_io.specs.declared.error.ReaderError.TheVariants as errors
 use Rattle.type_reader_run.specs.Differences.{AreLines, AreTold, IfBoth, IsDiffError}
 use Rattle.type_reader_run.specs.Differences.{IsNotPruned, IsOwnError, IsPathError, IsReason}
-use Rattle.type_reader_run.specs.Differences.{IsReferenceError, IsSide}
+use Rattle.type_reader_run.specs.Differences.{IsComparedAs, IsReferenceError, IsSideOf}
 use Rattle.type_reader_run.specs.Differences.{ToldChange, WritesChanges, told_line}
+use Rattle.type_reader_run.specs.declared.reason.Side.{Side}
 use Rattle.type_reader_run.specs.Tables.{HasTable, input_bytes}
 
 no_line : (lines : List ℕ) → length lines ≡ 0 → lines ≡ []
@@ -141,25 +144,37 @@ TellsReason reason old old_ids new new_ids =
     TellsDeclaredChange old old_ids new new_ids reason
     ⊎ (IsNotPruned old old_ids new new_ids × (reason ≡ None))
 
--- why a path has changed, by inputs that are those of the two sides
+-- a side of the bytes that are compared
+pub is_side :
+    {docs : Docs} {table bytes given : List ℕ} (side : Side)
+    → IsComparedAs docs table bytes → given ≡ bytes → side.named.bytes.now ≡ given
+    → ((types : List PortableType) × IsNamedTable types side.named.bytes.now side.named.paths
+    (map (λ row. row.items) side.named.ids.items))
+    → IsIndexed given side.indexed → IsSideOf docs table side
+is_side {docs = docs} {table = table} side compared is same named indexed = record {
+  types = named.0;
+  compared = subst (IsComparedAs docs table) (sym (same ∙ is)) compared;
+  named = named.1;
+  indexed = subst (λ bytes. IsIndexed bytes side.indexed) (sym same) indexed;
+}
+
+-- why a path has changed, by the ids that both sides have of it
 pub reasoned_by :
-    {docs : Docs} {table other path : List ℕ} {bytes others a b ids more : List ℕ}
-    {types other_types : List PortableType} (reason : Option (List ℕ))
-    → IsSide docs table bytes types → IsSide docs other others other_types
-    → a ≡ bytes → ids ≡ ids_of path types → b ≡ others → more ≡ ids_of path other_types
-    → TellsReason reason a ids b more → IsReason docs table other path reason
-reasoned_by {path = path} {bytes = bytes} {others = others} {a = a} {b = b} {ids = ids}
-    {types = types} {other_types = other_types} reason side other_side p q r s tells =
+    {docs : Docs} {table other path : List ℕ} {side other_side : Side} {ids more : List ℕ}
+    (reason : Option (List ℕ)) (x : IsSideOf docs table side) (y : IsSideOf docs other other_side)
+    → ids ≡ ids_of path x.types → more ≡ ids_of path y.types
+    → TellsReason reason side.named.bytes.now ids other_side.named.bytes.now more
+    → IsReason docs table other path reason
+reasoned_by {path = path} {side = side} {other_side = other_side} {ids = ids} reason x y p q tells =
     let to = TellsReason reason in
+    let bytes = side.named.bytes.now in
+    let others = other_side.named.bytes.now in
     record {
       bytes = bytes;
       others = others;
-      types = types;
-      other_types = other_types;
-      side = side;
-      other_side = other_side;
-      tells =
-          subst (λ x. to x (ids_of path types) others (ids_of path other_types)) p
-          (subst (λ x. to a x others (ids_of path other_types)) q
-          (subst (λ x. to a ids x (ids_of path other_types)) r (subst (to a ids b) s tells)));
+      types = x.types;
+      other_types = y.types;
+      side = record { compared = x.compared; encodes = x.named.encodes };
+      other_side = record { compared = y.compared; encodes = y.named.encodes };
+      tells = subst (λ is. to bytes is others (ids_of path y.types)) p (subst (to bytes ids others) q tells);
     }

@@ -5,6 +5,7 @@ use Rattle.std.specs.Io.KnownBytes.{Appends, Keeps}
 use Rattle.std.specs.List.{flat_map, list_any}
 use Rattle.std.specs.Str.{bytes_eq}
 use Rattle.scale_info_diff.specs.Declarations.{TellsDeclaredChange}
+use Rattle.scale_info_diff.specs.NamedTables.{IsNamedTable}
 use Rattle.scale_info_diff.specs.TableChanges.{AreTableChanges, AreTableChangesWithDocs}
 use Rattle.scale_info_diff.specs.TableChanges.{HasDanglingReference}
 use Rattle.scale_info_diff.specs.TypesByPath.{ids_of}
@@ -12,6 +13,7 @@ use Rattle.scale_info_diff.specs.declared.change.Change.{Change}
 use Rattle.scale_info_diff.specs.declared.change.Change.TheVariants.{Removed, Added, Changed}
 use Rattle.scale_info_grammar.specs.Ty.{EncodesTypes}
 use Rattle.scale_info_prune.specs.Prunes.{HasDangling}
+use Rattle.scale_info_prune.specs.TableIndexes.{IsIndexed}
 use Rattle.scale_info_types.specs.declared.ty.PortableType.{PortableType}
 use Rattle.type_reader_io.specs.declared.command.Comparison.{Comparison}
 use Rattle.type_reader_io.specs.declared.command.Docs.{Docs}
@@ -19,6 +21,7 @@ use Rattle.type_reader_io.specs.declared.command.Docs.TheVariants as docs
 use Rattle.type_reader_io.specs.declared.error.ReaderError.{ReaderError}
 use Rattle.type_reader_io.specs.declared.error.ReaderError.TheVariants as errors
 use Rattle.type_reader_run.specs.Outputs.{IsStripped}
+use Rattle.type_reader_run.specs.declared.reason.Side.{Side}
 use Rattle.type_reader_run.specs.Tables.{HasTable, IsFoundError, input_bytes}
 use Rattle.type_table_io.specs.Reports.{AppendsPrefix}
 
@@ -82,6 +85,15 @@ IsComparedAs docs.Compared table compared = compared ≡ table
 pub record IsSide (docs : Docs) (table bytes : List ℕ) (types : List PortableType) : Type 0 where
   pub compared : IsComparedAs docs table bytes
   pub encodes : EncodesTypes types bytes
+
+-- these are the types by their paths, and the index, of the table as it is compared
+pub record IsSideOf (docs : Docs) (table : List ℕ) (side : Side) : Type 0 where
+  pub types : List PortableType
+  pub compared : IsComparedAs docs table side.named.bytes.now
+  pub named :
+      IsNamedTable types side.named.bytes.now side.named.paths
+      (map (λ row. row.items) side.named.ids.items)
+  pub indexed : IsIndexed side.named.bytes.now side.indexed
 
 -- one of two tables is not pruned to its ids: an id is reached that is no index
 abbrev pub IsNotPruned : (old old_ids new new_ids : List ℕ) → Type 0

@@ -1,20 +1,21 @@
 //! What changed between two tables, as lines.
-ghost use Rattle.std.specs.Prelude.{◌≡◌, ◌≢◌, ◌≤◌, ◌++◌, ◌⊎◌, ℕ, List, [], All, IfErr, IfOk};
-ghost use Rattle.std.specs.Prelude.{IsFalse, IsTrue, OnOk, codes, filter, length, option_map};
+ghost use Rattle.std.specs.Prelude.{◌≡◌, ◌≢◌, ◌++◌, ◌⊎◌, ℕ, List, [], All, IfErr, IfOk};
+ghost use Rattle.std.specs.Prelude.{IsFalse, IsTrue, OnOk, codes, filter, option_map};
 ghost use Rattle.std.specs.Prelude.{string_bytes};
 ghost use Rattle.scale_info_describe.specs.TypeNames.{Appends};
 ghost use Rattle.scale_info_diff.specs.TableChanges.{IsInputError};
 ghost use Rattle.scale_info_diff.specs.TypesByPath.{ids_of};
 ghost use Rattle.scale_info_diff.specs.declared.change.Change.TheVariants as changed;
+ghost use Rattle.scale_info_prune.specs.TableIndexes.{IsIndexed};
 ghost use Rattle.type_reader_io.specs.declared.command.Docs.{Docs as DocsValue};
 ghost use Rattle.type_reader_io.specs.declared.error.ReaderError.TheVariants as reader_error;
 ghost use Rattle.type_reader_run.specs.Differences.{AppendsChange, AreChangesBy, AreLines};
 ghost use Rattle.type_reader_run.specs.Differences.{AreLinesOf, IsDiffError, IsInEither};
-ghost use Rattle.type_reader_run.specs.Differences.{IsPathError, IsReferenceError, IsSide, is_of};
+ghost use Rattle.type_reader_run.specs.Differences.{IsPathError, IsReferenceError, IsSideOf, is_of};
 ghost use Rattle.type_reader_run.specs.Differences.{change_line, path_of, reason_text};
 ghost use Rattle.type_reader_run.specs.Tables.{IsOneTable};
 
-use crate::reason::{Side, is_at, reason_of, side_of};
+use crate::reason::{Side, compared_bytes, is_at, reason_of, side_of};
 use crate::selection::no_such_path;
 use crate::table::{Input, registry_of, table_in};
 use scale_info_collections::text::Text;
@@ -84,15 +85,14 @@ fn append_reasoned(out: &mut String, path: &Text, reason: &Option<String>) -> Re
 fn append_change(
     alloc: Global,
     out: &mut String,
-    old: &Side,
-    new: &Side,
+    old: &Side<'_>,
+    new: &Side<'_>,
     change: &Change,
 ) -> Result<(), AllocError>
-    requires few { length old.now.registry.types ≤ 4294967295 }
-    requires new_few { length new.now.registry.types ≤ 4294967295 }
+    requires old { (input : List ℕ) × IsIndexed input old.now.indexed }
+    requires new { (input : List ℕ) × IsIndexed input new.now.indexed }
     ensures { OnOk result ((docs : DocsValue) (table other : List ℕ)
-        → IsSide docs table old.now.bytes.items old.now.registry.types
-        → IsSide docs other new.now.bytes.items new.now.registry.types
+        → IsSideOf docs table old.now → IsSideOf docs other new.now
         → AppendsChange docs table other change.now
         (string_bytes out.old) (string_bytes out.new)) }
 {
@@ -109,16 +109,15 @@ fn append_change(
 /// The lines of the changes of these paths between two tables; of all, where there is no path.
 fn lines_of(
     alloc: Global,
-    old: &Side,
-    new: &Side,
+    old: &Side<'_>,
+    new: &Side<'_>,
     paths: &[Text],
     changes: &[Change],
 ) -> Result<Vec<u8>, AllocError>
-    requires few { length old.now.registry.types ≤ 4294967295 }
-    requires new_few { length new.now.registry.types ≤ 4294967295 }
+    requires old { (input : List ℕ) × IsIndexed input old.now.indexed }
+    requires new { (input : List ℕ) × IsIndexed input new.now.indexed }
     ensures { IfOk result (λ lines. (docs : DocsValue) (table other : List ℕ)
-        → IsSide docs table old.now.bytes.items old.now.registry.types
-        → IsSide docs other new.now.bytes.items new.now.registry.types
+        → IsSideOf docs table old.now → IsSideOf docs other new.now
         → AreLinesOf docs table other (filter (is_of paths.now) changes.now) lines.items) }
 {
     let mut out = String::new(alloc);
@@ -151,8 +150,10 @@ fn lines_by(
     if changes.is_empty() {
         return Ok(Vec::new(alloc));
     }
-    let side = side_of(alloc, comparison.docs, old)?;
-    let other = side_of(alloc, comparison.docs, new)?;
+    let old = compared_bytes(alloc, comparison.docs, old)?;
+    let new = compared_bytes(alloc, comparison.docs, new)?;
+    let side = side_of(alloc, &old)?;
+    let other = side_of(alloc, &new)?;
     Ok(lines_of(alloc, &side, &other, comparison.paths, changes)?)
 }
 

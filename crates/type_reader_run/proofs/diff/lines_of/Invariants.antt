@@ -1,12 +1,11 @@
 use Rattle.std.proofs.Common.{ℕ, List, drop, string_bytes}
 use Rattle.type_reader_io.specs.declared.command.Docs.{Docs}
 use Rattle.type_reader_run.proofs.Told.{IsSoFar}
-use Rattle.type_reader_run.specs.Differences.{IsSide}
+use Rattle.type_reader_run.specs.Differences.{IsSideOf}
 use Rattle.type_reader_run.proofs.diff.lines_of.Given as goal
 
 abbrev pub invariant-loop-change : goal.invariant-loop-change
 invariant-loop-change l =
     (docs : Docs) (table other : List ℕ)
-    → IsSide docs table l.old.bytes.items l.old.registry.types
-    → IsSide docs other l.new.bytes.items l.new.registry.types
+    → IsSideOf docs table l.old → IsSideOf docs other l.new
     → IsSoFar docs table other l.paths l.changes (drop l.change-index l.changes) (string_bytes l.out)
