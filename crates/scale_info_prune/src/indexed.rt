@@ -33,8 +33,8 @@ pub struct IndexedTable<'a> {
 impl<'a> IndexedTable<'a> {
     /// The index of the table that this input is.
     ///
-    /// Errors: `Decode(Malformed)`, where no prefix of the input is a table; `Trailing`, where bytes
-    /// come after it; `Memory`, where an allocation failed.
+    /// Errors: `Decode(Malformed)`, where no prefix of the input is a table; `Trailing`, where
+    /// bytes come after it; `Memory`, where an allocation failed.
     pub fn of(alloc: Global, input: &'a [u8]) -> Result<IndexedTable<'a>, PruneError>
         ensures ok { IfOk result (IsIndexed input.now) }
         ensures err { IfErr result (IsTableError input.now) }
@@ -59,8 +59,8 @@ impl<'a> IndexedTable<'a> {
         number_index(alloc, self.count, &self.index, ids)
     }
 
-    /// Prunes the table: appends the table of what the given ids reach, as [`append_pruned`] does of
-    /// the bytes.
+    /// Prunes the table: appends the table of what the given ids reach, as [`append_pruned`] does
+    /// of the bytes.
     ///
     /// Errors: `NoSuchType`, for the first given id that is no index; `Retain(Dangling)`, where an
     /// id is reached that is no index; `Memory`, where an allocation failed. On an Err the output

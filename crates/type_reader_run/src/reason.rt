@@ -3,7 +3,7 @@ ghost use Rattle.std.specs.Prelude.{◌≡◌, ℕ, List, IfErr, IfOk, map, opti
 ghost use Rattle.scale_info_diff.specs.NamedTables.{IsNamedTable};
 ghost use Rattle.scale_info_diff.specs.TypesByPath.{has_path};
 ghost use Rattle.scale_info_prune.specs.TableIndexes.{IsIndexed};
-ghost use Rattle.scale_info_types.specs.declared.ty.PortableType.{PortableType as PortableTypeValue};
+ghost use Rattle.scale_info_types.specs.declared.ty.PortableType.{PortableType as Entry};
 ghost use Rattle.type_reader_io.specs.declared.command.Docs.{Docs as DocsValue};
 ghost use Rattle.type_reader_io.specs.declared.error.ReaderError.TheVariants as reader_error;
 ghost use Rattle.type_reader_run.specs.Differences.{IsComparedAs, IsReason, IsSideOf};
@@ -53,7 +53,7 @@ pub fn compared_bytes(alloc: Global, docs: Docs, table: &[u8]) -> Result<Vec<u8>
 ///
 /// Errors: `Memory`, if an allocation failed.
 pub fn side_of(alloc: Global, bytes: &[u8]) -> Result<Side<'_>, ReaderError>
-    ensures named { IfOk result (λ side. (types : List PortableTypeValue)
+    ensures named { IfOk result (λ side. (types : List Entry)
         × IsNamedTable types side.named.bytes.now side.named.paths
         (map (λ row. row.items) side.named.ids.items)) }
     ensures bytes { IfOk result (λ side. side.named.bytes.now ≡ bytes.now) }
