@@ -23,7 +23,7 @@ pub record HasSelectionError (table : List ℕ) (texts : List (List ℕ)) (error
   pub encodes : EncodesTypes types table
   pub cause : IsSelectionError types texts error
 
--- the texts give types of the table, and this is said of them, of their ids and of the id
+-- the texts give types of the table, of which `Outside` says that their ids lead to this id
 pub record LeadOutside (Outside : List PortableType → List ℕ → ℕ → Type 0) (table : List ℕ)
     (texts : List (List ℕ)) (id : ℕ) : Type 0 where
   pub types : List PortableType
@@ -32,13 +32,15 @@ pub record LeadOutside (Outside : List PortableType → List ℕ → ℕ → Typ
   pub selected : AreSelected types texts ids
   pub outside : Outside types ids id
 
--- why nothing is made of ids that are all indices of a table: this is said of an id that is none
+-- why nothing is made of ids that are all indices of a table: they lead to an id that is none, as
+-- `Outside` says; an allocation may fail
 abbrev pub IsOutsideError : (Outside : ℕ → Type 0) → ReaderError → Type 0
 IsOutsideError Outside (errors.Dangling id) = Outside id
 IsOutsideError Outside errors.Memory = Unit {0}
 IsOutsideError Outside error = ⊥
 
--- why nothing is made of the types that the texts give: they give none, or as above
+-- why nothing is made of the types that the texts give: the texts give none, or their ids lead to
+-- an id that is no index, as `Outside` says; an allocation may fail
 abbrev pub IsTypesError : (Outside : List PortableType → List ℕ → ℕ → Type 0) → (table : List ℕ)
     → List (List ℕ) → ReaderError → Type 0
 IsTypesError Outside table texts (errors.NoSuchType id) =
