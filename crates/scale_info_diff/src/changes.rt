@@ -29,8 +29,8 @@ use std::alloc::{AllocError, Global};
 /// All paths of both tables are compared at once. Where they are not all the same, one pass over
 /// both tables finds the paths that have changed since contents or counts differ below them, and
 /// the others are compared at once again. That is linear in the tables. Only where a difference is
-/// left, which takes a type of one table that stands for two of the other, are the halves compared,
-/// down to single paths, each time with a pass over both tables.
+/// left, as where a type of one table stands for two of the other, are the halves compared, down to
+/// single paths, each time with a pass over both tables.
 ///
 /// Errors, of the old table before the new one: `Decode(Malformed)`, where no prefix of the input
 /// is a table; `Trailing`, where bytes come after it. Then `Retain(Dangling)`, where an entry of
