@@ -5,6 +5,7 @@ use Rattle.scale_info_grammar.specs.Ty.{EncodesTypes}
 use Rattle.scale_info_passes.specs.Entries.{AreAtOffsets, AreKeptEntries, AreStarts, reference_ids}
 use Rattle.scale_info_types.specs.Portable.{Id}
 use Rattle.scale_info_types.specs.declared.ty.PortableType.{PortableType}
+use Rattle.scale_info_walk.specs.Walks.{IsRoom}
 use Rattle.scale_info_prune.specs.declared.indexed.IndexedTable.{IndexedTable}
 
 -- the input encodes a table of so many entries, with nothing after it; in its body, which is what
@@ -22,7 +23,7 @@ pub record IsTableIndex (count : ℕ) (input body offsets starts references : Li
 abbrev pub IsIndexed : (input : List ℕ) → IndexedTable → Type 0
 IsIndexed input table =
     IsTableIndex table.count input table.body.now table.index.offsets.items
-    table.index.starts.items table.index.references.items
+    table.index.starts.items table.index.references.items × IsRoom table.count table.room
 
 -- the input begins with a table, and goes on
 pub record HasTrailing (input : List ℕ) : Type 0 where

@@ -1,8 +1,9 @@
 //! Tables that are read once, and pruned as often as one likes.
-ghost use Rattle.std.specs.Prelude.{◌≡◌, List, ℕ, IfOk, IfErr, OnOk, OnErr};
+ghost use Rattle.std.specs.Prelude.{◌≡◌, List, ℕ, Some, IfOk, IfErr, OnOk, OnErr};
 ghost use Rattle.scale_info_prune.specs.Prunes.{IsNumberedTable, IsPruneError, IsPrunedEncoding};
 ghost use Rattle.scale_info_prune.specs.Prunes.{IsTableError};
 ghost use Rattle.scale_info_prune.specs.TableIndexes.{IsIndexed};
+ghost use Rattle.scale_info_walk.specs.Walks.{IsRoom};
 
 use crate::prune::{PruneError, number_index};
 use crate::table_index::{append_kept, index_table};
@@ -12,14 +13,16 @@ use std::alloc::Global;
 
 /// A table's bytes, and where its entries are in them.
 ///
-/// Pruning a table reads all of it first. Here that is done once; then each pruning takes time and
-/// memory for what it keeps, and four bytes for each entry of the table.
+/// Pruning a table reads all of it first. Here that is done once; then each pruning takes time for
+/// what it keeps, and for four bytes of each entry, which [`append_pruned_again`] asks for once.
 ///
 /// ```text
-/// let table = IndexedTable::of(alloc, &bytes)?;
-/// table.append_pruned(alloc, &[0], &mut out)?;
-/// table.append_pruned(alloc, &[7, 9], &mut other)?;
+/// let mut table = IndexedTable::of(alloc, &bytes)?;
+/// table.append_pruned_again(alloc, &[0], &mut out)?;
+/// table.append_pruned_again(alloc, &[7, 9], &mut other)?;
 /// ```
+///
+/// [`append_pruned_again`]: IndexedTable::append_pruned_again
 #[derive(Drop)]
 pub struct IndexedTable<'a> {
     /// How many entries there are.
@@ -28,6 +31,8 @@ pub struct IndexedTable<'a> {
     pub body: &'a [u8],
     /// Where the entries are in them, and what they refer to.
     pub index: EntryIndex,
+    /// The last numbering of them, in whose room the next one is made.
+    pub room: Option<Renumbering>,
 }
 
 impl<'a> IndexedTable<'a> {
@@ -40,23 +45,35 @@ impl<'a> IndexedTable<'a> {
         ensures err { IfErr result (IsTableError input.now) }
     {
         let (count, body, index) = index_table(alloc, input)?;
-        Ok(IndexedTable { count, body, index })
+        Ok(IndexedTable {
+            count,
+            body,
+            index,
+            room: None,
+        })
     }
 
-    /// Numbers what the given ids reach.
+    /// Numbers what the given ids reach, in the room of an earlier numbering, if there is one.
     ///
     /// Errors: as those of [`append_pruned`].
     ///
     /// [`append_pruned`]: IndexedTable::append_pruned
-    pub(crate) fn number(&self, alloc: Global, ids: &[u32]) -> Result<Renumbering, PruneError>
-        requires { (input : List ℕ) × IsIndexed input self.now }
+    pub(crate) fn number(
+        &self,
+        alloc: Global,
+        ids: &[u32],
+        room: Option<Renumbering>,
+    ) -> Result<Renumbering, PruneError>
+        requires table { (input : List ℕ) × IsIndexed input self.now }
+        requires room { IsRoom self.now.count room }
         ensures ok { IfOk result (λ found. (input : List ℕ) → IsIndexed input self.now
             → IsNumberedTable input ids.now self.now.body.now self.now.index.offsets.items
             found.order.items found.numbers.items) }
+        ensures room { IfOk result (λ found. IsRoom self.now.count (Some found)) }
         ensures cause { IfErr result (λ error. (input : List ℕ) → IsIndexed input self.now
             → IsPruneError input ids.now error) }
     {
-        number_index(alloc, self.count, &self.index, ids)
+        number_index(alloc, self.count, &self.index, ids, room)
     }
 
     /// Prunes the table: appends the table of what the given ids reach, as [`append_pruned`] does
@@ -80,8 +97,36 @@ impl<'a> IndexedTable<'a> {
         ensures cause { IfErr result (λ error. (input : List ℕ) → IsIndexed input self.now
             → IsPruneError input ids.now error) }
     {
-        let found = self.number(alloc, ids)?;
+        let found = self.number(alloc, ids, None)?;
         append_kept(alloc, self.body, &self.index, &found, out)?;
+        Ok(())
+    }
+
+    /// Prunes the table as [`append_pruned`] does, in the room of the last such call: so each but
+    /// the first takes time for what is kept, now and by the last one, however many entries there
+    /// are.
+    ///
+    /// Errors: as those of [`append_pruned`].
+    ///
+    /// [`append_pruned`]: IndexedTable::append_pruned
+    pub fn append_pruned_again(
+        &mut self,
+        alloc: Global,
+        ids: &[u32],
+        out: &mut Vec<u8>,
+    ) -> Result<(), PruneError>
+        requires { (input : List ℕ) × IsIndexed input self.old }
+        ensures ok { OnOk result ((input : List ℕ) → IsIndexed input self.old → (order : List ℕ)
+            × IsPrunedEncoding input ids.now order out.old.items out.new.items) }
+        ensures err { OnErr result (out.new.items ≡ out.old.items) }
+        ensures cause { IfErr result (λ error. (input : List ℕ) → IsIndexed input self.old
+            → IsPruneError input ids.now error) }
+        ensures indexed { (input : List ℕ) → IsIndexed input self.old → IsIndexed input self.new }
+    {
+        let room = self.room.take();
+        let found = self.number(alloc, ids, room)?;
+        append_kept(alloc, self.body, &self.index, &found, out)?;
+        self.room = Some(found);
         Ok(())
     }
 }

@@ -5,6 +5,7 @@ ghost use Rattle.scale_info_prune.specs.Prunes.{HasNewIds, IsPruneError};
 ghost use Rattle.scale_info_prune.specs.Prunes.{IsNumberedFrom, IsPrunedEncoding};
 ghost use Rattle.scale_info_prune.specs.Prunes.{IsRootsNumberingError};
 ghost use Rattle.scale_info_prune.specs.declared.prune.PruneError.TheVariants as prune_error;
+ghost use Rattle.scale_info_walk.specs.Walks.{IsRoom};
 
 use crate::byte_references::ByteReferences;
 use crate::indexed::IndexedTable;
@@ -14,7 +15,7 @@ use scale_info_bytes::error::{DecodeError, EncodeError};
 use scale_info_collections::failure::AllocationFailure;
 use scale_info_passes::entries::EntryIndex;
 use scale_info_walk::numbers::map_of_numbers;
-use scale_info_walk::walk::{Renumbering, RetainError, number_references};
+use scale_info_walk::walk::{Renumbering, RetainError, number_references_in};
 use std::alloc::Global;
 use std::collections::BTreeMap;
 use thiserror::Error;
@@ -77,7 +78,7 @@ pub fn prune(
     ensures cause { IfErr result (IsPruneError input.now ids.now) }
 {
     let table = IndexedTable::of(alloc, input)?;
-    let found = table.number(alloc, ids)?;
+    let found = table.number(alloc, ids, None)?;
     let new_ids = map_of_numbers(alloc, &found.numbers)?;
     append_kept(alloc, table.body, &table.index, &found, out)?;
     Ok(new_ids)
@@ -102,14 +103,17 @@ pub fn append_pruned(
     table.append_pruned(alloc, ids, out)
 }
 
-/// Numbers what the given ids reach, over the index of a table.
+/// Numbers what the given ids reach, over the index of a table, in the room of an earlier numbering,
+/// if there is one.
 pub(crate) fn number_index(
     alloc: Global,
     count: u32,
     index: &EntryIndex,
     ids: &[u32],
+    room: Option<Renumbering>,
 ) -> Result<Renumbering, PruneError>
-    requires { length index.now.starts.items ≡ count }
+    requires count { length index.now.starts.items ≡ count }
+    requires room { IsRoom count room }
     ensures ok { IfOk result (λ found. IsIndexNumbering count index.now.starts.items
         index.now.references.items ids.now found.order.items found.numbers.items) }
     ensures err { IfErr result (IsIndexError count index.now.starts.items
@@ -120,19 +124,22 @@ pub(crate) fn number_index(
         Err(RootsError::NoSuchType(id)) => return Err(PruneError::NoSuchType(id)),
         Err(RootsError::Memory) => return Err(PruneError::Memory),
     };
-    match number_from(alloc, index, &roots) {
+    match number_from(alloc, index, &roots, room) {
         Ok(found) => Ok(found),
         Err(error) => Err(error),
     }
 }
 
-/// Numbers what the roots reach, in their order, over the index of a table.
+/// Numbers what the roots reach, in their order, over the index of a table, in the room of an
+/// earlier numbering, if there is one.
 pub(crate) fn number_from(
     alloc: Global,
     index: &EntryIndex,
     roots: &[u32],
+    room: Option<Renumbering>,
 ) -> Result<Renumbering, PruneError>
-    requires { length index.now.starts.items ≤ 4294967295 }
+    requires few { length index.now.starts.items ≤ 4294967295 }
+    requires room { IsRoom (length index.now.starts.items) room }
     ensures ok { IfOk result (λ found. IsNumberedFrom index.now.starts.items
         index.now.references.items roots.now found.order.items found.numbers.items) }
     ensures err { IfErr result (IsRootsNumberingError index.now.starts.items
@@ -142,7 +149,7 @@ pub(crate) fn number_from(
         starts: &index.starts,
         references: &index.references,
     };
-    match number_references(alloc, &source, roots) {
+    match number_references_in(alloc, &source, roots, room) {
         Ok(found) => Ok(found),
         Err(RetainError::Memory) => Err(PruneError::Memory),
         Err(RetainError::Dangling { id }) => Err(PruneError::Retain(RetainError::Dangling { id })),

@@ -2,27 +2,14 @@
 ghost use Rattle.std.specs.Prelude.{◌≡◌, ◌<◌, ◌⊎◌, ◌↔◌, ℕ, List, All, Contains, IsTrue};
 ghost use Rattle.std.specs.Prelude.{IfOk, IfErr, IfSome, IfNone, slice_index_or};
 ghost use Rattle.scale_info_numberings.specs.Tables.{ArePlaces};
-ghost use Rattle.scale_info_prune.specs.Roots.{IsNoSuchType};
 ghost use Rattle.scale_info_prune.specs.SameTypes.{IsRenumbered, IsRenumberingError, TellsMatch};
 ghost use Rattle.scale_info_walk.specs.Walks.{AreNumbers};
 
 use crate::prune::{PruneError, number_from};
+use crate::roots::first_outside;
 use crate::table_index::{append_kept, index_table};
 use scale_info_types::laws::shape_and_references;
 use std::alloc::{AllocError, Global};
-
-/// The first id that is no index of so many entries; None where each is one.
-fn first_outside(count: u32, ids: &[u32]) -> Option<u32>
-    ensures some { IfSome result (IsNoSuchType count ids.now) }
-    ensures none { IfNone result (All (λ id. id < count) ids.now) }
-{
-    for id in ids {
-        if *id >= count {
-            return Some(*id);
-        }
-    }
-    None
-}
 
 /// The number of an id by a dense list; the id itself past its end.
 fn number_of(numbers: &[u32], id: u32) -> u32
@@ -62,7 +49,7 @@ fn renumbered_from(
     if let Some(id) = first_outside(count, ids) {
         return Err(PruneError::NoSuchType(id));
     }
-    let found = number_from(alloc, &index, ids)?;
+    let found = number_from(alloc, &index, ids, None)?;
     let mut bytes = Vec::new(alloc);
     append_kept(alloc, body, &index, &found, &mut bytes)?;
     let new_ids = new_ids_of(alloc, &found.numbers, ids)?;

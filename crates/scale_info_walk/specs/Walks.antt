@@ -2,6 +2,8 @@
 use Rattle.std.specs.Prelude.{◌≡◌, ◌≢◌, ℕ, ◌+◌, ◌*◌, ◌^◌, ◌<◌, ◌≤◌, List, [], ◌∷◌, ◌++◌, Option}
 use Rattle.std.specs.Prelude.{Some, None, ◌⊎◌, ⊤, Contains, length, slice_get}
 use Rattle.scale_info_numberings.specs.Systems.{Entry, System, IsReachedPast, looks}
+use Rattle.scale_info_numberings.specs.Numberings.{IsNumbering}
+use Rattle.scale_info_walk.specs.declared.walk.Renumbering.{Renumbering}
 use Rattle.scale_info_walk.specs.declared.walk.RetainError.{RetainError}
 use Rattle.scale_info_walk.specs.declared.walk.RetainError.TheVariants.{Dangling, TooManyTypes}
 use Rattle.scale_info_walk.specs.declared.walk.RetainError.TheVariants.{Memory}
@@ -34,6 +36,21 @@ pub record IsWalk {Sh : Type 0} (S : System Sh ℕ) (count : ℕ) (order numbers
   pub few : count ≤ 4294967295
   pub counted : steps ≤ looks S order
   pub bounded : looks S order ≤ length order * 2 ^ 63
+
+-- an earlier numbering of so many entries, in whose room another can be made, if there is one
+abbrev pub IsRoom : (count : ℕ) → Option Renumbering → Type 0
+IsRoom count None = ⊤
+IsRoom count (Some found) =
+    AreNumbers found.order.items found.numbers.items × (length found.numbers.items ≡ count)
+    × (count ≤ 4294967295)
+
+-- a numbering of what the roots reach, with its dense list, and as many steps as there are
+-- references in what is reached
+pub record IsWalked {Sh : Type 0} (S : System Sh ℕ) (count : ℕ) (roots : List ℕ)
+    (found : Renumbering) : Type 0 where
+  pub numbering : IsNumbering S roots found.order.items
+  pub walk : IsWalk S count found.order.items found.numbers.items found.steps
+  pub steps : found.steps ≡ looks S found.order.items
 
 -- one look: the id stands in the order, and nothing changes; or it is added to the order, and its
 -- references come before those that are left

@@ -8,7 +8,8 @@ ghost use Rattle.scale_info_numberings.specs.Systems.{looks};
 ghost use Rattle.scale_info_numberings.specs.Numberings.{IsNumbering};
 ghost use Rattle.scale_info_numberings.specs.Extensions.{IsExtension};
 ghost use Rattle.scale_info_walk.specs.TypeSystems.{types_system};
-ghost use Rattle.scale_info_walk.specs.Walks.{AreNumbers, IsWalkError, IsWalk, IsLook};
+ghost use Rattle.scale_info_walk.specs.Walks.{AreNumbers, IsRoom, IsWalkError, IsWalk, IsWalked};
+ghost use Rattle.scale_info_walk.specs.Walks.{IsLook};
 ghost use Rattle.scale_info_walk.specs.declared.walk.RetainError.TheVariants as retain;
 
 use crate::graph::{References, TypeReferences};
@@ -163,7 +164,76 @@ pub fn number_references<R: References>(
     ensures cause { IfErr result
         (IsWalkError (R.system source.now) (R.count source.now) [] roots.now) }
 {
-    let mut found = no_numbers(alloc, source)?;
+    let found = no_numbers(alloc, source)?;
+    number_roots(alloc, source, roots, found)
+}
+
+/// Numbers what the roots reach, as [`number_references`] does, in the room of an earlier numbering
+/// of as many entries, if there is one: then it takes time for what is reached, now and earlier,
+/// however many entries there are.
+///
+/// Errors: as those of [`number`].
+pub fn number_references_in<R: References>(
+    alloc: Global,
+    source: &R,
+    roots: &[u32],
+    room: Option<Renumbering>,
+) -> Result<Renumbering, RetainError>
+    requires { IsRoom (R.count source.now) room }
+    ensures ok { IfOk result (IsWalked (R.system source.now) (R.count source.now) roots.now) }
+    ensures cause { IfErr result
+        (IsWalkError (R.system source.now) (R.count source.now) [] roots.now) }
+{
+    let none = match room {
+        Some(room) => cleared(room),
+        None => no_numbers(alloc, source)?,
+    };
+    number_roots(alloc, source, roots, none)
+}
+
+/// The numbering of no roots, in the room of an earlier numbering.
+fn cleared(room: Renumbering) -> Renumbering
+    requires { AreNumbers room.order.items room.numbers.items }
+    ensures order { result.order.items ≡ [] }
+    ensures dense { AreNumbers [] result.numbers.items }
+    ensures long { length result.numbers.items ≡ length room.numbers.items }
+    ensures steps { result.steps ≡ 0 }
+{
+    let Renumbering {
+        mut order,
+        mut numbers,
+        ..
+    } = room;
+    for id in &order {
+        let Some(number) = numbers.get_mut(*id as usize) else {
+            continue;
+        };
+        *number = NONE;
+    }
+    order.clear();
+    Renumbering {
+        order,
+        numbers,
+        steps: 0,
+    }
+}
+
+/// Numbers what the roots reach, where nothing is numbered yet.
+fn number_roots<R: References>(
+    alloc: Global,
+    source: &R,
+    roots: &[u32],
+    none: Renumbering,
+) -> Result<Renumbering, RetainError>
+    requires walk { IsWalk (R.system source.now) (R.count source.now)
+        none.order.items none.numbers.items none.steps }
+    requires order { none.order.items ≡ [] }
+    requires steps { none.steps ≡ 0 }
+    ensures ok { IfOk result (IsWalked (R.system source.now) (R.count source.now) roots.now) }
+    ensures cause { IfErr result
+        (IsWalkError (R.system source.now) (R.count source.now) [] roots.now) }
+{
+    let mut found = none;
     for root in roots {
         visit(alloc, source, *root, &mut found)?;
     }

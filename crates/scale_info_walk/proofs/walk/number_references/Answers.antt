@@ -1,8 +1,4 @@
-use Rattle.std.proofs.Common.{rules}
-use Rattle.std.proofs.Common.{arith, get_or}
-use Rattle.std.proofs.lemmas.List.Elements.{Contains-get_or}
 use Rattle.std.proofs.lemmas.Result.{err_from_is_err_and}
-use Rattle.scale_info_walk.proofs.Visiting.{roots_begin, roots_more, roots_all, cause_at_root}
 use Rattle.scale_info_walk.proofs.Visiting.{cause_before}
 use Rattle.scale_info_walk.proofs.walk.number_references.Goals as goal
 
@@ -12,35 +8,3 @@ returns-in_err-found-clause-cause g c =
     rw (p.1, p.2)
     (cause_before (g.R.References.system c.args.source.now) (g.R.References.count c.args.source.now) c.args.roots.now
     c.in_err-found.field-0.0 c.in_err-found.ensures.cause)
-
-pub loop-root-init : goal.loop-root-init
-loop-root-init g c =
-    roots_begin (g.R.References.system c.args.source.now) (g.R.References.count c.args.source.now) _ _ _
-    c.in_ok-found.ensures.order c.in_ok-found.ensures.walk c.in_ok-found.ensures.steps
-
-pub returns-in_err-visit-clause-cause : goal.returns-in_err-visit-clause-cause
-returns-in_err-visit-clause-cause g c =
-    let p = err_from_is_err_and c.from_residual-in_err-visit.result c.from_residual-in_err-visit.ensures.1 in
-    rw (p.1, p.2)
-    (cause_at_root (g.R.References.system c.args.source.now) (g.R.References.count c.args.source.now)
-    c.loop-root.found.order.items c.args.roots.now (get_or c.args.roots.now c.loop-root.root-index 0) c.in_err-visit.field-0.0
-    (Contains-get_or c.args.roots.now c.loop-root.root-index 0 c.loop-root-test.true) c.in_err-visit.ensures.cause)
-
-pub loop-root-preserved : goal.loop-root-preserved
-loop-root-preserved g c =
-    let counted = c.in_ok-visit.ensures.counted in
-    let steps = c.loop-root.invariant.2 in (
-      roots_more (g.R.References.system c.args.source.now) c.args.roots.now c.loop-root.found.order.items
-          c.visit.new.walk.order.items c.loop-root.root-index 0 c.loop-root-test.true c.loop-root.invariant.0
-          c.in_ok-visit.ensures.extends,
-      c.in_ok-visit.ensures.walk,
-      omega arith,
-    )
-
-pub returns-clause-numbering : goal.returns-clause-numbering
-returns-clause-numbering g c =
-    roots_all (g.R.References.system c.args.source.now) c.args.roots.now c.loop-root.found.order.items
-    c.loop-root.root-index c.loop-root-test.false c.loop-root.invariant.0
-
-pub returns-clause-steps : goal.returns-clause-steps
-returns-clause-steps g c = search rules

@@ -2,7 +2,7 @@ use Rattle.std.proofs.Common.{◌≡◌, [], take}
 use Rattle.scale_info_numberings.specs.Systems.{looks}
 use Rattle.scale_info_numberings.specs.Extensions.{IsExtension}
 use Rattle.scale_info_walk.specs.Walks.{IsWalk}
-use Rattle.scale_info_walk.proofs.walk.number_references.Given as goal
+use Rattle.scale_info_walk.proofs.walk.number_roots.Given as goal
 
 abbrev pub invariant-loop-root : goal.invariant-loop-root
 invariant-loop-root g l =
