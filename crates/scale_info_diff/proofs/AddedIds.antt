@@ -19,6 +19,7 @@ use Rattle.scale_info_segments.specs.TypePaths.{joined}
 use Rattle.scale_info_types.specs.Portable.{Text}
 use Rattle.scale_info_types.specs.declared.ty.PortableType.{PortableType}
 use Rattle.scale_info_walk.proofs.Visiting.{same_or_not, set_at, set_other}
+use Rattle.scale_info_diff.proofs.Pushed.{both_pushed_at, pushed_at}
 use Rattle.scale_info_diff.proofs.Reaches.{decided, not_in_none, refuted}
 use Rattle.scale_info_diff.specs.NamedTables.{IsNamedTable}
 use Rattle.scale_info_diff.specs.TypesByPath.{AddsId, AreIdsByPath, has_path, ids_of, is_among, is_new, new_paths, paths_of}
@@ -138,21 +139,6 @@ unlisted n known (e ∷ es) p new =
                 (seen_later known e es p new ((known ++ path ∷ []) ++ new_paths (known ++ path ∷ []) es)
                 (ap (λ ps. known ++ ps) is ∙ sym (append_assoc known (path ∷ []) (new_paths (known ++ path ∷ []) es))))
           ]
-    ]
-
--- ---- lists with one element changed or added
-
-pushed_at :
-    {A : Type 0} (xs : List A) (y : A) (k : ℕ) (x : A)
-    → slice_get (xs ++ y ∷ []) k ≡ Some x
-    → (slice_get xs k ≡ Some x) ⊎ ((k ≡ length xs) × (x ≡ y))
-pushed_at [] y zero x e = inr (refl, sym (same_Some y x e))
-pushed_at [] y (suc k) x e = absurd (none-some x e)
-pushed_at (z ∷ xs) y zero x e = inl e
-pushed_at (z ∷ xs) y (suc k) x e =
-    elim (pushed_at xs y k x e) [
-      | inl a ↦ inl a
-      | inr a ↦ inr (ap suc a.0, a.1)
     ]
 
 -- ---- what was gathered of types before es, the first of which has the index n
@@ -285,30 +271,16 @@ module _ (types : List PortableType) (n : ℕ) (e : PortableType) (es : List Por
                   ]
             ];
         known = λ k p row s h.
-            elim (pushed_at paths path k p s) [
+            elim (both_pushed_at paths rows path (n ∷ []) k p row (sym x.long) s h) [
               | inl a ↦
                   let isnt : p ≢ path =
-                  λ same. new (subst (λ z. Contains paths z) same (contains_at paths p k a)) in
-                  elim (pushed_at rows (n ∷ []) k row h) [
-                    | inl b ↦ ap (λ is. row ++ is) (sym (ids_other e es n p some isnt)) ∙ x.known k p row a b
-                    | inr b ↦
-                        let below = slice_get_within paths k p a in
-                        let long = x.long in
-                        let at = b.0 in
-                        absurd (omega arith)
-                  ]
+                  λ same. new (subst (λ z. Contains paths z) same (contains_at paths p k a.0)) in
+                  ap (λ is. row ++ is) (sym (ids_other e es n p some isnt))
+                  ∙ x.known k p row a.0 a.1
               | inr a ↦
-                  elim (pushed_at rows (n ∷ []) k row h) [
-                    | inl b ↦
-                        let below = slice_get_within rows k row b in
-                        let long = x.long in
-                        let at = a.0 in
-                        absurd (omega arith)
-                    | inr b ↦
-                        ap (λ r. r ++ indices_from (n + 1) (has_path p) es) b.1
-                        ∙ sym (ids_here e es n p some a.1)
-                        ∙ x.unknown p (λ c. new (subst (λ z. Contains paths z) a.1 c))
-                  ]
+                  ap (λ r. r ++ indices_from (n + 1) (has_path p) es) a.2
+                  ∙ sym (ids_here e es n p some a.1)
+                  ∙ x.unknown p (λ c. new (subst (λ z. Contains paths z) a.1 c))
             ];
         unknown = λ p isnew.
             let isnt : p ≢ path =

@@ -15,7 +15,7 @@ use Rattle.scale_info_prune.specs.declared.prune.PruneError.TheVariants.{Trailin
 use Rattle.scale_info_types.specs.declared.ty.PortableType.{PortableType}
 use Rattle.scale_info_walk.specs.TypeSystems.{entry_of}
 use Rattle.scale_info_diff.proofs.Encoded.{has_prefix, no_trailing, one_table}
-use Rattle.scale_info_diff.specs.Differences.{IsPrunedTo}
+use Rattle.scale_info_diff.specs.Differences.{IsPrunedTo, TellsOfPruned}
 
 -- what pruning appends to no bytes encodes the entries that it keeps
 pub kept_encoding :
@@ -60,3 +60,29 @@ pub kept_place :
 kept_place input given order kept entries places place entry new_ids x is found =
     let at = old_id input given order kept place entry x (subst (λ es. slice_get es place ≡ Some entry) is found) in
     (at.0, (new_ids at.0 place).1 at.1)
+
+-- what holds of two lists of entries holds of those that are the same
+pub of_same :
+    (P : List PortableType → List PortableType → Type 0)
+    {entries others read other_read : List PortableType}
+    → read ≡ entries → other_read ≡ others → P read other_read → P entries others
+of_same P {entries} {others} {read} {other_read} is are x =
+    subst (λ es. P es others) is (subst (λ es. P read es) are x)
+
+-- what is told of two tables that are pruned to their ids
+pub told :
+    {T : Type 0} {types_of : T → List PortableType} {old old_ids new new_ids : List ℕ}
+    {Told : (order other_order : List ℕ) → (kept other_kept : T) → Type 0} (kept other_kept : T)
+    (x : (order : List ℕ) × IsPrunedTo old old_ids order (types_of kept))
+    (y : (order : List ℕ) × IsPrunedTo new new_ids order (types_of other_kept))
+    → Told x.0 y.0 kept other_kept → TellsOfPruned types_of old old_ids new new_ids Told
+told kept other_kept x y tells =
+    record {
+      order = x.0;
+      other_order = y.0;
+      kept = kept;
+      other_kept = other_kept;
+      pruned = x.1;
+      other_pruned = y.1;
+      tells = tells;
+    }

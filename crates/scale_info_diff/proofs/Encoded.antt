@@ -126,14 +126,9 @@ module _ (types : List PortableType) where
 
 -- why a table is not numbered from indices
 abbrev IsDanglingError : List PortableType → PruneError → Type 0
-IsDanglingError types (Decode e) = ⊥
-IsDanglingError types Trailing = ⊥
-IsDanglingError types (NoSuchType id) = ⊥
 IsDanglingError types (Retain (retain.Dangling id)) = IsDangling types id
-IsDanglingError types (Retain retain.TooManyTypes) = ⊥
-IsDanglingError types (Retain retain.Memory) = ⊥
-IsDanglingError types (Encode e) = ⊥
 IsDanglingError types Memory = Unit {0}
+IsDanglingError types error = ⊥
 
 one_error :
     (types : List PortableType) (input ids : List ℕ)
@@ -165,14 +160,9 @@ one_error types input ids x within Memory h = h
 either_error :
     (types others : List PortableType) (e : PruneError)
     → IsDanglingError types e ⊎ IsDanglingError others e → IsCompareError types others e
-either_error types others (Decode e) h = elim h [ inl x ↦ x | inr x ↦ x ]
-either_error types others Trailing h = elim h [ inl x ↦ x | inr x ↦ x ]
-either_error types others (NoSuchType id) h = elim h [ inl x ↦ x | inr x ↦ x ]
 either_error types others (Retain (retain.Dangling id)) h = h
-either_error types others (Retain retain.TooManyTypes) h = elim h [ inl x ↦ x | inr x ↦ x ]
-either_error types others (Retain retain.Memory) h = elim h [ inl x ↦ x | inr x ↦ x ]
-either_error types others (Encode e) h = elim h [ inl x ↦ x | inr x ↦ x ]
 either_error types others Memory h = tt
+either_error types others e h = elim h [ inl x ↦ x | inr x ↦ x ]
 
 -- why tables are not compared by the ids that paths have in both
 pub compare_error :

@@ -9,5 +9,6 @@ pub mod Listed
 pub mod Marked
 pub mod MatchParts
 pub mod NeverPaired
+pub mod Pushed
 pub mod Reaches
 pub mod WithoutDocs

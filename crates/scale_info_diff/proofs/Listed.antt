@@ -100,25 +100,28 @@ none_added (id ∷ ids) path some = refl
 
 -- ---- the first rows and the others
 
--- what holds place by place holds so of the first ones
+-- what holds place by place holds so of the first ones, and of the others
+zip_parts :
+    {A B : Type 0} (P : A → B → Type 0) (n : ℕ) (xs : List A) (ys : List B)
+    → AllZip P xs ys → AllZip P (take n xs) (take n ys) × AllZip P (drop n xs) (drop n ys)
+zip_parts P zero xs ys z = (tt, z)
+zip_parts P (suc n) [] [] z = (tt, tt)
+zip_parts P (suc n) [] (y ∷ ys) z = absurd z
+zip_parts P (suc n) (x ∷ xs) [] z = absurd z
+zip_parts P (suc n) (x ∷ xs) (y ∷ ys) z =
+    let parts = zip_parts P n xs ys z.1 in ((z.0, parts.0), parts.1)
+
+-- of the first ones
 pub take_zip :
     {A B : Type 0} (P : A → B → Type 0) (n : ℕ) (xs : List A) (ys : List B)
     → AllZip P xs ys → AllZip P (take n xs) (take n ys)
-take_zip P zero xs ys z = tt
-take_zip P (suc n) [] [] z = tt
-take_zip P (suc n) [] (y ∷ ys) z = absurd z
-take_zip P (suc n) (x ∷ xs) [] z = absurd z
-take_zip P (suc n) (x ∷ xs) (y ∷ ys) z = (z.0, take_zip P n xs ys z.1)
+take_zip P n xs ys z = (zip_parts P n xs ys z).0
 
--- and of the others
+-- of the others
 pub drop_zip :
     {A B : Type 0} (P : A → B → Type 0) (n : ℕ) (xs : List A) (ys : List B)
     → AllZip P xs ys → AllZip P (drop n xs) (drop n ys)
-drop_zip P zero xs ys z = z
-drop_zip P (suc n) [] [] z = tt
-drop_zip P (suc n) [] (y ∷ ys) z = absurd z
-drop_zip P (suc n) (x ∷ xs) [] z = absurd z
-drop_zip P (suc n) (x ∷ xs) (y ∷ ys) z = drop_zip P n xs ys z.1
+drop_zip P n xs ys z = (zip_parts P n xs ys z).1
 
 module _ {V : Type 0} (row : V → List ℕ) (types : List PortableType) (n : ℕ) (paths : List Text) (vs : List V)
     (z : AreIdsByPath types paths (map row vs)) where

@@ -1,6 +1,6 @@
 -- Types of two tables that are in no match.
 use Rattle.std.proofs.Common.{◌≡◌, ◌≢◌, ◌∙◌, ◌++◌, ◌∷◌, ◌⊎◌, inl, inr, ℕ, zero, suc, Bool, true, List, [], All, Some, length, option_map}
-use Rattle.std.proofs.Common.{ap, append-nil, append_assoc, get_or, sym, subst, refl, slice_get, slice_set}
+use Rattle.std.proofs.Common.{ap, append_assoc, get_or, sym, subst, refl, slice_get, slice_set}
 use Rattle.std.proofs.lemmas.List.Elements.{All-contains, All-push}
 use Rattle.std.proofs.lemmas.Option.{none-some, same_Some}
 use Rattle.std.proofs.lemmas.Slice.Zip.{AllZip-long}
@@ -18,6 +18,7 @@ use Rattle.scale_info_types.specs.Shapes.{Shape, map_description, shape}
 use Rattle.scale_info_types.specs.declared.form.PortableForm.{PortableForm}
 use Rattle.scale_info_types.specs.declared.ty.PortableType.{PortableType}
 use Rattle.scale_info_walk.specs.TypeSystems.{entry_of, types_system}
+use Rattle.scale_info_diff.proofs.Pushed.{pushed_at}
 use Rattle.scale_info_diff.specs.Differing.{AreNeverPaired, AreDiffering, Grows, HasParts, HasReferences, HasChanged, HaveNoMatch, IsDiffering, IsEdge}
 use Rattle.scale_info_diff.specs.TypesByPath.{ids_of}
 
@@ -38,19 +39,6 @@ same_zeroed a b e =
     sym (of_shape a)
     ∙ ap (map_description {F = Unit {0}} {G = PortableForm} (λ _. symbol 0) (λ text. text)) e
     ∙ of_shape b
-
--- an element of a list with one more at the end
-in_more :
-    {A : Type 0} (xs : List A) (y : A) (i : ℕ) (x : A) → slice_get (xs ++ y ∷ []) i ≡ Some x
-    → (slice_get xs i ≡ Some x) ⊎ ((i ≡ length xs) × (y ≡ x))
-in_more [] y zero x e = inr (refl, same_Some y x e)
-in_more [] y (suc i) x e = absurd (none-some x e)
-in_more (z ∷ xs) y zero x e = inl e
-in_more (z ∷ xs) y (suc i) x e =
-    elim (in_more xs y i x e) [
-      | inl h ↦ inl h
-      | inr h ↦ inr (ap suc h.0, h.1)
-    ]
 
 -- an element of a list of which one is set
 where_set :
@@ -189,9 +177,9 @@ module _ (types others : List PortableType) (pairs : List (ℕ × ℕ)) where
       → after ≡ marks ++ mark ∷ [] → AreDiffering types others pairs after
   one_more_mark marks after mark are is e number f =
       let g : slice_get (marks ++ mark ∷ []) number ≡ Some true = subst (λ ms. slice_get ms number ≡ Some true) e f in
-      elim (in_more marks mark number true g) [
+      elim (pushed_at marks mark number true g) [
         | inl h ↦ are number h
-        | inr h ↦ subst (λ n. IsDiffering types others pairs n) (sym h.0) (is h.1)
+        | inr h ↦ subst (λ n. IsDiffering types others pairs n) (sym h.0) (is (sym h.1))
       ]
 
   -- one mark that is set

@@ -47,13 +47,7 @@ of_definition :
     (d : TypeDef) → definition_references (definition_without_docs d) ≡ definition_references d
 of_definition (def.Composite d) = of_fields d.fields
 of_definition (def.Variant d) = of_variants d.variants
-of_definition (def.Sequence d) = refl
-of_definition (def.Array d) = refl
-of_definition (def.Tuple d) = refl
-of_definition (def.Primitive p) = refl
-of_definition (def.Compact d) = refl
-of_definition (def.BitSequence d) = refl
-of_definition (def.Map d) = refl
+of_definition d = refl
 
 same_references : (d : Description) → ids_in (description_without_docs d) ≡ ids_in d
 same_references d =

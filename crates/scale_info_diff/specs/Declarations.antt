@@ -8,7 +8,7 @@ use Rattle.scale_info_describe.specs.TypeNames.{type_at}
 use Rattle.scale_info_segments.specs.TypePaths.{joined}
 use Rattle.scale_info_tables.specs.declared.portable.PortableRegistry.{PortableRegistry}
 use Rattle.scale_info_types.specs.Portable.{Text, Description}
-use Rattle.scale_info_diff.specs.Differences.{IsPrunedTo}
+use Rattle.scale_info_diff.specs.Differences.{TellsOfPruned}
 
 -- the line at a place; past the last one it is empty
 abbrev pub line_at : List Text → ℕ → Text
@@ -62,12 +62,8 @@ pub record IsDeclaredChange (table other : PortableRegistry) (text : Text) : Typ
 
 -- the tables that two inputs encode, each pruned to its ids, are first declared by other lines so;
 -- or they are by none
-pub record TellsDeclaredChange (old old_ids new new_ids : List ℕ)
-    (found : Option Text) : Type 0 where
-  pub order : List ℕ
-  pub other_order : List ℕ
-  pub table : PortableRegistry
-  pub other : PortableRegistry
-  pub pruned : IsPrunedTo old old_ids order table.types
-  pub other_pruned : IsPrunedTo new new_ids other_order other.types
-  pub tells : MatchOption found (AreDeclaredAlike table other) (IsDeclaredChange table other)
+abbrev pub TellsDeclaredChange : (old old_ids new new_ids : List ℕ) → Option Text → Type 0
+TellsDeclaredChange old old_ids new new_ids found =
+    TellsOfPruned (λ (table : PortableRegistry). table.types) old old_ids new new_ids
+    (λ order other_order table other.
+    MatchOption found (AreDeclaredAlike table other) (IsDeclaredChange table other))

@@ -38,16 +38,24 @@ pub record IsFirstDifference (order other_order : List ℕ) (entries others : Li
   pub is : slice_get order place ≡ Some id
   pub other_is : slice_get other_order place ≡ Some other_id
 
--- the tables that two inputs encode, each pruned to its ids, differ first at these old ids; or they
--- differ at no place that both have
-pub record TellsDifference (old old_ids new new_ids : List ℕ)
-    (found : Option (ℕ × ℕ)) : Type 0 where
+-- two inputs encode tables, of which this is told, each pruned to its ids: of the old ids in their
+-- orders, and of what is kept
+pub record TellsOfPruned {T : Type 0} (types_of : T → List PortableType)
+    (old old_ids new new_ids : List ℕ)
+    (Told : (order other_order : List ℕ) → (kept other_kept : T) → Type 0) : Type 0 where
   pub order : List ℕ
   pub other_order : List ℕ
-  pub entries : List PortableType
-  pub others : List PortableType
-  pub pruned : IsPrunedTo old old_ids order entries
-  pub other_pruned : IsPrunedTo new new_ids other_order others
-  pub tells :
-      MatchOption found (AgreeThroughout entries others)
-      (λ ids. IsFirstDifference order other_order entries others ids.0 ids.1)
+  pub kept : T
+  pub other_kept : T
+  pub pruned : IsPrunedTo old old_ids order (types_of kept)
+  pub other_pruned : IsPrunedTo new new_ids other_order (types_of other_kept)
+  pub tells : Told order other_order kept other_kept
+
+-- the tables that two inputs encode, each pruned to its ids, differ first at these old ids; or they
+-- differ at no place that both have
+abbrev pub TellsDifference : (old old_ids new new_ids : List ℕ) → Option (ℕ × ℕ) → Type 0
+TellsDifference old old_ids new new_ids found =
+    TellsOfPruned (λ entries. entries) old old_ids new new_ids
+    (λ order other_order entries others.
+    MatchOption found (AgreeThroughout entries others)
+    (λ ids. IsFirstDifference order other_order entries others ids.0 ids.1))

@@ -1,5 +1,5 @@
 -- Types of two tables that no match takes to each other.
-use Rattle.std.specs.Prelude.{◌≡◌, ◌≢◌, ◌++◌, ℕ, List, [], ◌∷◌, Bool, true, false, Some}
+use Rattle.std.specs.Prelude.{◌≡◌, ◌≢◌, ◌++◌, ℕ, List, [], ◌∷◌, All, Bool, true, false, Some}
 use Rattle.std.specs.Prelude.{slice_get}
 use Rattle.std.specs.List.{AllZip}
 use Rattle.scale_info_grammar.specs.Ty.{EncodesDescription}
@@ -52,6 +52,15 @@ IsEdge types others pairs edge =
     (pair child : ℕ × ℕ) × (slice_get pairs edge.0 ≡ Some pair)
     × (slice_get pairs edge.1 ≡ Some child)
     × (AreNeverPaired types others child.0 child.1 → AreNeverPaired types others pair.0 pair.1)
+
+-- where all of these are edges, and each pair that has a mark before is of types that are never
+-- paired, so is each that has one after
+abbrev pub StayDiffering : List (ℕ × ℕ) → (before after : List Bool) → Type 0
+StayDiffering edges before after =
+    (types others : List PortableType) (pairs : List (ℕ × ℕ))
+    → All (IsEdge types others pairs) edges
+    → AreDiffering types others pairs before
+    → AreDiffering types others pairs after
 
 -- each offset is that of the type with the same index, in the bytes; and each number is 0
 pub record AreEntriesOf (types : List PortableType) (body offsets zeros : List ℕ) : Type 0 where

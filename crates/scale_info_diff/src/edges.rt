@@ -1,6 +1,6 @@
 //! Edges between pairs of types: which pair refers to which.
-ghost use Rattle.std.specs.Prelude.{All, List, OnOk, ℕ};
-ghost use Rattle.scale_info_diff.specs.Differing.{AreDiffering, IsEdge};
+ghost use Rattle.std.specs.Prelude.{List, OnOk, ℕ};
+ghost use Rattle.scale_info_diff.specs.Differing.{AreDiffering, IsEdge, StayDiffering};
 ghost use Rattle.scale_info_types.specs.declared.ty.PortableType.{PortableType};
 
 use std::alloc::{AllocError, Global};
@@ -44,10 +44,7 @@ pub(crate) fn spread(
     edges: &[(usize, usize)],
     marks: &mut Vec<bool>,
 ) -> Result<(), AllocError>
-    ensures { OnOk result ((types others : List PortableType) (pairs : List (ℕ × ℕ))
-        → All (IsEdge types others pairs) edges.now
-        → AreDiffering types others pairs marks.old.items
-        → AreDiffering types others pairs marks.new.items) }
+    ensures { OnOk result (StayDiffering edges.now marks.old.items marks.new.items) }
 {
     let chains = chains_of(alloc, edges, marks.len())?;
     let mut left = marked(alloc, marks)?;
@@ -84,10 +81,7 @@ fn mark_before(
     marks: &mut Vec<bool>,
     left: &mut Vec<usize>,
 ) -> Result<(), AllocError>
-    ensures { OnOk result ((types others : List PortableType) (pairs : List (ℕ × ℕ))
-        → All (IsEdge types others pairs) edges.now
-        → AreDiffering types others pairs marks.old.items
-        → AreDiffering types others pairs marks.new.items) }
+    ensures { OnOk result (StayDiffering edges.now marks.old.items marks.new.items) }
 {
     let Some(last) = chains.last.get(number) else {
         return Ok(());

@@ -1,14 +1,18 @@
 -- Parts, lists and pairs that are written again with something changed.
 use Rattle.std.proofs.Common.{◌≡◌, ℕ, ◌+◌, List, [], ◌∷◌, ◌++◌, length, map, refl, sym, ap, subst}
-use Rattle.std.proofs.Common.{◌∙◌, arith, append_assoc}
+use Rattle.std.proofs.Common.{◌∙◌, arith, append_assoc, Result}
 use Rattle.std.proofs.lemmas.List.{append-nil, length-append, length-map, map-append}
-use Rattle.scale_info_bytes.specs.Encodings.{AppendsEncoding, HasPrefix, IsPrefix}
+use Rattle.std.specs.Prelude.{IfErr}
+use Rattle.scale_info_bytes.specs.declared.error.DecodeError.{DecodeError}
+use Rattle.scale_info_bytes.specs.Encodings.{AppendsEncoding, HasNoPrefix, HasPrefix, IfMalformed}
+use Rattle.scale_info_bytes.specs.Encodings.{IsPrefix}
 use Rattle.scale_info_bytes.specs.Integers.{EncodesCompact, in_one}
 use Rattle.scale_info_bytes.specs.PartLaws.{concatenation}
 use Rattle.scale_info_bytes.specs.Parts.{EncodesList, EncodesPair}
 use Rattle.scale_info_bytes.proofs.Lists.{prefix_list}
+use Rattle.scale_info_bytes.proofs.Results.{malformed_in}
 use Rattle.scale_info_bytes.proofs.Steps.{appends_both, appends_item, appends_pair, prefix_item}
-use Rattle.scale_info_bytes.proofs.Steps.{prefix_map, prefix_pair}
+use Rattle.scale_info_bytes.proofs.Steps.{no_prefix_through, prefix_map, prefix_pair}
 use Rattle.scale_info_passes.specs.Pieces.{HasSomePrefix}
 use Rattle.scale_info_docs.specs.Changes.{AppendsChanged, AppendsChangedItems}
 
@@ -83,6 +87,13 @@ made {A} {B} {S} {R} {f} {g} {a} {c} {old} {now} of_parts encodes same p = recor
       subst (λ v. AppendsEncoding (R v) old now) (same p.value)
       (appends_map (encodes (f p.value)) p.appends);
 }
+
+-- where no prefix is the parts of a value, none is the value
+pub no_parts :
+    {A B X : Type 0} (S : B → List ℕ → Type 0) (input : List ℕ) (r : Result X DecodeError)
+    (parts : A → B) → IfErr r (IfMalformed (HasNoPrefix S input))
+    → IfErr r (IfMalformed (HasNoPrefix (λ v b. S (parts v) b) input))
+no_parts S input r parts = malformed_in r (λ n. no_prefix_through parts n)
 
 -- lines of docs are read, and no line is written
 pub no_docs :

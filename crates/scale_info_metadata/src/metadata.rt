@@ -69,13 +69,7 @@ fn after_word_in_string(input: &[u8]) -> Option<&[u8]>
     ensures some { IfSome result (λ after. EncodesBytes (word ++ after.now) input.now) }
     ensures none { IfNone result ((after : List ℕ) → EncodesBytes (word ++ after) input.now → ⊥) }
 {
-    match bytes_of_string(input) {
-        Some(bytes) => match after_word(bytes) {
-            Some(after) => Some(after),
-            None => None,
-        },
-        None => None,
-    }
+    after_word(bytes_of_string(input)?)
 }
 
 /// What comes after the byte of an option that has a value; None where there is no such byte.
@@ -95,13 +89,7 @@ fn after_word_in_option(input: &[u8]) -> Option<&[u8]>
     ensures none { IfNone result
         ((after : List ℕ) → EncodesSomeBytes (word ++ after) input.now → ⊥) }
 {
-    match after_some(input) {
-        Some(string) => match after_word_in_string(string) {
-            Some(after) => Some(after),
-            None => None,
-        },
-        None => None,
-    }
+    after_word_in_string(after_some(input)?)
 }
 
 /// What comes after the word `meta` in metadata: alone, in a byte string, or in an option of one.

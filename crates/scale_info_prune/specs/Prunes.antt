@@ -47,17 +47,22 @@ pub record HasDangling (input given : List ℕ) (id : ℕ) : Type 0 where
   pub reached : IsReached (types_system types) roots id
   pub outside : length types ≤ id
 
+-- why the input is not numbered from the given ids, where `Outside` says which id is reached that
+-- is no index
+abbrev pub IsErrorFrom : (input given : List ℕ) → (Outside : ℕ → Type 0) → PruneError → Type 0
+IsErrorFrom input given Outside (Decode decode.Malformed) = HasNoPrefix EncodesTypes input
+IsErrorFrom input given Outside (Decode decode.Memory) = ⊥
+IsErrorFrom input given Outside Trailing = HasTrailing input
+IsErrorFrom input given Outside (NoSuchType id) = HasNoSuchType input given id
+IsErrorFrom input given Outside (Retain (retain.Dangling id)) = Outside id
+IsErrorFrom input given Outside (Retain retain.TooManyTypes) = ⊥
+IsErrorFrom input given Outside (Retain retain.Memory) = ⊥
+IsErrorFrom input given Outside (Encode e) = ⊥
+IsErrorFrom input given Outside Memory = Unit {0}
+
 -- why the input is not pruned to the given ids
 abbrev pub IsPruneError : List ℕ → List ℕ → PruneError → Type 0
-IsPruneError input given (Decode decode.Malformed) = HasNoPrefix EncodesTypes input
-IsPruneError input given (Decode decode.Memory) = ⊥
-IsPruneError input given Trailing = HasTrailing input
-IsPruneError input given (NoSuchType id) = HasNoSuchType input given id
-IsPruneError input given (Retain (retain.Dangling id)) = HasDangling input given id
-IsPruneError input given (Retain retain.TooManyTypes) = ⊥
-IsPruneError input given (Retain retain.Memory) = ⊥
-IsPruneError input given (Encode e) = ⊥
-IsPruneError input given Memory = Unit {0}
+IsPruneError input given error = IsErrorFrom input given (HasDangling input given) error
 
 -- new is old followed by an encoding of the table of the numbering, in this order, of the table
 -- that the input encodes, from the given ids in ascending order, each once

@@ -1,7 +1,5 @@
 -- Types of two tables, compared.
 use Rattle.std.specs.Prelude.{◌≡◌, ◌↔◌, ◌≤◌, ℕ, List, Some, Bool, IsTrue, length, map, slice_get}
-use Rattle.scale_info_bytes.specs.Encodings.{HasNoPrefix}
-use Rattle.scale_info_bytes.specs.declared.error.DecodeError.TheVariants as decode
 use Rattle.scale_info_grammar.specs.Ty.{EncodesTypes}
 use Rattle.scale_info_numberings.specs.Matches.{IsMatch}
 use Rattle.scale_info_numberings.specs.Numberings.{IsNumbering}
@@ -9,13 +7,8 @@ use Rattle.scale_info_numberings.specs.Systems.{IsReached}
 use Rattle.scale_info_numberings.specs.Tables.{ArePlaces, IsTable}
 use Rattle.scale_info_types.specs.declared.ty.PortableType.{PortableType}
 use Rattle.scale_info_walk.specs.TypeSystems.{entry_of, types_system}
-use Rattle.scale_info_walk.specs.declared.walk.RetainError.TheVariants as retain
-use Rattle.scale_info_prune.specs.Prunes.{HasNoSuchType}
-use Rattle.scale_info_prune.specs.TableIndexes.{HasTrailing}
+use Rattle.scale_info_prune.specs.Prunes.{IsErrorFrom}
 use Rattle.scale_info_prune.specs.declared.prune.PruneError.{PruneError}
-use Rattle.scale_info_prune.specs.declared.prune.PruneError.TheVariants.{Decode, Trailing}
-use Rattle.scale_info_prune.specs.declared.prune.PruneError.TheVariants.{NoSuchType, Retain}
-use Rattle.scale_info_prune.specs.declared.prune.PruneError.TheVariants.{Encode, Memory}
 
 -- the bytes encode the table of the numbering, from these ids in their order, of the table that the
 -- input encodes; and these are the new ids of the given ones
@@ -39,15 +32,7 @@ pub record ReachesOutside (input ids : List ℕ) (id : ℕ) : Type 0 where
 
 -- why the input is not numbered from the ids
 abbrev pub IsRenumberingError : List ℕ → List ℕ → PruneError → Type 0
-IsRenumberingError input ids (Decode decode.Malformed) = HasNoPrefix EncodesTypes input
-IsRenumberingError input ids (Decode decode.Memory) = ⊥
-IsRenumberingError input ids Trailing = HasTrailing input
-IsRenumberingError input ids (NoSuchType id) = HasNoSuchType input ids id
-IsRenumberingError input ids (Retain (retain.Dangling id)) = ReachesOutside input ids id
-IsRenumberingError input ids (Retain retain.TooManyTypes) = ⊥
-IsRenumberingError input ids (Retain retain.Memory) = ⊥
-IsRenumberingError input ids (Encode e) = ⊥
-IsRenumberingError input ids Memory = Unit {0}
+IsRenumberingError input ids error = IsErrorFrom input ids (ReachesOutside input ids) error
 
 -- whether a match takes what the ids reach in the table that the first input encodes to what the
 -- others reach in that of the second, one to one and in order

@@ -14,7 +14,7 @@ use Rattle.scale_info_numberings.specs.Numberings.{AreDistinct, IsNumbering}
 use Rattle.scale_info_types.specs.KeptEntries.{kept_entry}
 use Rattle.scale_info_types.specs.Portable.{Id}
 use Rattle.scale_info_types.specs.declared.ty.PortableType.{PortableType}
-use Rattle.scale_info_walk.proofs.Visiting.{set_other}
+use Rattle.scale_info_walk.proofs.Visiting.{numbers_long, set_other}
 use Rattle.scale_info_walk.proofs.KeptEntries.{Agrees, kept_table, kept_ids}
 use Rattle.scale_info_walk.specs.Kept.{AreKept}
 use Rattle.scale_info_tables.specs.Pruned.{IsPruned}
@@ -80,6 +80,12 @@ others_stay old all order k v x j out =
     set_other all k j v (λ e. out (contains_at (order ++ k ∷ []) j (length order) (at_seam order [] k ∙ ap Some (sym e))))
     ∙ x j
     (λ c. let p = place_of order j c in out (contains_at (order ++ k ∷ []) j p.0 (at_left order (k ∷ []) p.0 j p.1)))
+
+-- no more indices are in an order than its dense list has numbers
+pub order_few :
+    (order numbers : List ℕ) {count : ℕ} → AreNumbers order numbers → length numbers ≡ count
+    → count ≤ 4294967295 → length order ≤ 4294967295
+order_few order numbers dense long few = omega (arith, numbers_long order numbers dense, long, few)
 
 -- the numbers that a dense list has
 pub numbers_agree : (numbers : List ℕ) → Agrees numbers (number_of numbers)

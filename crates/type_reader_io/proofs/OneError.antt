@@ -85,16 +85,7 @@ signs_of error = record {
 shown_before :
     (error : ReaderError) (rest : List ℕ) → signs (line_of error ++ rest) ≡ signs_of error
 shown_before errors.Malformed rest = refl
-shown_before errors.TrailingBytes rest = refl
-shown_before (errors.Version version) rest = refl
-shown_before (errors.NoSuchType id) rest = refl
-shown_before (errors.NoSuchPath path) rest = refl
-shown_before (errors.SharedPath path) rest = refl
-shown_before (errors.NoValue fault) rest = refl
-shown_before (errors.Dangling id) rest = refl
-shown_before errors.Memory rest = refl
-shown_before errors.Input rest = refl
-shown_before errors.Output rest = refl
+shown_before error rest = refl
 
 shown : (error : ReaderError) → signs (line_of error) ≡ signs_of error
 shown error = ap signs (sym (append-nil (line_of error))) ∙ shown_before error []
@@ -155,16 +146,7 @@ made_again :
     (error : ReaderError)
     → made_of (kind_of error) (number_of error) (path_of error) (fault_of error) ≡ error
 made_again errors.Malformed = refl
-made_again errors.TrailingBytes = refl
-made_again (errors.Version version) = refl
-made_again (errors.NoSuchType id) = refl
-made_again (errors.NoSuchPath path) = refl
-made_again (errors.SharedPath path) = refl
-made_again (errors.NoValue fault) = refl
-made_again (errors.Dangling id) = refl
-made_again errors.Memory = refl
-made_again errors.Input = refl
-made_again errors.Output = refl
+made_again error = refl
 
 -- an error of this kind
 of_kind :
@@ -235,13 +217,7 @@ fault_at n =
 
 fault_places : (fault : ValueFault) (rest : List ℕ) → fault_at (fault_mark (fault_text fault ++ rest)) ≡ fault
 fault_places faults.NoDigits rest = refl
-fault_places faults.NoJson rest = refl
-fault_places faults.NoSuchType rest = refl
-fault_places faults.Unsupported rest = refl
-fault_places faults.TooDeep rest = refl
-fault_places faults.Malformed rest = refl
-fault_places faults.TrailingBytes rest = refl
-fault_places faults.Mismatch rest = refl
+fault_places fault rest = refl
 
 same_fault :
     (a b : ValueFault) (rest : List ℕ)

@@ -1,5 +1,6 @@
 -- Commands, and the arguments that name them. A text is the list of its bytes.
 use Rattle.std.specs.Prelude.{◌≡◌, ◌≢◌, ℕ, List, [], ◌∷◌, codes}
+use Rattle.type_table_io.specs.Commands.{HasCommandBy}
 use Rattle.type_reader_io.specs.declared.command.Command.{Command}
 use Rattle.type_reader_io.specs.declared.command.Command.TheVariants as commands
 use Rattle.type_reader_io.specs.declared.command.Comparison.{Comparison}
@@ -83,10 +84,8 @@ pub record Names (arguments : List (List ℕ)) (command : Command) : Type 0 wher
   pub is_of_word : IsOfWord word table more command
 
 -- the arguments name a command, and the fact holds of it
-pub record HasCommand (arguments : List (List ℕ)) (P : Command → Type 0) : Type 0 where
-  pub command : Command
-  pub names : Names arguments command
-  pub holds : P command
+abbrev pub HasCommand : List (List ℕ) → (Command → Type 0) → Type 0
+HasCommand arguments P = HasCommandBy Names arguments P
 
 -- the arguments name a command
 abbrev pub IsCommand : List (List ℕ) → Type 0

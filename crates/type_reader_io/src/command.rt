@@ -101,26 +101,17 @@ fn word_of(text: &str) -> Option<Word>
     ensures some { IfSome result (λ word. text.now ≡ word_of word) }
     ensures none { IfNone result ((word : WordValue) → text.now ≡ word_of word → ⊥) }
 {
-    if text == "table" {
-        Some(Word::Table)
-    } else if text == "strip" {
-        Some(Word::Strip)
-    } else if text == "list" {
-        Some(Word::List)
-    } else if text == "find" {
-        Some(Word::Find)
-    } else if text == "prune" {
-        Some(Word::Prune)
-    } else if text == "graph" {
-        Some(Word::Graph)
-    } else if text == "diff" {
-        Some(Word::Diff)
-    } else if text == "value" {
-        Some(Word::Value)
-    } else if text == "encode" {
-        Some(Word::Encode)
-    } else {
-        None
+    match text {
+        "table" => Some(Word::Table),
+        "strip" => Some(Word::Strip),
+        "list" => Some(Word::List),
+        "find" => Some(Word::Find),
+        "prune" => Some(Word::Prune),
+        "graph" => Some(Word::Graph),
+        "diff" => Some(Word::Diff),
+        "value" => Some(Word::Value),
+        "encode" => Some(Word::Encode),
+        _ => None,
     }
 }
 

@@ -22,11 +22,16 @@ given_ids Check = []
 given_ids (Prune ids) = map id_in ids.now
 given_ids Json = []
 
--- the arguments name a command, and the fact holds of it
-pub record HasCommand (arguments : List (List ℕ)) (P : Command → Type 0) : Type 0 where
-  pub command : Command
+-- the arguments name a command, where `Names` says which they name, and the fact holds of it
+pub record HasCommandBy {C : Type 0} (Names : List (List ℕ) → C → Type 0)
+    (arguments : List (List ℕ)) (P : C → Type 0) : Type 0 where
+  pub command : C
   pub names : Names arguments command
   pub holds : P command
+
+-- the arguments name a command, and the fact holds of it
+abbrev pub HasCommand : List (List ℕ) → (Command → Type 0) → Type 0
+HasCommand arguments P = HasCommandBy Names arguments P
 
 -- the arguments name a command
 abbrev pub IsCommand : List (List ℕ) → Type 0

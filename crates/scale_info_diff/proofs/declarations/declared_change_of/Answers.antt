@@ -1,5 +1,6 @@
 use Rattle.std.proofs.Common.{inl, inr}
 use Rattle.std.proofs.lemmas.Result.{err_from_is_err_and}
+use Rattle.scale_info_diff.proofs.Differences.{told}
 use Rattle.scale_info_diff.proofs.Encoded.{few_types}
 use Rattle.scale_info_diff.proofs.declarations.declared_change_of.Goals as goal
 
@@ -25,14 +26,5 @@ change_between-requires-clause-other_few c =
 
 pub returns-clause-ok : goal.returns-clause-ok
 returns-clause-ok c = λ input other x y.
-    let pruned = c.in_ok-table.ensures.ok input x in
-    let other_pruned = c.in_ok-other.ensures.ok other y in
-    record {
-      order = pruned.0;
-      other_order = other_pruned.0;
-      table = c.in_ok-table.table;
-      other = c.in_ok-other.other;
-      pruned = pruned.1;
-      other_pruned = other_pruned.1;
-      tells = c.in_ok-change_between.ensures;
-    }
+    told c.in_ok-table.table c.in_ok-other.other (c.in_ok-table.ensures.ok input x)
+    (c.in_ok-other.ensures.ok other y) c.in_ok-change_between.ensures

@@ -1,3 +1,4 @@
+use Rattle.scale_info_diff.proofs.Differences.{told}
 use Rattle.scale_info_diff.proofs.Encoded.{few_types}
 use Rattle.scale_info_diff.proofs.declarations.first_declared_change.Goals as goal
 
@@ -13,14 +14,6 @@ change_between-requires-clause-other_few c =
 
 pub returns-clause-ok : goal.returns-clause-ok
 returns-clause-ok c =
-    let pruned = c.in_ok-table.ensures.ok c.args.old.now c.in_ok-old.ensures.ok in
-    let other_pruned = c.in_ok-other.ensures.ok c.args.new.now c.in_ok-new.ensures.ok in
-    record {
-      order = pruned.0;
-      other_order = other_pruned.0;
-      table = c.in_ok-table.table;
-      other = c.in_ok-other.other;
-      pruned = pruned.1;
-      other_pruned = other_pruned.1;
-      tells = c.in_ok-change_between.ensures;
-    }
+    told c.in_ok-table.table c.in_ok-other.other
+    (c.in_ok-table.ensures.ok c.args.old.now c.in_ok-old.ensures.ok)
+    (c.in_ok-other.ensures.ok c.args.new.now c.in_ok-new.ensures.ok) c.in_ok-change_between.ensures

@@ -1,6 +1,4 @@
-use Rattle.std.proofs.Common.{List, subst}
-use Rattle.scale_info_types.specs.declared.ty.PortableType.{PortableType}
-use Rattle.scale_info_diff.proofs.Differences.{kept_place}
+use Rattle.scale_info_diff.proofs.Differences.{kept_place, of_same, told}
 use Rattle.scale_info_diff.specs.Differences.{AgreeThroughout, IsFirstPlace}
 use Rattle.scale_info_diff.proofs.difference.first_difference.Goals as goal
 
@@ -8,18 +6,8 @@ pub returns-in_default-clause-ok : goal.returns-in_default-clause-ok
 returns-in_default-clause-ok c =
     let x = c.in_ok-table.ensures.ok in
     let y = c.in_ok-other_table.ensures.ok in
-    record {
-      order = x.0;
-      other_order = y.0;
-      entries = c.in_ok-table.table.types;
-      others = c.in_ok-other_table.other_table.types;
-      pruned = x.2;
-      other_pruned = y.2;
-      tells =
-          subst (λ (es : List PortableType). AgreeThroughout es c.in_ok-other_table.other_table.types) c.types.ensures
-          (subst (λ (es : List PortableType). AgreeThroughout c.types.result.now es) c.types-2.ensures
-          c.in_default.ensures.none);
-    }
+    told c.in_ok-table.table.types c.in_ok-other_table.other_table.types (x.0, x.2) (y.0, y.2)
+    (of_same AgreeThroughout c.types.ensures c.types-2.ensures c.in_default.ensures.none)
 
 pub id_at-requires : goal.id_at-requires
 id_at-requires c =
@@ -39,21 +27,12 @@ pub returns-clause-ok : goal.returns-clause-ok
 returns-clause-ok c =
     let x = c.in_ok-table.ensures.ok in
     let y = c.in_ok-other_table.ensures.ok in
-    record {
-      order = x.0;
-      other_order = y.0;
-      entries = c.in_ok-table.table.types;
-      others = c.in_ok-other_table.other_table.types;
-      pruned = x.2;
-      other_pruned = y.2;
-      tells = record {
-        place = c.in-Some.place;
-        first =
-            subst (λ (es : List PortableType). IsFirstPlace es c.in_ok-other_table.other_table.types c.in-Some.place)
-            c.types.ensures
-            (subst (λ (es : List PortableType). IsFirstPlace c.types.result.now es c.in-Some.place) c.types-2.ensures
-            c.in-Some.ensures.some);
-        is = (x.1 c.id_at.result c.in-Some.place).0 c.id_at.ensures;
-        other_is = (y.1 c.id_at-2.result c.in-Some.place).0 c.id_at-2.ensures;
-      };
-    }
+    told c.in_ok-table.table.types c.in_ok-other_table.other_table.types (x.0, x.2) (y.0, y.2)
+    (record {
+      place = c.in-Some.place;
+      first =
+          of_same (λ es os. IsFirstPlace es os c.in-Some.place) c.types.ensures c.types-2.ensures
+          c.in-Some.ensures.some;
+      is = (x.1 c.id_at.result c.in-Some.place).0 c.id_at.ensures;
+      other_is = (y.1 c.id_at-2.result c.in-Some.place).0 c.id_at-2.ensures;
+    })

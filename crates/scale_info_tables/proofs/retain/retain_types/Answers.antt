@@ -3,8 +3,8 @@ use Rattle.std.proofs.Common.{subst, get_or}
 use Rattle.std.proofs.Common.{ap}
 use Rattle.std.proofs.lemmas.List.Elements.{Contains-get_or}
 use Rattle.std.proofs.lemmas.Result.{err_from_is_err_and}
-use Rattle.scale_info_walk.proofs.Visiting.{numbers_long, numbers_within}
-use Rattle.scale_info_tables.proofs.Moved.{is_pruned, numbers_agree}
+use Rattle.scale_info_walk.proofs.Visiting.{numbers_within}
+use Rattle.scale_info_tables.proofs.Moved.{is_pruned, numbers_agree, order_few}
 use Rattle.scale_info_references.specs.Conversions.{number_of}
 use Rattle.scale_info_walk.specs.Kept.{AreKept}
 use Rattle.scale_info_tables.specs.Pruned.{IsChosen, IsRetainError}
@@ -62,10 +62,9 @@ pub keep_entries-requires-clause-few : goal.keep_entries-requires-clause-few
 keep_entries-requires-clause-few g c =
     let order = c.in_ok-found.found.order.items in
     let same : c.deref-3.result.now ≡ order = c.deref-3.ensures.value in
-    let count = c.in_ok-found.ensures.count in
-    let few = c.in_ok-found.ensures.few in
-    let long = numbers_long order c.in_ok-found.found.numbers.items c.in_ok-found.ensures.numbers in
-    rw same (omega arith)
+    rw same
+    (order_few order c.in_ok-found.found.numbers.items c.in_ok-found.ensures.numbers
+    c.in_ok-found.ensures.count c.in_ok-found.ensures.few)
 
 pub returns-clause-ok : goal.returns-clause-ok
 returns-clause-ok g c =
@@ -75,9 +74,6 @@ returns-clause-ok g c =
     let order = c.in_ok-found.found.order.items in
     let numbers = c.in_ok-found.found.numbers.items in
     let dense = c.in_ok-found.ensures.numbers in
-    let count = c.in_ok-found.ensures.count in
-    let few = c.in_ok-found.ensures.few in
-    let long = numbers_long order numbers dense in
     let walked : IsNumbering (types_system types) c.deref.result.now order =
     subst (λ (ts : List PortableType). IsNumbering (types_system ts) c.deref.result.now order) c.as_slice.ensures c.in_ok-found.ensures.numbering in
     let numbering : IsNumbering (types_system types) c.in_ok-chosen.chosen.items order =
@@ -91,5 +87,6 @@ returns-clause-ok g c =
       chosen.0,
       chosen_of _ c.args.filter c.len-2.result (length types) c.in_ok-chosen.chosen.items chosen.0 c.len-2.ensures chosen.1,
       is_pruned types c.in_ok-chosen.chosen.items order numbers (number_of numbers) now numbering dense (numbers_agree numbers) kept
-          c.in_ok-new_ids.new_ids (omega arith) ids,
+          c.in_ok-new_ids.new_ids
+          (order_few order numbers dense c.in_ok-found.ensures.count c.in_ok-found.ensures.few) ids,
     )

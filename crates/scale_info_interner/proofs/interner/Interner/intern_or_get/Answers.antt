@@ -5,6 +5,7 @@ use Rattle.scale_info_interner.proofs.Orders.{equal_index, one_index, gap_absent
 use Rattle.scale_info_interner.proofs.Pushed.{pushed}
 use Rattle.scale_info_interner.proofs.interner.Interner.intern_or_get.Given as given
 use Rattle.scale_info_interner.proofs.interner.Interner.intern_or_get.Goals as goal
+use Rattle.scale_info_interner.proofs.interner.Interner.intern_or_get.Goals.{In-Err}
 
 found :
     (g : given.Over) (c : goal.After-drop-value g)
@@ -30,28 +31,30 @@ returns-in-Ok-clause-ok g c =
     subst (λ j. IsIndexOf g.T.PartialEq.eq c.args.self.now c.args.value j) (sym c.from.ensures)
     (found g c)
 
-full_absent :
-    (g : given.Over) (c : goal.After-drop-value-then-is_full g)
-    → IsKnown g.T.PartialEq.eq c.args.self.now c.args.value
-    → ⊥
-full_absent g c k =
+-- with a gap for the value in the order, no element equals it
+absent :
+    (g : given.Over) (c : In-Err g) → IsKnown g.T.PartialEq.eq c.args.self.now c.args.value → ⊥
+absent g c k =
     gap_absent g.met.T.Ord.total g.T.PartialEq.eq g.met.T.Ord.matches_eq _ _ _ _ _ _ _ _
     c.deref.ensures.value c.self.view_is (ap (λ cs. map (λ v. v.items) cs) c.deref-2.ensures.value)
     c.self.invariant.0 c.in-Err.ensures.absent k
 
 pub returns-then-is_full-clause-known : goal.returns-then-is_full-clause-known
-returns-then-is_full-clause-known g c = λ i k. absurd (full_absent g c (i, k))
+returns-then-is_full-clause-known g c = λ i k.
+    absurd (absent g (goal.at.returns-then-is_full-clause-known g c).In-Err (i, k))
 
 pub returns-then-is_full-clause-full : goal.returns-then-is_full-clause-full
-returns-then-is_full-clause-full g c =
-    (λ _. (c.if-is_full.ensures.full.0 refl, λ k. full_absent g c k), λ _. refl)
+returns-then-is_full-clause-full g c = (
+  λ _. (
+    c.if-is_full.ensures.full.0 refl,
+    λ k. absent g (goal.at.returns-then-is_full-clause-full g c).In-Err k,
+  ),
+  λ _. refl,
+)
 
 pub returns-in_err-symbol-clause-known : goal.returns-in_err-symbol-clause-known
 returns-in_err-symbol-clause-known g c = λ i k.
-    absurd
-    (gap_absent g.met.T.Ord.total g.T.PartialEq.eq g.met.T.Ord.matches_eq _ _ _ _ _ _ _ _
-    c.deref.ensures.value c.self.view_is (ap (λ cs. map (λ v. v.items) cs) c.deref-2.ensures.value)
-    c.self.invariant.0 c.in-Err.ensures.absent (i, k))
+    absurd (absent g (goal.at.returns-in_err-symbol-clause-known g c).In-Err (i, k))
 
 pub invariant_of-self-2 : goal.invariant_of-self-2
 invariant_of-self-2 g c =
@@ -66,10 +69,7 @@ invariant_of-self-2 g c =
 
 pub returns-clause-known : goal.returns-clause-known
 returns-clause-known g c = λ i k.
-    absurd
-    (gap_absent g.met.T.Ord.total g.T.PartialEq.eq g.met.T.Ord.matches_eq _ _ _ _ _ _ _ _
-    c.deref.ensures.value c.self.view_is (ap (λ cs. map (λ v. v.items) cs) c.deref-2.ensures.value)
-    c.self.invariant.0 c.in-Err.ensures.absent (i, k))
+    absurd (absent g (goal.at.returns-clause-known g c).In-Err (i, k))
 
 pub returns-clause-ok : goal.returns-clause-ok
 returns-clause-ok g c =

@@ -1,9 +1,9 @@
-use Rattle.std.proofs.Common.{rules, ◌<◌, length, ap, arith, sym, ◌≡◌, ◌∙◌, Some, refl}
+use Rattle.std.proofs.Common.{rules, ◌<◌, length, ap, arith, ◌≡◌, ◌∙◌, Some, refl}
 use Rattle.std.proofs.lemmas.Grind.{common_steps}
 use Rattle.std.proofs.lemmas.Iterator.Adapters.{YieldsList-from_vec}
-use Rattle.std.proofs.lemmas.Iterator.Consumers.{YieldsList-end, YieldsList-turn}
-use Rattle.std.proofs.lemmas.List.{map-id}
+use Rattle.std.proofs.lemmas.Iterator.Consumers.{YieldsList-turn}
 use Rattle.std.specs.Vec.Iter.{into_iter_len}
+use Rattle.scale_info_types.proofs.Iterators.{drained}
 use Rattle.scale_info_tables.specs.BuiltTables.{numbered_from}
 use Rattle.scale_info_tables.proofs.Interned.{length_numbered, numbered_push}
 use Rattle.scale_info_tables.proofs.portable.entries.of_descriptions.Goals as goal
@@ -25,8 +25,9 @@ loop-ty-preserved c = grind (arith, common_steps, rules, numbered_push, length_n
 
 pub returns : goal.returns
 returns c =
-    let road = YieldsList-from_vec c.args.types.items c.into_iter-ty-iterator.ensures.into_iter_gives.0 (search rules) in
-    let end =
-    YieldsList-end road c.loop-ty.yielded c.loop-ty.ty-iterator
-    c.loop-ty.yielded_by c.next.result c.next.new.self c.in-None.is c.next.ensures.steps in
-    c.loop-ty.invariant ∙ ap (λ xs. numbered_from 0 xs) (sym (map-id c.loop-ty.yielded) ∙ end.0)
+    let ends = rw c.in-None.is at c.next.ensures.steps in
+    c.loop-ty.invariant
+    ∙ ap (λ xs. numbered_from 0 xs)
+    (drained c.into_iter-ty-iterator.result c.args.types.items c.loop-ty.yielded
+    c.into_iter-ty-iterator.ensures.into_iter_gives.0 (search rules)
+    (c.next.new.self, (c.loop-ty.ty-iterator, c.loop-ty.yielded_by, ends)))
