@@ -229,6 +229,7 @@ impl Scale for TypeDefMap<PortableForm> {
 }
 
 /// Reads the parts of the definition with this index.
+#[tactic(auto, using(scale_info_grammar::proofs::Definitions::parts_read))]
 fn decode_parts(
     alloc: Global,
     index: u8,
@@ -283,6 +284,7 @@ fn decode_parts(
 impl Scale for TypeDef<PortableForm> {
     ghost encodes = { EncodesTypeDef };
 
+    #[tactic(auto, using(scale_info_grammar::proofs::Definitions::parts_written))]
     fn encode_to(&self, out: &mut Vec<u8>) -> Result<(), EncodeError> {
         match self {
             TypeDef::Composite(def) => encode_with_index(0, def, out),

@@ -247,6 +247,7 @@ impl<'i, F: DecodeForm<'i>> DecodeLent<'i> for TypeDefMap<F> {
 }
 
 /// Decodes the parts of the definition with this index.
+#[tactic(auto, using(scale_info_grammar::proofs::Definitions::parts_read))]
 fn decode_parts<'i, F: DecodeForm<'i>>(
     alloc: Global,
     index: u8,
