@@ -17,7 +17,7 @@ use crate::scale::Scale;
 use crate::tuple::{encode_four, encode_two, encode_with_index};
 use scale_info_bytes::error::{DecodeError, EncodeError};
 use scale_info_collections::items::Items;
-use scale_info_grammar::decode_primitive;
+use scale_info_grammar::{decode_primitive, description_of};
 use scale_info_type_ids::impls::Compact;
 use scale_info_types::form::PortableForm;
 use scale_info_types::ty::composite::TypeDefComposite;
@@ -50,14 +50,8 @@ impl Scale for Description<PortableForm> {
         alloc: Global,
         input: &[u8],
     ) -> Result<(Description<PortableForm>, &[u8]), DecodeError> {
-        let ((path, (type_params, (type_def, docs))), rest) = Scale::decode_from(alloc, input)?;
-        let description = Description {
-            path,
-            type_params,
-            type_def,
-            docs,
-        };
-        Ok((description, rest))
+        let (parts, rest) = Scale::decode_from(alloc, input)?;
+        Ok((description_of(parts), rest))
     }
 
     ghost law = { description_law };
@@ -229,6 +223,7 @@ impl Scale for TypeDefMap<PortableForm> {
 }
 
 /// Reads the parts of the definition with this index.
+#[tactic(auto, using(scale_info_grammar::proofs::Definitions::parts_read))]
 fn decode_parts(
     alloc: Global,
     index: u8,
@@ -283,6 +278,7 @@ fn decode_parts(
 impl Scale for TypeDef<PortableForm> {
     ghost encodes = { EncodesTypeDef };
 
+    #[tactic(auto, using(scale_info_grammar::proofs::Definitions::parts_written))]
     fn encode_to(&self, out: &mut Vec<u8>) -> Result<(), EncodeError> {
         match self {
             TypeDef::Composite(def) => encode_with_index(0, def, out),

@@ -1,5 +1,5 @@
 -- Definitions written and read.
-use Rattle.std.proofs.Common.{◌≡◌, ℕ, ◌≤◌, ◌<◌, lit<, List, ◌∷◌, Result, Ok, Err, refl, sym, ap}
+use Rattle.std.proofs.Common.{◌≡◌, ℕ, ◌≤◌, ◌<◌, lit<, List, ◌∷◌, ◌++◌, Result, Ok, Err, refl, sym, ap}
 use Rattle.std.proofs.Common.{subst, ◌∙◌, arith}
 use Rattle.std.specs.Prelude.{OnOk, IfErr}
 use Rattle.scale_info_types.specs.Orders.{definition_index}
@@ -59,41 +59,57 @@ inside i v b (compact p) = p
 inside i v b (bit_sequence p) = p
 inside i v b (map p) = p
 
--- the definition w, which is v, was written
+-- the index of a definition and what it holds were written: so was the definition
 pub appends_definition :
-    {v w : portable.TypeDef} (old new : List ℕ) (r : Result (Unit {0}) EncodeError) → w ≡ v
-    → OnOk r (AppendsEncoding (HasIndex (definition_index v) (EncodesParts v)) old new)
-    → OnOk r (AppendsEncoding (EncodesTypeDef w) old new)
-appends_definition {v} old new (Ok u) e p =
-    subst (λ t. AppendsEncoding (EncodesTypeDef t) old new) (sym e) (record {
-      encoding = p.encoding;
-      encodes = record {
-        index = definition_index v;
-        indexed = record {
-          rest = p.encodes.rest;
-          encodes_rest = with_index v p.encodes.rest p.encodes.encodes_rest;
-          parts = p.encodes.parts;
-        };
-      };
-      parts = p.parts;
-    })
-appends_definition old new (Err d) e p = tt
+    {v : portable.TypeDef} {old new : List ℕ}
+    → AppendsEncoding (HasIndex (definition_index v) (EncodesParts v)) old new
+    → AppendsEncoding (EncodesTypeDef v) old new
+appends_definition {v} p = record {
+  encoding = p.encoding;
+  encodes = record {
+    index = definition_index v;
+    indexed = record {
+      rest = p.encodes.rest;
+      encodes_rest = with_index v p.encodes.rest p.encodes.encodes_rest;
+      parts = p.encodes.parts;
+    };
+  };
+  parts = p.parts;
+}
+
+-- nothing encodes what the definition holds
+abbrev pub HoldsUnencoded : portable.TypeDef → Type 0
+HoldsUnencoded (def.Composite d) = HasNoEncoding (EncodesComposite d)
+HoldsUnencoded (def.Variant d) = HasNoEncoding (EncodesVariants d)
+HoldsUnencoded (def.Sequence d) = HasNoEncoding (EncodesSequence d)
+HoldsUnencoded (def.Array d) = HasNoEncoding (EncodesArray d)
+HoldsUnencoded (def.Tuple d) = HasNoEncoding (EncodesTuple d)
+HoldsUnencoded (def.Primitive d) = HasNoEncoding (EncodesPrimitive d)
+HoldsUnencoded (def.Compact d) = HasNoEncoding (EncodesCompactType d)
+HoldsUnencoded (def.BitSequence d) = HasNoEncoding (EncodesBitSequence d)
+HoldsUnencoded (def.Map d) = HasNoEncoding (EncodesMap d)
+
+not_inside : (v : portable.TypeDef) (b : List ℕ) → HoldsUnencoded v → EncodesParts v b → ⊥
+not_inside (def.Composite d) b n p = n.none b p
+not_inside (def.Variant d) b n p = n.none b p
+not_inside (def.Sequence d) b n p = n.none b p
+not_inside (def.Array d) b n p = n.none b p
+not_inside (def.Tuple d) b n p = n.none b p
+not_inside (def.Primitive d) b n p = n.none b p
+not_inside (def.Compact d) b n p = n.none b p
+not_inside (def.BitSequence d) b n p = n.none b p
+not_inside (def.Map d) b n p = n.none b p
 
 -- a definition whose parts have no encoding has none
-pub too_long_definition :
-    {v w : portable.TypeDef} (r : Result (Unit {0}) EncodeError) → w ≡ v
-    → IfErr r (IfTooLong (HasNoEncoding (EncodesParts v)))
-    → IfErr r (IfTooLong (HasNoEncoding (EncodesTypeDef w)))
-too_long_definition (Ok u) e p = tt
-too_long_definition {v} (Err d) e p =
-    subst (λ t. IfTooLong (HasNoEncoding (EncodesTypeDef t)) d) (sym e)
-    (too_long_on d
-    (λ n.
-    record {
-      none = λ text q.
-          n.none q.indexed.rest (inside q.index v q.indexed.rest q.indexed.encodes_rest);
-    })
-    p)
+pub no_definition_encoding :
+    {v : portable.TypeDef} → HoldsUnencoded v → HasNoEncoding (EncodesTypeDef v)
+no_definition_encoding {v} n = record {
+  none = λ text q.
+      not_inside v q.indexed.rest n (inside q.index v q.indexed.rest q.indexed.encodes_rest);
+}
+
+-- what is said of a definition that is written as its index and what it holds
+pub ruleset parts_written = (appends_definition, no_definition_encoding)
 
 -- ---- reading
 
@@ -144,34 +160,6 @@ at_composite v b (composite {d} p) = record { value = d; encodes = p }
 pub at_variant : Holds 1 EncodesVariants
 at_variant v b (variant {d} p) = record { value = d; encodes = p }
 
--- the bytes of a sequence
-pub at_sequence : Holds 2 EncodesSequence
-at_sequence v b (sequence {d} p) = record { value = d; encodes = p }
-
--- the bytes of an array
-pub at_array : Holds 3 EncodesArray
-at_array v b (array {d} p) = record { value = d; encodes = p }
-
--- the bytes of a tuple
-pub at_tuple : Holds 4 EncodesTuple
-at_tuple v b (tuple {d} p) = record { value = d; encodes = p }
-
--- the bytes of a primitive
-pub at_primitive : Holds 5 EncodesPrimitive
-at_primitive v b (primitive {p = d} p) = record { value = d; encodes = p }
-
--- the bytes of a compact integer
-pub at_compact : Holds 6 EncodesCompactType
-at_compact v b (compact {d} p) = record { value = d; encodes = p }
-
--- the bytes of a bit sequence
-pub at_bit_sequence : Holds 7 EncodesBitSequence
-at_bit_sequence v b (bit_sequence {d} p) = record { value = d; encodes = p }
-
--- the bytes of a map
-pub at_map : Holds 8 EncodesMap
-at_map v b (map {d} p) = record { value = d; encodes = p }
-
 -- what a definition holds, encoded after its index, is the definition
 pub encodes_at :
     {v : portable.TypeDef} {b : List ℕ} (i : ℕ) → i ≡ definition_index v → EncodesParts v b
@@ -198,6 +186,58 @@ pub no_parts :
     → HasNoPrefix S a → HasNoPrefix (EncodesTypeDefWithIndex i) a
 no_parts {a = a} held e n =
     subst (λ m. HasNoPrefix (EncodesTypeDefWithIndex m) a) (sym e) (no_prefix_map held n)
+
+-- the input begins with nothing that is encoded after this index
+pub data HasNoParts : ℕ → List ℕ → Type 0 where
+  no_composite : {a : List ℕ} → HasNoPrefix EncodesComposite a → HasNoParts 0 a
+  no_variant : {a : List ℕ} → HasNoPrefix EncodesVariants a → HasNoParts 1 a
+  no_sequence : {a : List ℕ} → HasNoPrefix EncodesSequence a → HasNoParts 2 a
+  no_array : {a : List ℕ} → HasNoPrefix EncodesArray a → HasNoParts 3 a
+  no_tuple : {a : List ℕ} → HasNoPrefix EncodesTuple a → HasNoParts 4 a
+  no_primitive : {a : List ℕ} → HasNoPrefix EncodesPrimitive a → HasNoParts 5 a
+  no_compact : {a : List ℕ} → HasNoPrefix EncodesCompactType a → HasNoParts 6 a
+  no_bit_sequence : {a : List ℕ} → HasNoPrefix EncodesBitSequence a → HasNoParts 7 a
+  no_map : {a : List ℕ} → HasNoPrefix EncodesMap a → HasNoParts 8 a
+
+module _ (a b rest : List ℕ) (e : a ≡ b ++ rest) where
+  no_part :
+      {A : Type 0} {S : A → List ℕ → Type 0} (v : A) → HasNoPrefix S a → S v b → ⊥
+  no_part v n p = n.none v rest (record { encoding = b; encodes = p; parts = e })
+
+  no_parts_here :
+      (i : ℕ) (v : portable.TypeDef) → HasNoParts i a → EncodesTypeDefWithIndex i v b → ⊥
+  no_parts_here i v (no_composite n) (composite p) = no_part _ n p
+  no_parts_here i v (no_variant n) (variant p) = no_part _ n p
+  no_parts_here i v (no_sequence n) (sequence p) = no_part _ n p
+  no_parts_here i v (no_array n) (array p) = no_part _ n p
+  no_parts_here i v (no_tuple n) (tuple p) = no_part _ n p
+  no_parts_here i v (no_primitive n) (primitive p) = no_part _ n p
+  no_parts_here i v (no_compact n) (compact p) = no_part _ n p
+  no_parts_here i v (no_bit_sequence n) (bit_sequence p) = no_part _ n p
+  no_parts_here i v (no_map n) (map p) = no_part _ n p
+
+-- an input that begins with nothing that is encoded after this index begins with no definition,
+-- after the index
+pub no_parts_at : {i : ℕ} {a : List ℕ} → HasNoParts i a → HasNoPrefix (EncodesTypeDefWithIndex i) a
+no_parts_at {i} {a} n = record {
+  none = λ v rest p. no_parts_here a p.encoding rest p.parts i v n p.encodes;
+}
+
+-- what is said of an input after each index
+pub ruleset parts_read = (
+  prefix_parts,
+  no_parts_at,
+  no_definition,
+  no_composite,
+  no_variant,
+  no_sequence,
+  no_array,
+  no_tuple,
+  no_primitive,
+  no_compact,
+  no_bit_sequence,
+  no_map,
+)
 
 -- ---- the index and the parts
 

@@ -174,22 +174,32 @@ abbrev pub description_parts :
     → portable.Path × (List portable.TypeParameter × (portable.TypeDef × List Text))
 description_parts v = (v.path, (v.type_params, (v.type_def, v.docs)))
 
+-- the bytes encode a description: its path, its parameters, its definition, which D encodes, and
+-- its docs
+abbrev pub EncodesDescriptionBy :
+    (portable.TypeDef → List ℕ → Type 0) → portable.Description → List ℕ → Type 0
+EncodesDescriptionBy D v b =
+    EncodesPair EncodesPath
+    (EncodesPair (EncodesList EncodesParameter) (EncodesPair D (EncodesList EncodesText)))
+    (description_parts v) b
+
 -- the bytes encode a description: its path, parameters, definition and docs
 abbrev pub EncodesDescription : portable.Description → List ℕ → Type 0
-EncodesDescription v b =
-    EncodesPair EncodesPath
-    (EncodesPair (EncodesList EncodesParameter)
-    (EncodesPair EncodesTypeDef (EncodesList EncodesText)))
-    (description_parts v) b
+EncodesDescription v b = EncodesDescriptionBy EncodesTypeDef v b
 
 -- the parts of an entry of a table, in the order in which they are encoded
 abbrev pub portable_type_parts : PortableType → Compact ℕ × portable.Description
 portable_type_parts v = (record { 0 = v.id }, v.ty)
 
+-- the bytes encode an entry of a table: its id as a compact integer, and its description, which D
+-- encodes
+abbrev pub EncodesEntryBy :
+    (portable.Description → List ℕ → Type 0) → PortableType → List ℕ → Type 0
+EncodesEntryBy D v b = EncodesPair (λ n t. EncodesCompact n.0 t) D (portable_type_parts v) b
+
 -- the bytes encode an entry of a table: its id as a compact integer, its description
 abbrev pub EncodesPortableType : PortableType → List ℕ → Type 0
-EncodesPortableType v b =
-    EncodesPair (λ n t. EncodesCompact n.0 t) EncodesDescription (portable_type_parts v) b
+EncodesPortableType v b = EncodesEntryBy EncodesDescription v b
 
 -- the bytes encode a table as the list of its entries
 abbrev pub EncodesTypes : List PortableType → List ℕ → Type 0

@@ -6,20 +6,17 @@ use Rattle.scale_info_types.specs.declared.ty.PortableType.{PortableType}
 use Rattle.scale_info_types.specs.declared.ty.TypeDef.TheVariants as def
 use Rattle.scale_info_primitives.specs.declared.primitive.TypeDefPrimitive.{TypeDefPrimitive}
 use Rattle.scale_info_grammar.specs.Ty.{
+  EncodesDescriptionBy,
+  EncodesEntryBy,
   EncodesField,
   EncodesId,
-  EncodesParameter,
-  EncodesPath,
   EncodesPrimitive,
   EncodesVariant,
   array_parts,
   bit_sequence_parts,
-  description_parts,
-  portable_type_parts,
 }
-use Rattle.scale_info_bytes.specs.Integers.{EncodesCompact, EncodesU32}
+use Rattle.scale_info_bytes.specs.Integers.{EncodesU32}
 use Rattle.scale_info_bytes.specs.Parts.{HasIndex, EncodesList, EncodesPair}
-use Rattle.scale_info_bytes.specs.Strings.{EncodesText}
 
 -- the bytes are the parts of the definition with this index
 pub data DefinitionAtWithoutMaps : ℕ → portable.TypeDef → List ℕ → Type 0 where
@@ -57,14 +54,8 @@ pub record EncodesTypeDefWithoutMaps (v : portable.TypeDef) (b : List ℕ) : Typ
 
 -- a description is its path, its parameters, its definition and its docs
 abbrev pub EncodesDescriptionWithoutMaps : portable.Description → List ℕ → Type 0
-EncodesDescriptionWithoutMaps v b =
-    EncodesPair EncodesPath
-    (EncodesPair (EncodesList EncodesParameter)
-    (EncodesPair EncodesTypeDefWithoutMaps (EncodesList EncodesText)))
-    (description_parts v) b
+EncodesDescriptionWithoutMaps v b = EncodesDescriptionBy EncodesTypeDefWithoutMaps v b
 
 -- an entry of a table is its id and its description
 abbrev pub EncodesPortableTypeWithoutMaps : PortableType → List ℕ → Type 0
-EncodesPortableTypeWithoutMaps v b =
-    EncodesPair (λ n t. EncodesCompact n.0 t) EncodesDescriptionWithoutMaps (portable_type_parts v)
-    b
+EncodesPortableTypeWithoutMaps v b = EncodesEntryBy EncodesDescriptionWithoutMaps v b

@@ -4,6 +4,8 @@
 //! all promise by these relations, and know nothing of each other.
 #![tactic(auto)]
 
+mod parts;
 mod primitive;
 
+pub use parts::{description_of, field_of, variant_of};
 pub use primitive::{decode_primitive, primitive_of};

@@ -20,6 +20,7 @@ impl<T: Encoded> Encoded for Option<T> {
 }
 
 impl<'i, T: DecodeLent<'i>> DecodeLent<'i> for Option<T> {
+    #[tactic(auto, using(scale_info_grammar::proofs::Reading::not_read))]
     fn decode_lent(
         alloc: Global,
         input: &'i [u8],

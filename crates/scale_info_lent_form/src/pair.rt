@@ -19,6 +19,7 @@ impl<A: Encoded, B: Encoded> Encoded for (A, B) {
 }
 
 impl<'i, A: DecodeLent<'i>, B: DecodeLent<'i>> DecodeLent<'i> for (A, B) {
+    #[tactic(auto, using(scale_info_grammar::proofs::Reading::not_read))]
     fn decode_lent(
         alloc: Global,
         input: &'i [u8],

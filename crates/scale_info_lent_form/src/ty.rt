@@ -22,7 +22,7 @@ use crate::decode::{DecodeLent, Encoded};
 use crate::form::{DecodeForm, IdForm, StringOf, TypeOf};
 use scale_info_bytes::error::DecodeError;
 use scale_info_collections::items::Items;
-use scale_info_grammar::decode_primitive;
+use scale_info_grammar::{decode_primitive, description_of};
 use scale_info_types::ty::path::Path;
 use scale_info_types::ty::{
     Description, TypeDef, TypeDefArray, TypeDefBitSequence, TypeDefCompact, TypeDefComposite,
@@ -58,16 +58,8 @@ impl<'i, F: DecodeForm<'i>> DecodeLent<'i> for Description<F> {
         alloc: Global,
         input: &'i [u8],
     ) -> Result<(Description<F>, &'i [u8]), DecodeError> {
-        let ((path, (type_params, (type_def, docs))), rest) = DescriptionParts::<F>::decode_lent(
-            alloc, input,
-        )?;
-        let description = Description {
-            path,
-            type_params,
-            type_def,
-            docs,
-        };
-        Ok((description, rest))
+        let (parts, rest) = DescriptionParts::<F>::decode_lent(alloc, input)?;
+        Ok((description_of(parts), rest))
     }
 }
 
@@ -247,6 +239,7 @@ impl<'i, F: DecodeForm<'i>> DecodeLent<'i> for TypeDefMap<F> {
 }
 
 /// Decodes the parts of the definition with this index.
+#[tactic(auto, using(scale_info_grammar::proofs::Definitions::parts_read))]
 fn decode_parts<'i, F: DecodeForm<'i>>(
     alloc: Global,
     index: u8,

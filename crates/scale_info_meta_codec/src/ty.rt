@@ -192,6 +192,7 @@ impl<N: GivesIds> EncodeWithIds<N> for TypeDef {
 
     ghost encodes = { EncodesTypeDef };
 
+    #[tactic(auto, using(scale_info_grammar::proofs::Definitions::parts_written))]
     fn encode_with_ids(&self, ids: &N, out: &mut Vec<u8>) -> Result<(), EncodeError> {
         match self {
             TypeDef::Composite(def) => encode_with_index(0, &def.fields, ids, out),

@@ -1,2 +1,3 @@
+pub mod Definitions
 mod Passes
 mod Offsets

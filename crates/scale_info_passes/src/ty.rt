@@ -102,6 +102,7 @@ impl Pass for TypeDefPrimitive {
 }
 
 /// Goes over the parts of the definition with this index.
+#[tactic(auto, using(crate::proofs::Definitions::not_gone_over))]
 fn pass_parts<'a, V: Visitor>(index: u8, input: &'a [u8], visitor: &mut V) -> Option<&'a [u8]>
     ensures some { IfSome result (λ rest.
         HasVisitedSome (EncodesTypeDefWithIndex index)

@@ -1,5 +1,6 @@
+pub mod Definitions
 mod Objects
-mod Parts
+pub mod Parts
 mod Skips
 mod Tables
 mod Tokens

@@ -1,7 +1,10 @@
 -- Structs of four parts at the start of the input.
 use Rattle.std.proofs.Common.{ℕ, List}
 use Rattle.scale_info_bytes.specs.Encodings.{HasPrefix, HasNoPrefix}
-use Rattle.scale_info_bytes.specs.Parts.{EncodesPair}
+use Rattle.scale_info_bytes.specs.Parts.{EncodesOption, EncodesPair}
+use Rattle.scale_info_bytes.specs.Strings.{EncodesText}
+use Rattle.scale_info_grammar.specs.Ty.{EncodesBitSequence, EncodesField, EncodesId, EncodesVariant}
+use Rattle.scale_info_grammar.specs.Ty.{bit_sequence_parts, field_parts, variant_parts}
 use Rattle.scale_info_bytes.proofs.Steps.{prefix_pair, no_prefix_first, no_prefix_through}
 use Rattle.scale_info_transcode.proofs.Skips.{no_second_part}
 use Rattle.scale_info_transcode.specs.Skips.{IsOnlyRest}
@@ -51,3 +54,20 @@ module _ {V A B C D : Type 0} {S : A → List ℕ → Type 0} {R : B → List �
       → HasNoPrefix (λ v x. EncodesFour S R T U (parts v) x) a
   no_fourth p q h n =
       no_prefix_through parts (no_second_part p (no_second_part q (no_second_part h n)))
+
+-- ---- structs whose first part is missing
+
+-- an input that begins with no name begins with no field
+pub no_field_name : {a : List ℕ} → HasNoPrefix (EncodesOption EncodesText) a → HasNoPrefix EncodesField a
+no_field_name n = no_first field_parts n
+
+-- an input that begins with no name begins with no variant
+pub no_variant_name : {a : List ℕ} → HasNoPrefix EncodesText a → HasNoPrefix EncodesVariant a
+no_variant_name n = no_first variant_parts n
+
+-- an input that begins with no id begins with no bit sequence
+pub no_store : {a : List ℕ} → HasNoPrefix EncodesId a → HasNoPrefix EncodesBitSequence a
+no_store n = no_prefix_through bit_sequence_parts (no_prefix_first {R = EncodesId} n)
+
+-- what is said of an input that begins with no first part
+pub ruleset no_first_part = (no_field_name, no_variant_name, no_store)

@@ -98,6 +98,7 @@ impl TranscodeMembers for TypeParameter<PortableForm> {
 ///
 /// Errors: `Malformed`, if no prefix of the input encodes the parts of a definition with this
 /// index; `Memory`, if an allocation failed.
+#[tactic(auto, using(crate::proofs::Definitions::parts_transcoded))]
 fn transcode_parts<'a>(
     index: u8,
     input: &'a [u8],
@@ -217,6 +218,7 @@ impl TranscodeMembers for TypeDefBitSequence<PortableForm> {
     ghost rows = { bit_sequence_rows };
 
     /// The store is encoded first, and its key is the last.
+    #[tactic(auto, using(crate::proofs::Parts::no_first_part))]
     fn transcode_members<'a>(input: &'a [u8], out: &mut Writer) -> Result<&'a [u8], DecodeError> {
         let (store, order) = decode_id(input)?;
         let rest = transcode_member::<Id>("bit_order_type", order, out)?;
@@ -245,6 +247,7 @@ impl TranscodeMembers for Field<PortableForm> {
     ghost rows = { field_rows };
 
     /// The documentation is encoded last, and its key is the first.
+    #[tactic(auto, using(crate::proofs::Parts::no_first_part))]
     fn transcode_members<'a>(input: &'a [u8], out: &mut Writer) -> Result<&'a [u8], DecodeError> {
         let (name, after_name) = decode_optional_str(input)?;
         let (ty, after_type) = decode_id(after_name)?;
@@ -265,6 +268,7 @@ impl TranscodeMembers for Variant<PortableForm> {
     ghost rows = { variant_rows };
 
     /// The fields are gone over once to find what is encoded after them, and then written.
+    #[tactic(auto, using(crate::proofs::Parts::no_first_part))]
     fn transcode_members<'a>(input: &'a [u8], out: &mut Writer) -> Result<&'a [u8], DecodeError> {
         let (name, fields) = decode_str(input)?;
         let after_fields = skip_part::<Items<Field<PortableForm>>>(fields)?;

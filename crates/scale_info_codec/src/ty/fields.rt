@@ -5,6 +5,7 @@ ghost use Rattle.scale_info_grammar.specs.TyLaws.{field_law};
 use crate::scale::Scale;
 use crate::tuple::encode_four;
 use scale_info_bytes::error::{DecodeError, EncodeError};
+use scale_info_grammar::field_of;
 use scale_info_types::form::PortableForm;
 use scale_info_types::ty::fields::Field;
 use std::alloc::Global;
@@ -20,14 +21,8 @@ impl Scale for Field<PortableForm> {
         alloc: Global,
         input: &[u8],
     ) -> Result<(Field<PortableForm>, &[u8]), DecodeError> {
-        let ((name, (ty, (type_name, docs))), rest) = Scale::decode_from(alloc, input)?;
-        let field = Field {
-            name,
-            ty,
-            type_name,
-            docs,
-        };
-        Ok((field, rest))
+        let (parts, rest) = Scale::decode_from(alloc, input)?;
+        Ok((field_of(parts), rest))
     }
 
     ghost law = { field_law };

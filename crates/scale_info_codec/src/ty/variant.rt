@@ -5,6 +5,7 @@ ghost use Rattle.scale_info_grammar.specs.TyLaws.{variant_law, variants_law};
 use crate::scale::Scale;
 use crate::tuple::encode_four;
 use scale_info_bytes::error::{DecodeError, EncodeError};
+use scale_info_grammar::variant_of;
 use scale_info_types::form::PortableForm;
 use scale_info_types::ty::variant::{TypeDefVariant, Variant};
 use std::alloc::Global;
@@ -39,14 +40,8 @@ impl Scale for Variant<PortableForm> {
         alloc: Global,
         input: &[u8],
     ) -> Result<(Variant<PortableForm>, &[u8]), DecodeError> {
-        let ((name, (fields, (index, docs))), rest) = Scale::decode_from(alloc, input)?;
-        let variant = Variant {
-            name,
-            fields,
-            index,
-            docs,
-        };
-        Ok((variant, rest))
+        let (parts, rest) = Scale::decode_from(alloc, input)?;
+        Ok((variant_of(parts), rest))
     }
 
     ghost law = { variant_law };

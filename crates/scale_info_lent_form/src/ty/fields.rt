@@ -8,6 +8,7 @@ use super::Docs;
 use crate::decode::{DecodeLent, Encoded};
 use crate::form::{DecodeForm, IdForm, StringOf, TypeOf};
 use scale_info_bytes::error::DecodeError;
+use scale_info_grammar::field_of;
 use scale_info_types::ty::Field;
 use std::alloc::Global;
 
@@ -31,13 +32,7 @@ impl<F: IdForm> Encoded for Field<F> {
 
 impl<'i, F: DecodeForm<'i>> DecodeLent<'i> for Field<F> {
     fn decode_lent(alloc: Global, input: &'i [u8]) -> Result<(Field<F>, &'i [u8]), DecodeError> {
-        let ((name, (ty, (type_name, docs))), rest) = FieldParts::<F>::decode_lent(alloc, input)?;
-        let field = Field {
-            name,
-            ty,
-            type_name,
-            docs,
-        };
-        Ok((field, rest))
+        let (parts, rest) = FieldParts::<F>::decode_lent(alloc, input)?;
+        Ok((field_of(parts), rest))
     }
 }

@@ -9,6 +9,7 @@ use crate::decode::{DecodeLent, Encoded};
 use crate::form::{DecodeForm, IdForm, StringOf};
 use scale_info_bytes::error::DecodeError;
 use scale_info_collections::items::Items;
+use scale_info_grammar::variant_of;
 use scale_info_types::ty::variant::Variant;
 use scale_info_types::ty::{Field, TypeDefVariant};
 use std::alloc::Global;
@@ -52,13 +53,7 @@ impl<F: IdForm> Encoded for Variant<F> {
 
 impl<'i, F: DecodeForm<'i>> DecodeLent<'i> for Variant<F> {
     fn decode_lent(alloc: Global, input: &'i [u8]) -> Result<(Variant<F>, &'i [u8]), DecodeError> {
-        let ((name, (fields, (index, docs))), rest) = VariantParts::<F>::decode_lent(alloc, input)?;
-        let variant = Variant {
-            name,
-            fields,
-            index,
-            docs,
-        };
-        Ok((variant, rest))
+        let (parts, rest) = VariantParts::<F>::decode_lent(alloc, input)?;
+        Ok((variant_of(parts), rest))
     }
 }

@@ -1,11 +1,6 @@
 use Rattle.scale_info_bytes.proofs.Errors.{passed_malformed}
-use Rattle.scale_info_bytes.proofs.Steps.{no_prefix_first, no_prefix_second, prefix_pair}
+use Rattle.scale_info_bytes.proofs.Steps.{no_prefix_second, prefix_pair}
 use Rattle.scale_info_lent_form.proofs.pair.Tuple2DecodeLent.decode_lent.Goals as goal
-
-pub returns-in_err-first-clause-malformed : goal.returns-in_err-first-clause-malformed
-returns-in_err-first-clause-malformed g c =
-    passed_malformed c.from_residual.result c.in_err-first.field-0.0 c.from_residual.ensures.1
-    (λ n. no_prefix_first n) c.in_err-first.ensures.malformed
 
 pub returns-in_err-second-clause-malformed : goal.returns-in_err-second-clause-malformed
 returns-in_err-second-clause-malformed g c =

@@ -6,17 +6,12 @@ use Rattle.scale_info_bytes.specs.Strings.{EncodesText}
 use Rattle.scale_info_grammar.specs.Ty.{EncodesId, field_parts}
 use Rattle.scale_info_grammar.specs.TyLaws.{id_law}
 use Rattle.scale_info_transcode.proofs.Objects.{four_rows}
-use Rattle.scale_info_transcode.proofs.Parts.{four_parts, no_first, no_second, no_third, no_fourth}
+use Rattle.scale_info_transcode.proofs.Parts.{four_parts, no_second, no_third, no_fourth}
 use Rattle.scale_info_transcode.proofs.Skips.{only_rest}
 use Rattle.scale_info_types.specs.Portable as portable
 use Rattle.scale_info_types.specs.Portable.{Text}
 use Rattle.std.specs.Prelude.{Option, option_map}
 use Rattle.scale_info_transcode.proofs.ty.FieldPortableFormTranscodeMembers.transcode_members.Goals as goal
-
-pub returns-in_err-name-clause-malformed : goal.returns-in_err-name-clause-malformed
-returns-in_err-name-clause-malformed c =
-    passed_malformed _ _ c.from_residual.ensures.1
-    (no_first field_parts) c.in_err-name.ensures.malformed
 
 pub returns-in_err-ty-clause-malformed : goal.returns-in_err-ty-clause-malformed
 returns-in_err-ty-clause-malformed c =

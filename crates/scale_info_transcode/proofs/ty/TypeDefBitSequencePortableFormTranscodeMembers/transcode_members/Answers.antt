@@ -1,17 +1,11 @@
 use Rattle.scale_info_bytes.proofs.Errors.{passed_malformed}
-use Rattle.scale_info_bytes.proofs.Steps.{no_prefix_first, no_prefix_second, no_prefix_through}
+use Rattle.scale_info_bytes.proofs.Steps.{no_prefix_second, no_prefix_through}
 use Rattle.scale_info_bytes.proofs.Steps.{prefix_pair}
 use Rattle.scale_info_grammar.specs.Ty.{EncodesId, bit_sequence_parts}
 use Rattle.scale_info_grammar.specs.TyLaws.{id_law}
 use Rattle.scale_info_transcode.proofs.Objects.{two_rows}
 use Rattle.scale_info_types.specs.Portable as portable
 use Rattle.scale_info_transcode.proofs.ty.TypeDefBitSequencePortableFormTranscodeMembers.transcode_members.Goals as goal
-
-pub returns-in_err-store-clause-malformed : goal.returns-in_err-store-clause-malformed
-returns-in_err-store-clause-malformed c =
-    passed_malformed c.from_residual.result c.in_err-store.field-0.0 c.from_residual.ensures.1
-    (λ n. no_prefix_through bit_sequence_parts (no_prefix_first {R = EncodesId} n))
-    c.in_err-store.ensures.malformed
 
 pub returns-in_err-rest-clause-malformed : goal.returns-in_err-rest-clause-malformed
 returns-in_err-rest-clause-malformed c =

@@ -6,16 +6,11 @@ use Rattle.scale_info_bytes.specs.StringLaws.{text_law}
 use Rattle.scale_info_bytes.specs.Strings.{EncodesText}
 use Rattle.scale_info_grammar.specs.Ty.{EncodesField, variant_parts}
 use Rattle.scale_info_transcode.proofs.Objects.{four_rows}
-use Rattle.scale_info_transcode.proofs.Parts.{four_parts, no_first, no_second}
+use Rattle.scale_info_transcode.proofs.Parts.{four_parts, no_second}
 use Rattle.scale_info_transcode.proofs.Parts.{no_third, no_fourth}
 use Rattle.scale_info_transcode.proofs.Skips.{only_rest, read_again}
 use Rattle.scale_info_types.specs.Portable as portable
 use Rattle.scale_info_transcode.proofs.ty.VariantPortableFormTranscodeMembers.transcode_members.Goals as goal
-
-pub returns-in_err-name-clause-malformed : goal.returns-in_err-name-clause-malformed
-returns-in_err-name-clause-malformed c =
-    passed_malformed _ _ c.from_residual.ensures.1
-    (no_first variant_parts) c.in_err-name.ensures.malformed
 
 pub returns-in_err-after_fields-clause-malformed : goal.returns-in_err-after_fields-clause-malformed
 returns-in_err-after_fields-clause-malformed c =
