@@ -1,4 +1,5 @@
 mod ByTypes
+pub mod ByLayers
 pub mod Bounds
 pub mod Counts
 pub mod Decoded
