@@ -1,4 +1,3 @@
-mod ByTypes
 pub mod ByLayers
 pub mod Bounds
 pub mod Counts
