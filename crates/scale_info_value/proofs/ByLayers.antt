@@ -14,5 +14,6 @@ abbrev pub lower : (P : Dyn → Type 0) → Dyn-F (Known P) → Dyn-F Dyn
 lower P y = map-Dyn (Known P) Dyn (λ e. e.0) y
 
 -- what holds of each layer of values of which it is known holds of every value
-pub by_layers : (P : Dyn → Type 0) → ((y : Dyn-F (Known P)) → P (roll-Dyn (lower P y))) → (d : Dyn) → P d
+pub by_layers :
+    (P : Dyn → Type 0) → ((y : Dyn-F (Known P)) → P (roll-Dyn (lower P y))) → (d : Dyn) → P d
 by_layers P layers = ind-Dyn P (λ x y joined. subst (λ z. P (roll-Dyn z)) joined (layers y))

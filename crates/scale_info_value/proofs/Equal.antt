@@ -66,7 +66,9 @@ field_eq a b = option_eq (pointwise ◌==◌) a.0 b.0 && ghosts.eq a.1 b.1
 abbrev fields : Fields (Known Same) → Fields Dyn
 fields known = map (λ field. (field.0, field.1.0)) known
 
-same_fields : (ks : Fields (Known Same)) (xs : Fields Dyn) → IsTrue (pointwise field_eq (fields ks) xs) → fields ks ≡ xs
+same_fields :
+    (ks : Fields (Known Same)) (xs : Fields Dyn) → IsTrue (pointwise field_eq (fields ks) xs)
+    → fields ks ≡ xs
 same_fields ks xs =
     same_list (λ (field : Option (List ℕ) × Known Same). (field.0, field.1.0)) field_eq
     (λ k x h. let parts = both _ _ h in λ i. (same_name k.0 x.0 parts.0 i, k.1.1 x.1 parts.1 i)) ks xs
@@ -76,15 +78,20 @@ forward :
     (y : Dyn-F (Known Same)) (z : Dyn-F Dyn) (d e : Dyn) → out-Dyn d ≡ lower Same y → out-Dyn e ≡ z
     → IsTrue (unfolded d e) → lower Same y ≡ z
 forward (layer.Bool a) (layer.Bool b) d e p q = rw (p, q) (λ h. ap layer.Bool (same_truth a b h))
-forward (layer.Unsigned a) (layer.Unsigned b) d e p q = rw (p, q) (λ h. ap layer.Unsigned (same_number a b h))
-forward (layer.Signed a) (layer.Signed b) d e p q = rw (p, q) (λ h. ap layer.Signed (same_integer a b h))
+forward (layer.Unsigned a) (layer.Unsigned b) d e p q =
+    rw (p, q) (λ h. ap layer.Unsigned (same_number a b h))
+forward (layer.Signed a) (layer.Signed b) d e p q =
+    rw (p, q) (λ h. ap layer.Signed (same_integer a b h))
 forward (layer.Text a) (layer.Text b) d e p q = rw (p, q) (λ h. ap layer.Text (same_text a b h))
 forward (layer.List a) (layer.List b) d e p q =
-    rw (p, q) (λ h. ap layer.List (same_list (λ (k : Known Same). k.0) ghosts.eq (λ k x. k.1 x) a b h))
-forward (layer.Record a) (layer.Record b) d e p q = rw (p, q) (λ h. ap layer.Record (same_fields a b h))
+    rw (p, q)
+    (λ h. ap layer.List (same_list (λ (k : Known Same). k.0) ghosts.eq (λ k x. k.1 x) a b h))
+forward (layer.Record a) (layer.Record b) d e p q =
+    rw (p, q) (λ h. ap layer.Record (same_fields a b h))
 forward (layer.Variant n i f) (layer.Variant m j g) d e p q =
     rw (p, q) (λ h. let parts = both _ _ h in let more = both _ _ parts.1 in
-    λ r. layer.Variant (same_text n m parts.0 r) (same_number i j more.0 r) (same_fields f g more.1 r))
+    λ r. layer.Variant
+    (same_text n m parts.0 r) (same_number i j more.0 r) (same_fields f g more.1 r))
 forward y z d e p q = rw (p, q) (λ h. cc)
 
 -- equal values are one

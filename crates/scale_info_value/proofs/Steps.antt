@@ -97,10 +97,11 @@ no_type left table id input h e =
 
 -- what comes of a description, by its definition
 by_definition :
-    {A X : Type 0} (none : Decoder A) (decode : AnyTypeDef (Unit {0}) X Text → Decoder A) (part : ℕ → X)
-    (o : Option Description) (d : TypeDef) (input : List ℕ)
+    {A X : Type 0} (none : Decoder A) (decode : AnyTypeDef (Unit {0}) X Text → Decoder A)
+    (part : ℕ → X) (o : Option Description) (d : TypeDef) (input : List ℕ)
     → option_map (λ t. t.type_def) o ≡ Some d
-    → by_type none decode part o input ≡ decode (map_definition {G = Unit {0}} (λ r. part r.id) (λ t. t) d) input
+    → by_type none decode part o input
+    ≡ decode (map_definition {G = Unit {0}} (λ r. part r.id) (λ t. t) d) input
 by_definition none decode part None d input e = cc
 by_definition none decode part (Some t) d input e =
     let p : t.type_def ≡ d = cc in
@@ -113,9 +114,11 @@ pub type_known :
     → (value_within left table id input ≡ definition_within left table d input)
     × (compact_within left table id input ≡ compact_definition_within left table d input)
 type_known left table id input d h e = (
-  value_level left table id input h ∙ by_definition missing value_by (part_of left table) (type_at table id) d input e,
+  value_level left table id input h
+      ∙ by_definition missing value_by (part_of left table) (type_at table id) d input e,
   compact_level left table id input h
-      ∙ by_definition missing compact_by (compact_within (left - 1) table) (type_at table id) d input e,
+      ∙ by_definition missing compact_by (compact_within (left - 1) table) (type_at table id) d
+      input e,
 )
 
 -- a composite is the record of its fields

@@ -48,14 +48,17 @@ same_entries f g read other law d e h =
 
 -- descriptions that unfold alike are decoded alike by their definitions
 same_definitions :
-    {D X : Type 0} (none : D) (by : AnyTypeDef (Unit {0}) X Text → D) (f g : ℕ → Tree Shape) (read other : ℕ → X)
+    {D X : Type 0} (none : D) (by : AnyTypeDef (Unit {0}) X Text → D) (f g : ℕ → Tree Shape)
+    (read other : ℕ → X)
     → ((m n : ℕ) → f m ≡ g n → read m ≡ other n)
     → (o p : Option PortableType) → tree_of f (option_map entry_of o) ≡ tree_of g (option_map entry_of p)
-    → by_type none by read (option_map (λ entry. entry.ty) o) ≡ by_type none by other (option_map (λ entry. entry.ty) p)
+    → by_type none by read (option_map (λ entry. entry.ty) o)
+    ≡ by_type none by other (option_map (λ entry. entry.ty) p)
 same_definitions none by f g read other law None None h = refl
 same_definitions none by f g read other law None (Some e) h = cc
 same_definitions none by f g read other law (Some d) None h = cc
-same_definitions none by f g read other law (Some d) (Some e) h = ap by (same_entries f g read other law d e h)
+same_definitions none by f g read other law (Some d) (Some e) h =
+    ap by (same_entries f g read other law d e h)
 
 -- where two ids unfold alike, compact integers are decoded alike
 pub compact_unfolded :
@@ -65,7 +68,8 @@ pub compact_unfolded :
 unfolding compact_within
 compact_unfolded zero table other m n h = refl
 compact_unfolded (suc left) table other m n h =
-    let e = same_definitions missing compact_by (unfold_to left (system_of table)) (unfold_to left (system_of other))
+    let e = same_definitions missing compact_by
+    (unfold_to left (system_of table)) (unfold_to left (system_of other))
     (compact_within left table) (compact_within left other)
     (compact_unfolded left table other) (slice_get table.types m) (slice_get other.types n) h in
     λ i input. e i input
@@ -111,7 +115,8 @@ pub value_unfolded :
 unfolding value_within
 value_unfolded zero table other m n h = refl
 value_unfolded (suc zero) table other m n h =
-    let e = same_definitions missing value_by (unfold_to 1 (system_of table)) (unfold_to 1 (system_of other))
+    let e = same_definitions missing value_by
+    (unfold_to 1 (system_of table)) (unfold_to 1 (system_of other))
     (λ r. record {
       value = λ bytes. failed too_deep;
       inner = λ bytes. failed too_deep;
@@ -130,7 +135,8 @@ value_unfolded (suc zero) table other m n h =
     (slice_get table.types m) (slice_get other.types n) h in
     λ i input. e i input
 value_unfolded (suc (suc left)) table other m n h =
-    let e = same_definitions missing value_by (unfold_to (suc (suc left)) (system_of table)) (unfold_to (suc (suc left)) (system_of other))
+    let e = same_definitions missing value_by
+    (unfold_to (suc (suc left)) (system_of table)) (unfold_to (suc (suc left)) (system_of other))
     (λ r. record {
       value = value_within (suc left) table r;
       inner = value_within left table r;

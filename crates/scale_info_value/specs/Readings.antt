@@ -15,8 +15,8 @@ use Rattle.scale_info_value.specs.ValueDefinitions.{value_by, compact_by}
 abbrev pub type_at : PortableRegistry → ℕ → Option Description
 type_at table id = option_map (λ entry. entry.ty) (slice_get table.types id)
 
--- What comes of the description of a type: what `by` makes of its definition, where `part` says what
--- an id in it stands for, or `none`.
+-- What comes of the description of a type: what `by` makes of its definition, where `part` says
+-- what an id in it stands for, or `none`.
 abbrev pub by_type : {D X : Type 0}
     → D → (AnyTypeDef (Unit {0}) X Text → D) → (ℕ → X) → Option Description → D
 by_type none by part None = none
