@@ -1,6 +1,6 @@
 -- Equality of decoded values decides whether they are one value.
 use Rattle.std.proofs.Common.{◌≡◌, ◌&&◌, ◌==◌, Bool, true, false, IsTrue, ℕ, List, [], ◌∷◌}
-use Rattle.std.proofs.Common.{map, Option, None, Some, refl, ap, subst, int_eq, rules, arith}
+use Rattle.std.proofs.Common.{map, Option, None, Some, refl, ap, subst, ◌∙◌, int_eq, rules, arith}
 use Rattle.std.proofs.lemmas.Grind.{common_steps}
 use Rattle.std.specs.Option.{option_eq}
 use lib.IntN.{ℤ}
@@ -11,19 +11,13 @@ use Rattle.scale_info_value.specs.declared.value.Dyn.TheOpen.{Dyn-F}
 use Rattle.scale_info_value.specs.declared.value.Dyn.TheOpen as layer
 use Rattle.scale_info_value.specs.declared.value.Dyn.TheViews.{out-Dyn, roll-Dyn, out-roll-Dyn}
 use Rattle.scale_info_value.specs.declared.value.Dyn.TheViews.{roll-out-Dyn}
-use Rattle.scale_info_value.specs.declared.value.Dyn.TheFolds.{ind-Dyn, map-Dyn}
-use Rattle.scale_info_value.specs.contracts.value.DynPartialEq.TheImpl.Laws.{is}
+use Rattle.scale_info_value.specs.contracts.value.DynPartialEq.TheImpl.Laws.{is, unfolded}
 use Rattle.scale_info_value.specs.contracts.value.DynPartialEq.TheImpl.{ghosts}
+use Rattle.scale_info_value.proofs.ByLayers.{Known, lower, by_layers}
 
 -- nothing else is equal to this value
 abbrev Same : Dyn → Type 0
 Same d = (e : Dyn) → IsTrue (ghosts.eq d e) → d ≡ e
-
-abbrev Known : Type 0
-Known = (d : Dyn) × Same d
-
-abbrev lower : Dyn-F Known → Dyn-F Dyn
-lower y = map-Dyn Known Dyn (λ e. e.0) y
 
 both : (p q : Bool) → IsTrue (p && q) → IsTrue p × IsTrue q
 both true q h = (refl, h)
@@ -69,43 +63,41 @@ Fields X = List (Option (List ℕ) × X)
 abbrev field_eq : Option (List ℕ) × Dyn → Option (List ℕ) × Dyn → Bool
 field_eq a b = option_eq (pointwise ◌==◌) a.0 b.0 && ghosts.eq a.1 b.1
 
-abbrev fields : Fields Known → Fields Dyn
+abbrev fields : Fields (Known Same) → Fields Dyn
 fields known = map (λ field. (field.0, field.1.0)) known
 
-same_fields : (ks : Fields Known) (xs : Fields Dyn) → IsTrue (pointwise field_eq (fields ks) xs) → fields ks ≡ xs
+same_fields :
+    (ks : Fields (Known Same)) (xs : Fields Dyn) → IsTrue (pointwise field_eq (fields ks) xs)
+    → fields ks ≡ xs
 same_fields ks xs =
-    same_list (λ (field : Option (List ℕ) × Known). (field.0, field.1.0)) field_eq
+    same_list (λ (field : Option (List ℕ) × Known Same). (field.0, field.1.0)) field_eq
     (λ k x h. let parts = both _ _ h in λ i. (same_name k.0 x.0 parts.0 i, k.1.1 x.1 parts.1 i)) ks xs
 
-forward : (y : Dyn-F Known) (z : Dyn-F Dyn) → IsTrue (ghosts.eq (roll-Dyn (lower y)) (roll-Dyn z)) → lower y ≡ z
-forward (layer.Bool a) (layer.Bool b) =
-    rw (is (roll-Dyn (layer.Bool a)) (roll-Dyn (layer.Bool b)), out-roll-Dyn (layer.Bool a), out-roll-Dyn (layer.Bool b))
-    (λ h. ap layer.Bool (same_truth a b h))
-forward (layer.Unsigned a) (layer.Unsigned b) =
-    rw (is (roll-Dyn (layer.Unsigned a)) (roll-Dyn (layer.Unsigned b)), out-roll-Dyn (layer.Unsigned a), out-roll-Dyn (layer.Unsigned b))
-    (λ h. ap layer.Unsigned (same_number a b h))
-forward (layer.Signed a) (layer.Signed b) =
-    rw (is (roll-Dyn (layer.Signed a)) (roll-Dyn (layer.Signed b)), out-roll-Dyn (layer.Signed a), out-roll-Dyn (layer.Signed b))
-    (λ h. ap layer.Signed (same_integer a b h))
-forward (layer.Text a) (layer.Text b) =
-    rw (is (roll-Dyn (layer.Text a)) (roll-Dyn (layer.Text b)), out-roll-Dyn (layer.Text a), out-roll-Dyn (layer.Text b))
-    (λ h. ap layer.Text (same_text a b h))
-forward (layer.List a) (layer.List b) =
-    rw (is (roll-Dyn (lower (layer.List a))) (roll-Dyn (layer.List b)), out-roll-Dyn (lower (layer.List a)), out-roll-Dyn (layer.List b))
-    (λ h. ap layer.List (same_list (λ (k : Known). k.0) ghosts.eq (λ k x. k.1 x) a b h))
-forward (layer.Record a) (layer.Record b) =
-    rw (is (roll-Dyn (lower (layer.Record a))) (roll-Dyn (layer.Record b)), out-roll-Dyn (lower (layer.Record a)), out-roll-Dyn (layer.Record b))
-    (λ h. ap layer.Record (same_fields a b h))
-forward (layer.Variant n i f) (layer.Variant m j g) =
-    rw (is (roll-Dyn (lower (layer.Variant n i f))) (roll-Dyn (layer.Variant m j g)), out-roll-Dyn (lower (layer.Variant n i f)), out-roll-Dyn (layer.Variant m j g))
-    (λ h. let parts = both _ _ h in let more = both _ _ parts.1 in
-    λ p. layer.Variant (same_text n m parts.0 p) (same_number i j more.0 p) (same_fields f g more.1 p))
-forward y z = rw (is (roll-Dyn (lower y)) (roll-Dyn z), out-roll-Dyn (lower y), out-roll-Dyn z) (λ h. cc)
+-- layers of equal values are one layer
+forward :
+    (y : Dyn-F (Known Same)) (z : Dyn-F Dyn) (d e : Dyn) → out-Dyn d ≡ lower Same y → out-Dyn e ≡ z
+    → IsTrue (unfolded d e) → lower Same y ≡ z
+forward (layer.Bool a) (layer.Bool b) d e p q = rw (p, q) (λ h. ap layer.Bool (same_truth a b h))
+forward (layer.Unsigned a) (layer.Unsigned b) d e p q =
+    rw (p, q) (λ h. ap layer.Unsigned (same_number a b h))
+forward (layer.Signed a) (layer.Signed b) d e p q =
+    rw (p, q) (λ h. ap layer.Signed (same_integer a b h))
+forward (layer.Text a) (layer.Text b) d e p q = rw (p, q) (λ h. ap layer.Text (same_text a b h))
+forward (layer.List a) (layer.List b) d e p q =
+    rw (p, q)
+    (λ h. ap layer.List (same_list (λ (k : Known Same). k.0) ghosts.eq (λ k x. k.1 x) a b h))
+forward (layer.Record a) (layer.Record b) d e p q =
+    rw (p, q) (λ h. ap layer.Record (same_fields a b h))
+forward (layer.Variant n i f) (layer.Variant m j g) d e p q =
+    rw (p, q) (λ h. let parts = both _ _ h in let more = both _ _ parts.1 in
+    λ r. layer.Variant
+    (same_text n m parts.0 r) (same_number i j more.0 r) (same_fields f g more.1 r))
+forward y z d e p q = rw (p, q) (λ h. cc)
 
 -- equal values are one
 pub one_value : (d e : Dyn) → IsTrue (ghosts.eq d e) → d ≡ e
 one_value =
-    ind-Dyn Same (λ x y joined e.
-    subst (λ z. IsTrue (ghosts.eq (roll-Dyn z) e) → roll-Dyn z ≡ e) joined
-    (subst (λ d. IsTrue (ghosts.eq (roll-Dyn (lower y)) d) → roll-Dyn (lower y) ≡ d) (roll-out-Dyn e)
-    (λ h. ap roll-Dyn (forward y (out-Dyn e) h))))
+    by_layers Same (λ y e h.
+    let d = roll-Dyn (lower Same y) in
+    ap roll-Dyn (forward y (out-Dyn e) d e (out-roll-Dyn (lower Same y)) refl (subst IsTrue (is d e) h))
+    ∙ roll-out-Dyn e)

@@ -29,9 +29,7 @@ repeat_fails count read input k done rest r e h less so_far f =
 -- a failure is the error that it becomes
 fails_as : {A : Type 0} (whole : Outcome A) (why : Failure) → whole ≡ failed why → IsErrorOf whole (error_of why)
 fails_as whole failure.NoSuchType f = f
-fails_as whole failure.Unsupported f = f
-fails_as whole failure.TooDeep f = f
-fails_as whole failure.Malformed f = f
+fails_as whole why f = f
 
 -- the failure of the whole, passed on as an error
 pub failed_as :

@@ -42,11 +42,8 @@ reads_none done input = ap (λ vs. decoded vs input) (append-nil done)
 pub passes :
     {A B : Type 0} (outcome : Outcome A) (whole : Outcome B) (e : ValueError) → ((why : Failure) → outcome
     ≡ failed why → whole ≡ failed why) → IsErrorOf outcome e → IsErrorOf whole e
-passes outcome whole error.NoSuchType f h = f _ h
-passes outcome whole error.Unsupported f h = f _ h
-passes outcome whole error.TooDeep f h = f _ h
-passes outcome whole error.Malformed f h = f _ h
 passes outcome whole error.Memory f h = tt
+passes outcome whole e f h = f _ h
 
 -- a decoder fails, and so do all
 pub first_fails :

@@ -1,4 +1,4 @@
-mod ByTypes
+pub mod ByLayers
 pub mod Bounds
 pub mod Counts
 pub mod Decoded

@@ -14,11 +14,10 @@ use Rattle.scale_info_value.specs.Outcomes.{and_then, outcome_map, in_turn}
 use Rattle.scale_info_value.specs.IntegerDecoders.{byte}
 use Rattle.scale_info_value.specs.ValueDefinitions.{Part, fields_of, primitive, value_by, compact_by}
 use Rattle.scale_info_primitives.specs.declared.primitive.TypeDefPrimitive.{TypeDefPrimitive}
-use Rattle.scale_info_value.specs.Readings.{type_at, value_within, compact_within}
+use Rattle.scale_info_value.specs.Readings.{type_at, by_type, missing, value_within, compact_within}
 use Rattle.scale_info_value.specs.Readings.{definition_within, fields_within}
 use Rattle.scale_info_value.specs.Readings.{compact_definition_within, compact_by_type}
 use Rattle.scale_info_value.specs.Readings.{value_by_type, part_within, variant_within}
-use Rattle.scale_info_value.proofs.ByTypes.{by_type, values_by_type, compacts_by_type}
 
 -- where no level is left, a value is too deep, and so is a compact integer
 pub nothing_left :
@@ -98,12 +97,13 @@ no_type left table id input h e =
 
 -- what comes of a description, by its definition
 by_definition :
-    {A X : Type 0} (decode : AnyTypeDef (Unit {0}) X Text → Decoder A) (part : ℕ → X) (o : Option Description) (d : TypeDef)
-    (input : List ℕ)
+    {A X : Type 0} (none : Decoder A) (decode : AnyTypeDef (Unit {0}) X Text → Decoder A)
+    (part : ℕ → X) (o : Option Description) (d : TypeDef) (input : List ℕ)
     → option_map (λ t. t.type_def) o ≡ Some d
-    → by_type decode part o input ≡ decode (map_definition {G = Unit {0}} (λ r. part r.id) (λ t. t) d) input
-by_definition decode part None d input e = cc
-by_definition decode part (Some t) d input e =
+    → by_type none decode part o input
+    ≡ decode (map_definition {G = Unit {0}} (λ r. part r.id) (λ t. t) d) input
+by_definition none decode part None d input e = cc
+by_definition none decode part (Some t) d input e =
     let p : t.type_def ≡ d = cc in
     ap (λ d. decode (map_definition {G = Unit {0}} (λ r. part r.id) (λ t. t) d) input) p
 
@@ -114,10 +114,11 @@ pub type_known :
     → (value_within left table id input ≡ definition_within left table d input)
     × (compact_within left table id input ≡ compact_definition_within left table d input)
 type_known left table id input d h e = (
-  value_level left table id input h ∙ values_by_type (part_of left table) (type_at table id) input
-      ∙ by_definition value_by (part_of left table) (type_at table id) d input e,
-  compact_level left table id input h ∙ compacts_by_type (compact_within (left - 1) table) (type_at table id) input
-      ∙ by_definition compact_by (compact_within (left - 1) table) (type_at table id) d input e,
+  value_level left table id input h
+      ∙ by_definition missing value_by (part_of left table) (type_at table id) d input e,
+  compact_level left table id input h
+      ∙ by_definition missing compact_by (compact_within (left - 1) table) (type_at table id) d
+      input e,
 )
 
 -- a composite is the record of its fields

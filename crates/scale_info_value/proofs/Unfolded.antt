@@ -4,7 +4,7 @@ use Rattle.std.proofs.Common.{option_map, slice_get, refl, ap, sym, subst, ◌�
 use Rattle.scale_info_numberings.specs.Tables.{IsTable, table_system}
 use Rattle.scale_info_numberings.proofs.Tables.{unfolds_alike}
 use Rattle.std.proofs.lemmas.Option.{slice_get-map}
-use Rattle.scale_info_types.specs.Portable.{Id, Text, Description}
+use Rattle.scale_info_types.specs.Portable.{Id, Text}
 use Rattle.scale_info_types.specs.declared.ty.TypeDef.{TypeDef as AnyTypeDef}
 use Rattle.scale_info_types.specs.Shapes.{Shape, shape, map_definition}
 use Rattle.scale_info_types.specs.References.{references}
@@ -14,10 +14,9 @@ use Rattle.scale_info_numberings.specs.Unfoldings.{Tree, node, tree, trees, tree
 use Rattle.scale_info_tables.specs.TableSystems.{system_of}
 use Rattle.scale_info_walk.specs.TypeSystems.{entry_of}
 use Rattle.scale_info_tables.specs.declared.portable.PortableRegistry.{PortableRegistry}
-use Rattle.scale_info_value.specs.Outcomes.{Decoder, failed, too_deep}
+use Rattle.scale_info_value.specs.Outcomes.{failed, too_deep}
 use Rattle.scale_info_value.specs.ValueDefinitions.{value_by, compact_by}
-use Rattle.scale_info_value.specs.Readings.{compact_by_type, value_by_type, compact_within, value_within, reading}
-use Rattle.scale_info_value.proofs.ByTypes.{by_type, values_by_type, compacts_by_type}
+use Rattle.scale_info_value.specs.Readings.{by_type, missing, compact_within, value_within, reading}
 use Rattle.scale_info_types.proofs.ShapeAndReferences.{shape_and_references}
 
 -- references that unfold alike are decoded alike, one by one
@@ -49,31 +48,17 @@ same_entries f g read other law d e h =
 
 -- descriptions that unfold alike are decoded alike by their definitions
 same_definitions :
-    {A X : Type 0} (decode : AnyTypeDef (Unit {0}) X Text → Decoder A) (f g : ℕ → Tree Shape) (read other : ℕ → X)
+    {D X : Type 0} (none : D) (by : AnyTypeDef (Unit {0}) X Text → D) (f g : ℕ → Tree Shape)
+    (read other : ℕ → X)
     → ((m n : ℕ) → f m ≡ g n → read m ≡ other n)
     → (o p : Option PortableType) → tree_of f (option_map entry_of o) ≡ tree_of g (option_map entry_of p)
-    → (input : List ℕ)
-    → by_type decode read (option_map (λ entry. entry.ty) o) input
-    ≡ by_type decode other (option_map (λ entry. entry.ty) p) input
-same_definitions decode f g read other law None None h input = refl
-same_definitions decode f g read other law None (Some e) h input = cc
-same_definitions decode f g read other law (Some d) None h input = cc
-same_definitions decode f g read other law (Some d) (Some e) h input =
-    ap (λ t. decode t input) (same_entries f g read other law d e h)
-
--- and so in each way to decode that goes by them
-same_step :
-    {A X : Type 0} (decode : AnyTypeDef (Unit {0}) X Text → Decoder A)
-    (by : (ℕ → X) → Option Description → Decoder A)
-    → ((part : ℕ → X) (o : Option Description) (input : List ℕ) → by part o input ≡ by_type decode part o input)
-    → (f g : ℕ → Tree Shape) (read other : ℕ → X) → ((m n : ℕ) → f m ≡ g n → read m ≡ other n)
-    → (o p : Option PortableType) → tree_of f (option_map entry_of o) ≡ tree_of g (option_map entry_of p)
-    → (input : List ℕ)
-    → by read (option_map (λ entry. entry.ty) o) input ≡ by other (option_map (λ entry. entry.ty) p) input
-same_step decode by is f g read other law o p h input =
-    is read (option_map (λ entry. entry.ty) o) input
-    ∙ same_definitions decode f g read other law o p h input
-    ∙ sym (is other (option_map (λ entry. entry.ty) p) input)
+    → by_type none by read (option_map (λ entry. entry.ty) o)
+    ≡ by_type none by other (option_map (λ entry. entry.ty) p)
+same_definitions none by f g read other law None None h = refl
+same_definitions none by f g read other law None (Some e) h = cc
+same_definitions none by f g read other law (Some d) None h = cc
+same_definitions none by f g read other law (Some d) (Some e) h =
+    ap by (same_entries f g read other law d e h)
 
 -- where two ids unfold alike, compact integers are decoded alike
 pub compact_unfolded :
@@ -83,10 +68,11 @@ pub compact_unfolded :
 unfolding compact_within
 compact_unfolded zero table other m n h = refl
 compact_unfolded (suc left) table other m n h =
-    let e = same_step compact_by compact_by_type compacts_by_type (unfold_to left (system_of table)) (unfold_to left (system_of other))
+    let e = same_definitions missing compact_by
+    (unfold_to left (system_of table)) (unfold_to left (system_of other))
     (compact_within left table) (compact_within left other)
     (compact_unfolded left table other) (slice_get table.types m) (slice_get other.types n) h in
-    λ i input. e input i
+    λ i input. e i input
 
 same_kids :
     (f g f' g' : ℕ → Tree Shape) → ((m n : ℕ) → f m ≡ g n → f' m ≡ g' n) → (ms ns : List ℕ) → trees f ms
@@ -129,7 +115,8 @@ pub value_unfolded :
 unfolding value_within
 value_unfolded zero table other m n h = refl
 value_unfolded (suc zero) table other m n h =
-    let e = same_step value_by value_by_type values_by_type (unfold_to 1 (system_of table)) (unfold_to 1 (system_of other))
+    let e = same_definitions missing value_by
+    (unfold_to 1 (system_of table)) (unfold_to 1 (system_of other))
     (λ r. record {
       value = λ bytes. failed too_deep;
       inner = λ bytes. failed too_deep;
@@ -146,9 +133,10 @@ value_unfolded (suc zero) table other m n h =
     let level = compact_unfolded 1 table other r s same in
     λ i. record { value = λ bytes. failed too_deep; inner = λ bytes. failed too_deep; compact = level i })
     (slice_get table.types m) (slice_get other.types n) h in
-    λ i input. e input i
+    λ i input. e i input
 value_unfolded (suc (suc left)) table other m n h =
-    let e = same_step value_by value_by_type values_by_type (unfold_to (suc (suc left)) (system_of table)) (unfold_to (suc (suc left)) (system_of other))
+    let e = same_definitions missing value_by
+    (unfold_to (suc (suc left)) (system_of table)) (unfold_to (suc (suc left)) (system_of other))
     (λ r. record {
       value = value_within (suc left) table r;
       inner = value_within left table r;
@@ -168,7 +156,7 @@ value_unfolded (suc (suc left)) table other m n h =
     let level = compact_unfolded (suc (suc left)) table other r s same in
     λ i. record { value = deeper i; inner = inner i; compact = level i })
     (slice_get table.types m) (slice_get other.types n) h in
-    λ i input. e input i
+    λ i input. e i input
 
 by_levels :
     (table other : PortableRegistry) (id index left more : ℕ) → ((k : ℕ) → left ≡ suc k → more ≡ suc (suc k))

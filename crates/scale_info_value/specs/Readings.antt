@@ -1,7 +1,8 @@
 -- What comes of decoding a value by a table.
 use Rattle.std.specs.Prelude.{ℕ, zero, suc, ◌-◌, List, Option, Some, None, option_map, slice_get}
 use Rattle.std.specs.Prelude.{map}
-use Rattle.scale_info_types.specs.Portable.{Id, Field, Variant, TypeDef, Description}
+use Rattle.scale_info_types.specs.Portable.{Id, Text, Field, Variant, TypeDef, Description}
+use Rattle.scale_info_types.specs.declared.ty.TypeDef.{TypeDef as AnyTypeDef}
 use Rattle.scale_info_types.specs.Shapes.{map_definition, map_field, map_variant}
 use Rattle.scale_info_tables.specs.declared.portable.PortableRegistry.{PortableRegistry}
 use Rattle.scale_info_value.specs.declared.value.Dyn.{Dyn}
@@ -14,11 +15,21 @@ use Rattle.scale_info_value.specs.ValueDefinitions.{value_by, compact_by}
 abbrev pub type_at : PortableRegistry → ℕ → Option Description
 type_at table id = option_map (λ entry. entry.ty) (slice_get table.types id)
 
+-- What comes of the description of a type: what `by` makes of its definition, where `part` says
+-- what an id in it stands for, or `none`.
+abbrev pub by_type : {D X : Type 0}
+    → D → (AnyTypeDef (Unit {0}) X Text → D) → (ℕ → X) → Option Description → D
+by_type none by part None = none
+by_type none by part (Some d) =
+    by (map_definition {G = Unit {0}} (λ r. part r.id) (λ t. t) d.type_def)
+
+-- nothing is decoded at an id that is no index
+abbrev pub missing : {A : Type 0} → Decoder A
+missing input = failed no_such_type
+
 -- a compact integer by the description of a type, where `read` decodes one by an id
 abbrev pub compact_by_type : (ℕ → Decoder ℕ) → Option Description → Decoder ℕ
-compact_by_type read None input = failed no_such_type
-compact_by_type read (Some d) input =
-    compact_by (map_definition {G = Unit {0}} (λ r. read r.id) (λ t. t) d.type_def) input
+compact_by_type read d = by_type missing compact_by read d
 
 -- a compact integer by an id, where that many levels are left
 unfoldable pub compact_within : ℕ → PortableRegistry → ℕ → Decoder ℕ
@@ -28,9 +39,7 @@ compact_within (suc left) table id input =
 
 -- a value by the description of its type, where `part` decodes by an id
 abbrev pub value_by_type : (ℕ → Part) → Option Description → Decoder Dyn
-value_by_type part None input = failed no_such_type
-value_by_type part (Some d) input =
-    value_by (map_definition {G = Unit {0}} (λ r. part r.id) (λ t. t) d.type_def) input
+value_by_type part d = by_type missing value_by part d
 
 -- A value by an id, where that many levels are left. Its parts are one level deeper; the type of a
 -- compact integer is as deep as the integer itself.

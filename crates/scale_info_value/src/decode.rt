@@ -407,7 +407,7 @@ fn map_value<'a, T: Definitions>(
         (IsErrorOf (definition_within left (T.table table.now) (def.Map map.now) input.now)) }
 {
     let (count, rest) = count(input)?;
-    let (values, rest) = pairs(alloc, table, &map.key, &map.value, count, left, rest)?;
+    let (values, rest) = pairs(alloc, table, map, count, left, rest)?;
     Ok((Dyn::List(values), rest))
 }
 
@@ -417,23 +417,23 @@ fn map_value<'a, T: Definitions>(
 fn pairs<'a, T: Definitions>(
     alloc: Global,
     table: &T,
-    key: &UntrackedSymbol<TypeId>,
-    value: &UntrackedSymbol<TypeId>,
+    map: &TypeDefMap<PortableForm>,
     count: u32,
     left: u8,
     input: &'a [u8],
 ) -> Result<(Items<Dyn>, &'a [u8]), ValueError>
     requires { 1 ≤ left }
     ensures ok { IfOk result
-        (λ found. pairs_within left (T.table table.now) key.now value.now count input.now
+        (λ found. pairs_within left (T.table table.now) map.now.key map.now.value count input.now
         ≡ decoded found.0 found.1.now) }
     ensures err { IfErr result
-        (IsErrorOf (pairs_within left (T.table table.now) key.now value.now count input.now)) }
+        (IsErrorOf
+        (pairs_within left (T.table table.now) map.now.key map.now.value count input.now)) }
 {
     let mut values = Items::new(alloc);
     let mut rest = input;
     for _ in 0..count {
-        let (pair, after) = pair(alloc, table, key, value, left, rest)?;
+        let (pair, after) = pair(alloc, table, map, left, rest)?;
         values.push_towards(count as usize, pair)?;
         rest = after;
     }
@@ -457,20 +457,19 @@ fn list_of_two(alloc: Global, key: Dyn, value: Dyn) -> Result<Dyn, ValueError>
 fn pair<'a, T: Definitions>(
     alloc: Global,
     table: &T,
-    key: &UntrackedSymbol<TypeId>,
-    value: &UntrackedSymbol<TypeId>,
+    map: &TypeDefMap<PortableForm>,
     left: u8,
     input: &'a [u8],
 ) -> Result<(Dyn, &'a [u8]), ValueError>
     requires { 1 ≤ left }
     ensures ok { IfOk result
-        (λ found. pair_within left (T.table table.now) key.now value.now input.now
+        (λ found. pair_within left (T.table table.now) map.now.key map.now.value input.now
         ≡ decoded found.0 found.1.now) }
     ensures err { IfErr result
-        (IsErrorOf (pair_within left (T.table table.now) key.now value.now input.now)) }
+        (IsErrorOf (pair_within left (T.table table.now) map.now.key map.now.value input.now)) }
 {
     let inner = left.saturating_sub(2);
-    let (key, rest) = value_within(alloc, table, key.id, inner, input)?;
-    let (value, rest) = value_within(alloc, table, value.id, inner, rest)?;
+    let (key, rest) = value_within(alloc, table, map.key.id, inner, input)?;
+    let (value, rest) = value_within(alloc, table, map.value.id, inner, rest)?;
     Ok((list_of_two(alloc, key, value)?, rest))
 }

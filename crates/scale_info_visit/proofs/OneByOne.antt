@@ -12,7 +12,8 @@ use Rattle.scale_info_value.specs.declared.value.Dyn.TheVariants.{rolls-List, ro
 use Rattle.scale_info_value.specs.declared.value.Dyn.TheOpen.{Dyn-F}
 use Rattle.scale_info_value.specs.declared.value.Dyn.TheOpen as layer
 use Rattle.scale_info_value.specs.declared.value.Dyn.TheViews.{roll-Dyn}
-use Rattle.scale_info_value.specs.declared.value.Dyn.TheFolds.{fold-roll-Dyn, ind-Dyn, map-Dyn}
+use Rattle.scale_info_value.specs.declared.value.Dyn.TheFolds.{fold-roll-Dyn, map-Dyn}
+use Rattle.scale_info_value.proofs.ByLayers.{Known, lower, by_layers}
 use Rattle.scale_info_visit.specs.Events as all_events
 use Rattle.scale_info_visit.specs.Events.{Event, truth, unsigned, signed, text, bytes, begin_list, end_list, begin_record, end_record}
 use Rattle.scale_info_visit.specs.Events.{begin_variant, end_variant, field, keys, all_named, items_events, integers_in, list_events}
@@ -35,18 +36,7 @@ first_integer :
     → (n : ℕ) × (part ≡ unsigned n ∷ []) × (option_map (λ ns. n ∷ ns) (integers_in items) ≡ Some all)
 first_integer [] items all e = cc
 first_integer (unsigned n ∷ []) items all e = (n, refl, e)
-first_integer (unsigned n ∷ f ∷ more) items all e = cc
-first_integer (truth b ∷ more) items all e = cc
-first_integer (signed n ∷ more) items all e = cc
-first_integer (text t ∷ more) items all e = cc
-first_integer (bytes b ∷ more) items all e = cc
-first_integer (begin_list n ∷ more) items all e = cc
-first_integer (end_list ∷ more) items all e = cc
-first_integer (begin_record ns ∷ more) items all e = cc
-first_integer (end_record ns ∷ more) items all e = cc
-first_integer (begin_variant t n ns b ∷ more) items all e = cc
-first_integer (end_variant t n ns b ∷ more) items all e = cc
-first_integer (field t b ∷ more) items all e = cc
+first_integer part items all e = cc
 
 -- the others are integers too
 other_integers : (n : ℕ) (o : Option (List ℕ)) (all : List ℕ) → option_map (λ ns. n ∷ ns) o ≡ Some all → (ns : List ℕ) × (o ≡ Some ns) × (all ≡ n ∷ ns)
@@ -112,14 +102,6 @@ module _ (table : PortableRegistry) where
   abbrev Alike : Dyn → Type 0
   Alike d = (type : Option TypeDef) → apart (events_by table type d) ≡ events_of d
 
-  -- a value of which that is known
-  abbrev Known : Type 0
-  Known = (d : Dyn) × Alike d
-
-  -- a layer of such values
-  abbrev lower : Dyn-F Known → Dyn-F Dyn
-  lower y = map-Dyn Known Dyn (λ e. e.0) y
-
   -- a layer with no parts
   by_layer :
       (x : Dyn-F Dyn) (type : Option TypeDef)
@@ -137,7 +119,7 @@ module _ (table : PortableRegistry) where
       ∙ (λ i. begin_list (length-map vs events_of i) ∷ flat_map-map (λ e. e) events_of vs i ++ end_list ∷ [])
 
   -- a list
-  lists_alike : (ks : List Known) → Alike (dyn.List (map (λ k. k.0) ks))
+  lists_alike : (ks : List (Known Alike)) → Alike (dyn.List (map (λ k. k.0) ks))
   lists_alike ks type =
       let vs : List Dyn = map (λ k. k.0) ks in
       let types = part_types table type 0 (length vs) in
@@ -180,7 +162,7 @@ module _ (table : PortableRegistry) where
   fields_alike :
       (first last begins ends : List (Option Text) → Event) → ((ns : List (Option Text)) → without_type (first ns) ≡ begins ns ∷ [])
       → ((ns : List (Option Text)) → without_type (last ns) ≡ ends ns ∷ [])
-      → (ks : List (Option Text × Known)) (types : List (Option TypeDef))
+      → (ks : List (Option Text × Known Alike)) (types : List (Option TypeDef))
       → apart (between_names first last types (map (λ k. (k.0, k.1.0)) ks)) ≡ plain_between begins ends (plain (map (λ k. (k.0, k.1.0)) ks))
   fields_alike first last begins ends one other ks types =
       let fs : List (Option Text × Dyn) = map (λ k. (k.0, k.1.0)) ks in
@@ -194,7 +176,7 @@ module _ (table : PortableRegistry) where
       ∙ ap (λ ns. begins ns ∷ flat_map (all_events.field_events (all_named ns)) (plain fs) ++ ends ns ∷ []) (sym (keys_plain fs))
 
   -- each layer of values, whose events do not depend on types
-  layers_alike : (y : Dyn-F Known) → Alike (roll-Dyn (lower y))
+  layers_alike : (y : Dyn-F (Known Alike)) → Alike (roll-Dyn (lower Alike y))
   layers_alike (layer.Bool b) type = by_layer (layer.Bool b) type refl
   layers_alike (layer.Unsigned n) type = by_layer (layer.Unsigned n) type refl
   layers_alike (layer.Signed n) type = by_layer (layer.Signed n) type refl
@@ -216,4 +198,4 @@ module _ (table : PortableRegistry) where
 
   -- every value's events, with all forgotten that types say, are those without types
   pub all_alike : (d : Dyn) → Alike d
-  all_alike = ind-Dyn Alike (λ x y joined. subst (λ z. Alike (roll-Dyn z)) joined (layers_alike y))
+  all_alike = by_layers Alike layers_alike

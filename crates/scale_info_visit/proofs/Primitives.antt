@@ -103,29 +103,9 @@ places_alone table types (suc n) k input vs rest e =
 -- a type whose values are bytes
 byte_kind : (k : TypeDefPrimitive) → is_byte (Some (def.Primitive k)) ≡ true → k ≡ kind.U8
 byte_kind kind.U8 e = refl
-byte_kind kind.Bool e = cc
-byte_kind kind.Char e = cc
-byte_kind kind.Str e = cc
-byte_kind kind.U16 e = cc
-byte_kind kind.U32 e = cc
-byte_kind kind.U64 e = cc
-byte_kind kind.U128 e = cc
-byte_kind kind.U256 e = cc
-byte_kind kind.I8 e = cc
-byte_kind kind.I16 e = cc
-byte_kind kind.I32 e = cc
-byte_kind kind.I64 e = cc
-byte_kind kind.I128 e = cc
-byte_kind kind.I256 e = cc
+byte_kind k e = cc
 
 -- the definition of a type whose values are bytes
 pub byte_type : (d : TypeDef) → is_byte (Some d) ≡ true → d ≡ def.Primitive kind.U8
 byte_type (def.Primitive k) e = ap def.Primitive (byte_kind k e)
-byte_type (def.Composite d) e = cc
-byte_type (def.Variant d) e = cc
-byte_type (def.Sequence d) e = cc
-byte_type (def.Array d) e = cc
-byte_type (def.Tuple d) e = cc
-byte_type (def.Compact d) e = cc
-byte_type (def.BitSequence d) e = cc
-byte_type (def.Map d) e = cc
+byte_type d e = cc

@@ -9,7 +9,8 @@ use Rattle.scale_info_value.specs.declared.value.Dyn.{Dyn}
 use Rattle.scale_info_value.specs.declared.value.Dyn.TheOpen.{Dyn-F}
 use Rattle.scale_info_value.specs.declared.value.Dyn.TheOpen as layer
 use Rattle.scale_info_value.specs.declared.value.Dyn.TheViews.{roll-Dyn}
-use Rattle.scale_info_value.specs.declared.value.Dyn.TheFolds.{fold-roll-Dyn, ind-Dyn, map-Dyn}
+use Rattle.scale_info_value.specs.declared.value.Dyn.TheFolds.{fold-roll-Dyn, map-Dyn}
+use Rattle.scale_info_value.proofs.ByLayers.{Known, lower, by_layers}
 use Rattle.scale_info_visit.specs.Events.{Event, truth, unsigned, signed, text, bytes, begin_list, end_list, begin_record, end_record}
 use Rattle.scale_info_visit.specs.Events.{begin_variant, end_variant, field, field_events, keys, all_named, events_of, events, definition_at}
 use Rattle.scale_info_visit.specs.Sizes.{size_step, size, values, values_in}
@@ -64,43 +65,37 @@ all_apart (e ∷ es) =
 abbrev Counted : Dyn → Type 0
 Counted d = values_in (events_of d) ≡ size d
 
--- a value of which that is known
-abbrev Known : Type 0
-Known = (d : Dyn) × Counted d
-
--- a layer of such values
-abbrev lower : Dyn-F Known → Dyn-F Dyn
-lower y = map-Dyn Known Dyn (λ e. e.0) y
-
 -- parts in a row are of as many values as all of them
 items_many :
-    (ks : List Known) (last : Event) → values last ≡ 0
-    → values_in (flat_map (λ e. e) (map events_of (map (λ (h : Known). h.0) ks)) ++ last ∷ []) ≡ sum (map size (map (λ (h : Known). h.0) ks))
+    (ks : List (Known Counted)) (last : Event) → values last ≡ 0
+    → values_in (flat_map (λ e. e) (map events_of (map (λ (h : Known Counted). h.0) ks)) ++ last ∷ [])
+    ≡ sum (map size (map (λ (h : Known Counted). h.0) ks))
 items_many [] last none = omega arith
 items_many (k ∷ ks) last none =
     let here = k.1 in
     let rest = items_many ks last none in
-    let others : List Event = flat_map (λ e. e) (map events_of (map (λ (h : Known). h.0) ks)) in
+    let others : List Event =
+    flat_map (λ e. e) (map events_of (map (λ (h : Known Counted). h.0) ks)) in
     let both =
     ap values_in (append_assoc (events_of k.0) others (last ∷ [])) ∙ sum_by-append values (events_of k.0) (others ++ last ∷ []) in
-    let more = sum_more (λ n. n) (size k.0) (map size (map (λ (h : Known). h.0) ks)) in
+    let more = sum_more (λ n. n) (size k.0) (map size (map (λ (h : Known Counted). h.0) ks)) in
     omega arith
 
 -- fields of such values
-abbrev fields_of : List (Option Text × Known) → List (Option Text × Dyn)
-fields_of ks = map (λ (k : Option Text × Known). (k.0, k.1.0)) ks
+abbrev fields_of : List (Option Text × Known Counted) → List (Option Text × Dyn)
+fields_of ks = map (λ (k : Option Text × Known Counted). (k.0, k.1.0)) ks
 
 -- they with their events
-abbrev plain_fields : List (Option Text × Known) → List (Option Text × List Event)
+abbrev plain_fields : List (Option Text × Known Counted) → List (Option Text × List Event)
 plain_fields ks = map (λ (f : Option Text × Dyn). (f.0, events_of f.1)) (fields_of ks)
 
 -- the events of fields
-abbrev shown_fields : Bool → List (Option Text × Known) → List Event
+abbrev shown_fields : Bool → List (Option Text × Known Counted) → List Event
 shown_fields named ks = flat_map (field_events named) (plain_fields ks)
 
 -- so are fields
 fields_many :
-    (named : Bool) (ks : List (Option Text × Known)) (last : Event) → values last ≡ 0
+    (named : Bool) (ks : List (Option Text × Known Counted)) (last : Event) → values last ≡ 0
     → values_in (shown_fields named ks ++ last ∷ [])
     ≡ sum_by (λ (f : Option Text × ℕ). f.1) (map (λ (f : Option Text × Dyn). (f.0, size f.1)) (fields_of ks))
 fields_many named [] last none = omega arith
@@ -122,14 +117,15 @@ begins_with first es n one many = let more = sum_more values first es in omega a
 
 -- one step of a layer
 step_counted :
-    (y : Dyn-F Known)
-    → values_in (step_alone (map-Dyn Dyn (List Event) events_of (lower y))) ≡ size_step (map-Dyn Dyn ℕ size (lower y))
+    (y : Dyn-F (Known Counted))
+    → values_in (step_alone (map-Dyn Dyn (List Event) events_of (lower Counted y)))
+    ≡ size_step (map-Dyn Dyn ℕ size (lower Counted y))
 step_counted (layer.Bool b) = refl
 step_counted (layer.Unsigned n) = refl
 step_counted (layer.Signed n) = refl
 step_counted (layer.Text t) = refl
 step_counted (layer.List ks) =
-    let items : List (List Event) = map events_of (map (λ (h : Known). h.0) ks) in
+    let items : List (List Event) = map events_of (map (λ (h : Known Counted). h.0) ks) in
     begins_with (begin_list (length items)) (flat_map (λ e. e) items ++ end_list ∷ []) _ refl (items_many ks end_list refl)
 step_counted (layer.Record ks) =
     let names = keys (plain_fields ks) in
@@ -141,16 +137,16 @@ step_counted (layer.Variant name index ks) =
     (fields_many (all_named names) ks (end_variant name index names false) refl)
 
 -- each layer
-layers_counted : (y : Dyn-F Known) → Counted (roll-Dyn (lower y))
+layers_counted : (y : Dyn-F (Known Counted)) → Counted (roll-Dyn (lower Counted y))
 layers_counted y =
-    ap values_in (fold-roll-Dyn (List Event) step_alone (lower y)) ∙ step_counted y
-    ∙ sym (fold-roll-Dyn ℕ size_step (lower y))
+    ap values_in (fold-roll-Dyn (List Event) step_alone (lower Counted y)) ∙ step_counted y
+    ∙ sym (fold-roll-Dyn ℕ size_step (lower Counted y))
 
 -- the events of a value are of as many values as it is
 pub events_many : (table : PortableRegistry) (id : ℕ) (value : Dyn) → values_in (events table id value) ≡ size value
 events_many table id value =
     all_apart (events table id value) ∙ ap values_in (all_alike table value (definition_at table id))
-    ∙ ind-Dyn Counted (λ x y joined. subst (λ z. Counted (roll-Dyn z)) joined (layers_counted y)) value
+    ∙ by_layers Counted layers_counted value
 
 -- a value that was shown is of as many values as its events, which are so many
 pub fits :

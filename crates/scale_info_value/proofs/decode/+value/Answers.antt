@@ -58,13 +58,17 @@ items_by-loop-preserved g t c =
 
 pub pairs-returns-in_err-pair-clause-err : goal.pairs-returns-in_err-pair-clause-err
 pairs-returns-in_err-pair-clause-err g t c =
-    repeat_fails c.args.count (pair_within c.args.left (g.T.Definitions.table c.args.table.now) c.args.key.now c.args.value.now)
+    repeat_fails c.args.count
+    (pair_within c.args.left (g.T.Definitions.table c.args.table.now) c.args.map.now.key
+    c.args.map.now.value)
     c.args.input.now c.loop.counter c.loop.values c.loop.rest.now c.from_residual.result
     c.in_err-pair.field-0.0 c.from_residual.ensures.1 (omega arith) c.loop.invariant c.in_err-pair.ensures.err
 
 pub pairs-loop-preserved : goal.pairs-loop-preserved
 pairs-loop-preserved g t c =
-    let read = pair_within c.args.left (g.T.Definitions.table c.args.table.now) c.args.key.now c.args.value.now in
+    let read =
+    pair_within c.args.left (g.T.Definitions.table c.args.table.now) c.args.map.now.key
+    c.args.map.now.value in
     rw c.in_ok-push_towards.ensures.list
     (done_more c.args.count read c.args.input.now c.loop.counter c.loop.values c.loop.rest.now c.in_ok-pair.pair
     c.in_ok-pair.after.now (omega arith) c.loop.invariant c.in_ok-pair.ensures.ok)

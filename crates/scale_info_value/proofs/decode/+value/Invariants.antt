@@ -62,4 +62,5 @@ invariant-fields-loop-field g l =
 
 abbrev pub invariant-pairs-loop : goal.invariant-pairs-loop
 invariant-pairs-loop g l =
-    Done l.count (pair_within l.left (g.T.Definitions.table l.table) l.key l.value) l.input l.counter l.values l.rest
+    Done l.count (pair_within l.left (g.T.Definitions.table l.table) l.map.key l.map.value)
+    l.input l.counter l.values l.rest
