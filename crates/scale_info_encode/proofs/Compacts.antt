@@ -164,18 +164,23 @@ limit = 256 ^ 16
 after_one : (mode high : ℕ) (rest : List ℕ) → mode ≡ 0 → compact_after mode high rest ≡ decoded high rest
 after_one mode high rest e = ap (λ m. compact_after m high rest) e
 
--- an integer of which the low bits are in the first byte is read from its bytes
+-- an integer of which the low bits are in the first byte, as this mode is read, is read from its
+-- bytes
 low_back :
-    (mode least width n : ℕ) (rest : List ℕ) → mode < 4 → least ≤ n → 4 * n + mode < 256 ^ suc width
-    → low_bits_first width least ((4 * n + mode) % 256 / 4) (integer_bytes width ((4 * n + mode) / 256) ++ rest)
-    ≡ decoded n rest
-low_back mode least width n rest m h fits =
+    (mode least width n : ℕ) (rest : List ℕ) → compact_bytes n ≡ integer_bytes (suc width) (4 * n + mode)
+    → ((high : ℕ) (input : List ℕ) → compact_after mode high input ≡ low_bits_first width least high input) → mode < 4
+    → least ≤ n → 4 * n + mode < 256 ^ suc width → compact (compact_bytes n ++ rest) ≡ decoded n rest
+low_back mode least width n rest is reads m h fits =
     let power : 256 ^ suc width ≡ 256 * 256 ^ width = pow-succ' 256 width in
     let high = (4 * n + mode) % 256 / 4 in
     let more = (4 * n + mode) / 256 in
     let less : more < 256 ^ width = omega arith in
     let whole : high + 64 * more ≡ n = omega arith in
-    ap (λ o. and_then o (λ k r. at_least least (high + 64 * k) r)) (integer_back width more rest less)
+    let first : (4 * n + mode) % 256 % 4 ≡ mode = omega arith in
+    ap (λ b. compact (b ++ rest)) (is ∙ lowest_first width (4 * n + mode))
+    ∙ ap (λ m. compact_after m high (integer_bytes width more ++ rest)) first
+    ∙ reads high (integer_bytes width more ++ rest)
+    ∙ ap (λ o. and_then o (λ k r. at_least least (high + 64 * k) r)) (integer_back width more rest less)
     ∙ ap (λ k. at_least least k rest) whole
     ∙ at_least_is least n rest h
 
@@ -224,17 +229,10 @@ compact_back n rest h = elim (cases_lt n 64) [
       ap (λ b. compact (b ++ rest)) (in_one n one) ∙ after_one (4 * n % 4) (4 * n / 4) rest mode
       ∙ ap (λ k. decoded k rest) high
   | inr from_64 ↦ elim (cases_lt n 16384) [
-    | inl two ↦
-        let mode : (4 * n + 1) % 256 % 4 ≡ 1 = omega arith in
-        ap (λ b. compact (b ++ rest)) (in_two n from_64 two ∙ lowest_first 1 (4 * n + 1))
-        ∙ ap (λ m. compact_after m ((4 * n + 1) % 256 / 4) (integer_bytes 1 ((4 * n + 1) / 256) ++ rest)) mode
-        ∙ low_back 1 64 1 n rest (omega arith) from_64 (omega arith)
+    | inl two ↦ low_back 1 64 1 n rest (in_two n from_64 two) (λ high input. refl) (omega arith) from_64 (omega arith)
     | inr from_16384 ↦ elim (cases_lt n 1073741824) [
       | inl four ↦
-          let mode : (4 * n + 2) % 256 % 4 ≡ 2 = omega arith in
-          ap (λ b. compact (b ++ rest)) (in_four n from_16384 four ∙ lowest_first 3 (4 * n + 2))
-          ∙ ap (λ m. compact_after m ((4 * n + 2) % 256 / 4) (integer_bytes 3 ((4 * n + 2) / 256) ++ rest)) mode
-          ∙ low_back 2 16384 3 n rest (omega arith) from_16384 (omega arith)
+          low_back 2 16384 3 n rest (in_four n from_16384 four) (λ high input. refl) (omega arith) from_16384 (omega arith)
       | inr many ↦
           ap (λ b. compact (b ++ rest)) (in_many n many)
           ∙ after_many (first_width 12 4 n) n rest (width_between 12 4 n).0 (width_between 12 4 n).1

@@ -8,15 +8,12 @@ use Rattle.scale_info_value.specs.declared.value.Dyn.{Dyn}
 use Rattle.scale_info_value.specs.declared.value.Dyn.TheVariants as dyn
 use Rattle.scale_info_value.specs.Outcomes.{Decoder, decoded, failed, outcome_map}
 use Rattle.scale_info_value.specs.Outcomes as outcomes
-use Rattle.scale_info_value.specs.ValueDefinitions.{Part}
 use Rattle.scale_info_value.specs.Readings as readings
 use Rattle.scale_info_value.specs.Readings.{type_at, reading}
 use Rattle.scale_info_encode.specs.Writers.{Refusal, Writer, written, refused, no_such_type, too_deep}
-use Rattle.scale_info_encode.specs.DefinitionWriters.{Writers}
 use Rattle.scale_info_encode.specs.Writings.{compact_by_type, compact_within, value_by_type, value_within, writing}
 use Rattle.scale_info_encode.proofs.Definitions.{values_read_back, compacts_read_back}
 use Rattle.scale_info_encode.proofs.Inverse.{IsInverse, nothing}
-use Rattle.scale_info_encode.proofs.NamedParts.{AreInverse}
 
 -- compact integers by a description are read and written
 compacts_by_type :
@@ -40,11 +37,21 @@ compacts_inverse (suc left) table id =
 
 -- values by a description are read and written
 values_by_type :
-    (part : ℕ → Part) (writers : ℕ → Writers) → ((id : ℕ) → AreInverse (part id) (writers id)) → (o : Option Description)
-    → IsInverse (readings.value_by_type part o) (value_by_type writers o)
-values_by_type part writers inverse None = nothing outcomes.no_such_type no_such_type
-values_by_type part writers inverse (Some d) =
-    values_read_back (λ r. part r.id) (λ r. writers r.id) (λ r. inverse r.id) d.type_def
+    (read read_inner : ℕ → Decoder Dyn) (read_compact : ℕ → Decoder ℕ) (write write_inner write_compact : ℕ → Writer Dyn)
+    → ((id : ℕ) → IsInverse (read id) (write id)) → ((id : ℕ) → IsInverse (read_inner id) (write_inner id))
+    → ((id : ℕ) → IsInverse (λ input. outcome_map dyn.Unsigned (read_compact id input)) (write_compact id))
+    → (o : Option Description)
+    → IsInverse
+    (readings.value_by_type (λ r. record { value = read r; inner = read_inner r; compact = read_compact r }) o)
+    (value_by_type (λ r. record { value = write r; inner = write_inner r; compact = write_compact r }) o)
+values_by_type read read_inner read_compact write write_inner write_compact value inner compact None =
+    nothing outcomes.no_such_type no_such_type
+values_by_type read read_inner read_compact write write_inner write_compact value inner compact (Some d) =
+    values_read_back
+    (λ r. record { value = read r.id; inner = read_inner r.id; compact = read_compact r.id })
+    (λ r. record { value = write r.id; inner = write_inner r.id; compact = write_compact r.id })
+    (λ r. record { value = value r.id; inner = inner r.id; compact = compact r.id })
+    d.type_def
 
 -- values are read and written, however many levels are left
 pub values_inverse :
@@ -53,41 +60,11 @@ pub values_inverse :
 unfolding readings.value_within value_within
 values_inverse zero table id = nothing outcomes.too_deep too_deep
 values_inverse (suc zero) table id =
-    values_by_type
-    (λ r. record {
-      value = λ bytes. failed outcomes.too_deep;
-      inner = λ bytes. failed outcomes.too_deep;
-      compact = readings.compact_within 1 table r;
-    })
-    (λ r. record {
-      value = λ v. refused too_deep;
-      inner = λ v. refused too_deep;
-      compact = compact_within 1 table r;
-    })
-    (λ r. record {
-      value = nothing outcomes.too_deep too_deep;
-      inner = nothing outcomes.too_deep too_deep;
-      compact = compacts_inverse 1 table r;
-    })
-    (type_at table id)
+    values_by_type _ _ (readings.compact_within 1 table) _ _ (compact_within 1 table) (λ r. nothing outcomes.too_deep too_deep)
+    (λ r. nothing outcomes.too_deep too_deep) (compacts_inverse 1 table) (type_at table id)
 values_inverse (suc (suc left)) table id =
-    values_by_type
-    (λ r. record {
-      value = readings.value_within (suc left) table r;
-      inner = readings.value_within left table r;
-      compact = readings.compact_within (suc (suc left)) table r;
-    })
-    (λ r. record {
-      value = value_within (suc left) table r;
-      inner = value_within left table r;
-      compact = compact_within (suc (suc left)) table r;
-    })
-    (λ r. record {
-      value = values_inverse (suc left) table r;
-      inner = values_inverse left table r;
-      compact = compacts_inverse (suc (suc left)) table r;
-    })
-    (type_at table id)
+    values_by_type _ _ (readings.compact_within (suc (suc left)) table) _ _ (compact_within (suc (suc left)) table)
+    (values_inverse (suc left) table) (values_inverse left table) (compacts_inverse (suc (suc left)) table) (type_at table id)
 
 -- the bytes of a value are read as that value, whatever follows them
 pub read_back :

@@ -76,6 +76,16 @@ unsigned_low w n most low e limit h =
     ap (λ t. if_fits t (to_le_bytes w n)) (less_is n (256 ^ byte_len w) (subst (λ k. n < k) limit (omega arith)))
     ∙ ap written (sym (low_bytes (byte_len w) n low (at_most_16 w) e))
 
+-- the low bytes of all that an integer has, where it is made of its bits again before
+pub low_of_bits :
+    (w : Width) (z : ℤ) (all low : List ℕ) (count : ℕ) → FitsSigned w128 z
+    → all ≡ to_le_bytes w128 (cast_unsigned w128 (cast_signed w128 (cast_unsigned w128 z)))
+    → count ≡ byte_len w → low ≡ take count all
+    → low ≡ take (byte_len w) (to_le_bytes w128 (cast_unsigned w128 z))
+low_of_bits w z all low count fits whole long e =
+    e ∙ (λ i. take (long i) (whole i))
+    ∙ ap (λ y. take (byte_len w) (to_le_bytes w128 (cast_unsigned w128 y))) (to_z-of_z w128 z fits)
+
 -- an integer that is read from its low bytes in two's complement has these
 pub signed_low :
     (w : Width) (z : ℤ) (low : List ℕ) → low ≡ take (byte_len w) (to_le_bytes w128 (cast_unsigned w128 z))

@@ -28,6 +28,19 @@ pub record AreInverse (part : Part) (writers : Writers) : Type 0 where
   pub inner : IsInverse part.inner writers.inner
   pub compact : IsInverse (λ input. outcome_map dyn.Unsigned (part.compact input)) writers.compact
 
+-- the first that passes a test, of what things are made into, is made of the first that passes so
+pub first_made :
+    {X Y : Type 0} (make : X → Y) (test : Y → Bool) (xs : List X)
+    → find test (map make xs) ≡ option_map make (find (λ x. test (make x)) xs)
+first_made make test [] = refl
+first_made {X} {Y} make test (x ∷ xs) = here (test (make x)) _ _ (first_made make test xs)
+  where
+    here :
+        (passes : Bool) (rest : Option X) (other : Option Y) → other ≡ option_map make rest
+        → cond passes (Some (make x)) other ≡ option_map make (cond passes (Some x) rest)
+    here true rest other e = refl
+    here false rest other e = e
+
 -- names that test as equal are equal
 equal_names : (a b : Option Text) → option_eq bytes_eq a b ≡ true → a ≡ b
 equal_names None None e = refl

@@ -72,20 +72,18 @@ truths_read_back = by_kind dyn.Bool truth_in values.truth truth truths gives bac
 -- values of each primitive are read and written
 pub primitives : (p : TypeDefPrimitive) → IsInverse (values.primitive p) (primitive p)
 primitives kind.Bool = truths_read_back
-primitives kind.Char = nothing unsupported writers.unsupported
 primitives kind.Str = texts_read_back
 primitives kind.U8 = unsigned_read_back w8
 primitives kind.U16 = unsigned_read_back w16
 primitives kind.U32 = unsigned_read_back w32
 primitives kind.U64 = unsigned_read_back w64
 primitives kind.U128 = unsigned_read_back w128
-primitives kind.U256 = nothing unsupported writers.unsupported
 primitives kind.I8 = signed_read_back w8
 primitives kind.I16 = signed_read_back w16
 primitives kind.I32 = signed_read_back w32
 primitives kind.I64 = signed_read_back w64
 primitives kind.I128 = signed_read_back w128
-primitives kind.I256 = nothing unsupported writers.unsupported
+primitives _ = nothing unsupported writers.unsupported
 
 -- compact integers below a limit, as values
 compact_values :

@@ -61,20 +61,14 @@ ends whole left old mid new s a = record {
 pub fails :
     (whole left : Written) (old new : List ℕ) (e : EncodeValueError) → SoFar whole left old new → IsErrorOf left e
     → IsErrorOf whole e
-fails whole left old new error.NoSuchType s h = s.is ∙ ap (followed_by (written s.done)) h
-fails whole left old new error.Unsupported s h = s.is ∙ ap (followed_by (written s.done)) h
-fails whole left old new error.TooDeep s h = s.is ∙ ap (followed_by (written s.done)) h
-fails whole left old new (error.Mismatch path) s h = s.is ∙ ap (followed_by (written s.done)) h
 fails whole left old new error.Memory s h = tt
+fails whole left old new _ s h = s.is ∙ ap (followed_by (written s.done)) h
 
 -- an error of the first is one of both
 pub first_fails :
     (first more : Written) (e : EncodeValueError) → IsErrorOf first e → IsErrorOf (followed_by first more) e
-first_fails first more error.NoSuchType h = ap (λ w. followed_by w more) h
-first_fails first more error.Unsupported h = ap (λ w. followed_by w more) h
-first_fails first more error.TooDeep h = ap (λ w. followed_by w more) h
-first_fails first more (error.Mismatch path) h = ap (λ w. followed_by w more) h
 first_fails first more error.Memory h = tt
+first_fails first more _ h = ap (λ w. followed_by w more) h
 
 -- an error of the next is one of the whole
 pub next_fails :
@@ -124,7 +118,7 @@ module _ {X : Type 0} (r : Result X PartError) (whole first second : Written) (o
   second_left = goes_on whole whole first second old old mid (starts whole whole old old refl refl) e a
 
   -- both were appended
-  pub both_ok : OnOk r (Appends second mid new) → OnOk r (Appends whole old new)
+  both_ok : OnOk r (Appends second mid new) → OnOk r (Appends whole old new)
   both_ok h = on_ok r (λ b. ends whole second old mid new second_left b) h
     where
       on_ok : {P Q : Type 0} (r : Result X PartError) → (P → Q) → OnOk r P → OnOk r Q
@@ -132,7 +126,7 @@ module _ {X : Type 0} (r : Result X PartError) (whole first second : Written) (o
       on_ok (Err d) f h = tt
 
   -- an error of the second is one of both
-  pub both_err : (steps : List Step) → IfErr r (Fails second steps) → IfErr r (Fails whole steps)
+  both_err : (steps : List Step) → IfErr r (Fails second steps) → IfErr r (Fails whole steps)
   both_err steps h = if_err r (λ d p. fails whole second old mid (error_of steps d) second_left p) h
     where
       if_err :
@@ -142,9 +136,15 @@ module _ {X : Type 0} (r : Result X PartError) (whole first second : Written) (o
       if_err (Err d) f h = f d h
 
   -- what was there is kept
-  pub both_kept : OnErr r (IsPrefix mid new) → OnErr r (IsPrefix old new)
+  both_kept : OnErr r (IsPrefix mid new) → OnErr r (IsPrefix old new)
   both_kept h = err_map r (λ p. keeps whole second old mid new second_left p) h
     where
       err_map : {P Q : Type 0} (r : Result X PartError) → (P → Q) → OnErr r P → OnErr r Q
       err_map (Ok x) f h = tt
       err_map (Err d) f h = f h
+
+  -- all of these, where the second was tried
+  pub both :
+      (steps : List Step) → OnOk r (Appends second mid new) → IfErr r (Fails second steps) → OnErr r (IsPrefix mid new)
+      → OnOk r (Appends whole old new) × IfErr r (Fails whole steps) × OnErr r (IsPrefix old new)
+  both steps ok err kept = (both_ok ok, both_err steps err, both_kept kept)

@@ -1,11 +1,12 @@
 -- One level of a writing.
-use Rattle.std.proofs.Common.{◌≡◌, ℕ, zero, suc, ◌-◌, ◌≤◌, ◌==◌, Bool, true, false, List, [], ◌∷◌, map, find, cond}
-use Rattle.std.proofs.Common.{length, drop, get_or, Option, Some, None, option_map, refl, ap, sym, ◌∙◌, arith}
-use Rattle.std.specs.Prelude.{if◌then◌else◌}
+use Rattle.std.proofs.Common.{◌≡◌, ℕ, zero, suc, ◌-◌, ◌≤◌, ◌==◌, Bool, true, false, List, [], ◌∷◌, map, find}
+use Rattle.std.proofs.Common.{length, take, drop, get_or, Option, Some, None, option_map, Result, refl, ap, sym, ◌∙◌, subst, arith}
+use Rattle.std.specs.Prelude.{if◌then◌else◌, IfErr, OnOk, OnErr}
 use Rattle.std.specs.Option.{option_eq}
 use Rattle.std.specs.Str.{bytes_eq}
+use Rattle.scale_info_bytes.specs.Encodings.{IsPrefix}
 use Rattle.scale_info_types.specs.Portable.{Id, Text, Field, Variant, Description, TypeDefComposite}
-use Rattle.scale_info_types.specs.Portable.{TypeDefTuple, TypeDefSequence, TypeDefMap, TypeDefVariant}
+use Rattle.scale_info_types.specs.Portable.{TypeDefTuple, TypeDefVariant}
 use Rattle.scale_info_types.specs.Shapes.{map_field, map_variant}
 use Rattle.scale_info_types.specs.declared.ty.variant.Variant.{Variant as AnyVariant}
 use Rattle.scale_info_types.specs.declared.ty.TypeDef.TheVariants as def
@@ -13,16 +14,22 @@ use Rattle.scale_info_tables.specs.declared.portable.PortableRegistry.{PortableR
 use Rattle.scale_info_value.specs.declared.value.Dyn.{Dyn}
 use Rattle.scale_info_value.specs.declared.value.Dyn.TheVariants as dyn
 use Rattle.scale_info_value.specs.Readings.{type_at}
-use Rattle.scale_info_encode.specs.Writers.{written, refused, too_deep, no_such_type, mismatch, followed_by}
-use Rattle.scale_info_encode.specs.Writers.{of_part, step_to, item, in_turn}
+use Rattle.scale_info_encode.specs.declared.failure.PartError.{PartError}
+use Rattle.scale_info_encode.specs.declared.path.Step.{Step}
+use Rattle.scale_info_encode.specs.declared.path.Step.TheVariants as step
+use Rattle.scale_info_encode.specs.Failures.{Fails}
+use Rattle.scale_info_encode.specs.Writers.{Writer, written, refused, too_deep, no_such_type, mismatch, followed_by}
+use Rattle.scale_info_encode.specs.Writers.{of_part, step_to, item, in_turn, Appends}
 use Rattle.scale_info_encode.specs.IntegerWriters.{count}
-use Rattle.scale_info_encode.specs.DefinitionWriters.{Writers, record_in, list_in, variant_in}
+use Rattle.scale_info_encode.specs.DefinitionWriters.{Writers, held, record_in, list_in, variant_in}
 use Rattle.scale_info_encode.specs.DefinitionWriters.{counted, field, fields, fields_of, chosen_variant}
 use Rattle.scale_info_encode.specs.Writings.{compact_by_type, value_by_type, compact_within, value_within}
-use Rattle.scale_info_encode.specs.Writings.{definition_within, compact_definition_within, fields_within, items_within}
-use Rattle.scale_info_encode.specs.Writings.{members_within, pairs_within, pair_within, part_within}
+use Rattle.scale_info_encode.specs.Writings.{definition_within, compact_definition_within, fields_within}
+use Rattle.scale_info_encode.specs.Writings.{members_within, pair_within, part_within}
 use Rattle.scale_info_encode.proofs.Appending.{is_held}
-use Rattle.scale_info_encode.proofs.InTurn.{first_in_turn}
+use Rattle.scale_info_encode.proofs.InTurn.{first_in_turn, last_in_turn}
+use Rattle.scale_info_encode.proofs.NamedParts.{first_made}
+use Rattle.scale_info_encode.proofs.SoFar.{SoFar, both, goes_on, starts, part_appended}
 use Rattle.scale_info_encode.proofs.ValueKinds.{records, lists, variants, chosen}
 
 -- where no level is left, a value is too deep, and so is a compact integer
@@ -88,6 +95,18 @@ type_known left table id value d h e = (
   compact_level left table id value h ∙ ap (λ o. compact_by_type (compact_within (left - 1) table) o value) e,
 )
 
+-- what comes of a list that is written after its count, where the count was appended
+pub counted_list :
+    {X : Type 0} (write : ℕ → Writer (List Dyn)) (r : Result X PartError) (value : Dyn) (values found : List Dyn)
+    (old mid new : List ℕ) → value ≡ dyn.List values → found ≡ values → Appends (count (length found)) old mid
+    → (steps : List Step) → OnOk r (Appends (write (length found) found) mid new)
+    → IfErr r (Fails (write (length found) found) steps) → OnErr r (IsPrefix mid new)
+    → OnOk r (Appends (held list_in (counted write) value) old new) × IfErr r (Fails (held list_in (counted write) value) steps)
+    × OnErr r (IsPrefix old new)
+counted_list write r value values found old mid new is e counts =
+    both r (held list_in (counted write) value) (count (length found)) (write (length found) found) old mid new
+    (is_held dyn.List list_in (counted write) lists value values is ∙ ap (counted write) (sym e)) counts
+
 module _ (left : ℕ) (table : PortableRegistry) where
   -- a record is written by its fields
   pub composite_is :
@@ -107,24 +126,6 @@ module _ (left : ℕ) (table : PortableRegistry) where
       is_held dyn.List list_in (members_within left table tuple.fields) lists value values is
       ∙ (λ i. members_within left table (sym f i) (sym e i))
 
-  -- a list is written as a sequence by its count and its items
-  pub sequence_is :
-      (sequence : TypeDefSequence) (value : Dyn) (values found : List Dyn) → value ≡ dyn.List values → found ≡ values
-      → definition_within left table (def.Sequence sequence) value
-      ≡ followed_by (count (length found)) (items_within left table sequence.type_param (length found) found)
-  sequence_is sequence value values found is e =
-      is_held dyn.List list_in (counted (items_within left table sequence.type_param)) lists value values is
-      ∙ ap (counted (items_within left table sequence.type_param)) (sym e)
-
-  -- a list is written as a map by its count and its pairs
-  pub map_is :
-      (map : TypeDefMap) (value : Dyn) (values found : List Dyn) → value ≡ dyn.List values → found ≡ values
-      → definition_within left table (def.Map map) value
-      ≡ followed_by (count (length found)) (pairs_within left table map.key map.value (length found) found)
-  map_is map value values found is e =
-      is_held dyn.List list_in (counted (pairs_within left table map.key map.value)) lists value values is
-      ∙ ap (counted (pairs_within left table map.key map.value)) (sym e)
-
   -- the first of a key and a value, and the other
   pub pair_is :
       (key value : Id) (entry : Dyn) (inner : ℕ) (values found : List Dyn) (first : Dyn) → entry ≡ dyn.List values
@@ -140,6 +141,20 @@ module _ (left : ℕ) (table : PortableRegistry) where
       (sym e i))
       ∙ first_in_turn 0 (item (value_within inner table key.id)) (item (value_within inner table value.id) ∷ []) found first
       long at
+
+  -- of a pair the second is left, where the first was appended
+  pub second_of_pair :
+      (key value : Id) (entry : Dyn) (inner : ℕ) (values found rest : List Dyn) (first second : Dyn) (old mid : List ℕ)
+      → entry ≡ dyn.List values → found ≡ values → inner ≡ left - 2 → 1 ≤ length found → first ≡ get_or found 0 first
+      → rest ≡ take (length found - 1) (drop 1 found) → 1 ≤ length rest → second ≡ get_or rest 0 second
+      → Appends (value_within inner table key.id first) old mid
+      → SoFar (pair_within left table key value entry)
+      (followed_by (item (value_within inner table value.id) 1 second) (in_turn 2 [] (drop 1 rest))) old mid
+  second_of_pair key value entry inner values found rest first second old mid is e levels long at others more next a =
+      subst (λ w. SoFar (pair_within left table key value entry) w old mid)
+      (last_in_turn 1 (item (value_within inner table value.id)) found rest second others more next)
+      (goes_on _ _ _ _ _ _ _ (starts _ _ _ _ refl refl)
+      (pair_is key value entry inner values found first is e levels long at) (part_appended (step.Index 0) _ _ _ a))
 
   -- a name is itself
   own_name : (name : Option Text) → option_map (λ t. t) name ≡ name
@@ -175,22 +190,6 @@ module _ (left : ℕ) (table : PortableRegistry) where
   abbrev written_variant : Variant → AnyVariant (Unit {0}) Writers Text
   written_variant v = map_variant (part_within left table) (λ t. t) v
 
-  -- the first variant with an index stays the first where references are read
-  first_variant :
-      (i : ℕ) (vs : List Variant)
-      → find (λ v. v.index == i) (map written_variant vs) ≡ option_map written_variant (find (λ v. v.index == i) vs)
-  first_variant i [] = refl
-  first_variant i (v ∷ vs) =
-      first_or (v.index == i) (find (λ w. w.index == i) vs) (find (λ w. w.index == i) (map written_variant vs))
-      (first_variant i vs)
-    where
-      first_or :
-          (here : Bool) (rest : Option Variant) (other : Option (AnyVariant (Unit {0}) Writers Text))
-          → other ≡ option_map written_variant rest
-          → cond here (Some (written_variant v)) other ≡ option_map written_variant (cond here (Some v) rest)
-      first_or true rest other e = refl
-      first_or false rest other e = e
-
   -- a variant is written by its index and the fields of the first variant with that index
   variant_is :
       (choice : TypeDefVariant) (value : Dyn) (name : Text) (index : ℕ) (values : List (Option Text × Dyn))
@@ -201,7 +200,7 @@ module _ (left : ℕ) (table : PortableRegistry) where
   variant_is choice value name index values o is e =
       is_held chosen variant_in (chosen_variant (map written_variant choice.variants)) variants value (name, index, values) is
       ∙ ap (λ p. followed_by (written (index ∷ [])) (fields_of p name values))
-      (first_variant index choice.variants ∙ ap (option_map written_variant) e)
+      (first_made written_variant (λ v. v.index == index) choice.variants ∙ ap (option_map written_variant) e)
 
   -- no variant has the index
   pub variant_missing :

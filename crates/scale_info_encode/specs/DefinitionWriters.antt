@@ -17,6 +17,7 @@ use Rattle.scale_info_value.specs.declared.value.Dyn.TheOpen as layer
 use Rattle.scale_info_encode.specs.Writers.{Writer, written, refused, mismatch, unsupported}
 use Rattle.scale_info_encode.specs.Writers.{if_fits, followed_by, of_part, step_to, item, in_turn}
 use Rattle.scale_info_encode.specs.IntegerWriters.{compact_below, count, is_signed_of}
+use Rattle.scale_info_encode.specs.CompactTypes.{by_width, of_only_field, by_compact_type}
 
 -- In a definition each reference stands for its writers: of a value one deeper than the value that
 -- refers to it, of a value two deeper, and of a compact integer, which is no deeper.
@@ -161,24 +162,20 @@ value_by (def.Compact d) value = d.type_param.compact value
 value_by (def.BitSequence d) value = refused unsupported
 value_by (def.Map d) value = held list_in (counted (λ n. pairs n d.key d.value)) value
 
+-- nothing is written of a type whose values are not encoded
+abbrev pub unsupported_type : Writer Dyn
+unsupported_type value = refused unsupported
+
 -- a compact integer that fits the width of the primitive
 abbrev pub compact_primitive : TypeDefPrimitive → Writer Dyn
-compact_primitive kind.U8 value = held unsigned_in (compact_below (2 ^ 8)) value
-compact_primitive kind.U16 value = held unsigned_in (compact_below (2 ^ 16)) value
-compact_primitive kind.U32 value = held unsigned_in (compact_below (2 ^ 32)) value
-compact_primitive kind.U64 value = held unsigned_in (compact_below (2 ^ 64)) value
-compact_primitive kind.U128 value = held unsigned_in (compact_below (2 ^ 128)) value
-compact_primitive _ value = refused unsupported
+compact_primitive p value =
+    by_width unsupported_type (λ limit. held unsigned_in (compact_below limit)) p value
 
 -- a composite of exactly one field stands for that field
 abbrev pub compact_field : {F : Type 0} → List (Field F (Writer Dyn) Text) → Writer Dyn
-compact_field [] value = refused unsupported
-compact_field (f ∷ []) value = f.ty value
-compact_field (f ∷ g ∷ more) value = refused unsupported
+compact_field all value = of_only_field unsupported_type all value
 
 -- a compact integer of the type, where each reference stands for the compact integers of its type,
 -- one deeper
 abbrev pub compact_by : {F : Type 0} → TypeDef F (Writer Dyn) Text → Writer Dyn
-compact_by (def.Composite d) value = compact_field d.fields value
-compact_by (def.Primitive p) value = compact_primitive p value
-compact_by _ value = refused unsupported
+compact_by d value = by_compact_type unsupported_type compact_primitive d value

@@ -1,5 +1,6 @@
 pub mod Writers
 pub mod IntegerWriters
+pub mod CompactTypes
 pub mod DefinitionWriters
 pub mod Writings
 pub mod Paths

@@ -9,25 +9,22 @@ use Rattle.scale_info_encode.specs.declared.path.Step.TheVariants as step
 use Rattle.scale_info_encode.specs.Writers.{item, in_turn, refused, mismatch, Appends}
 use Rattle.scale_info_encode.specs.Failures.{Fails, error_of}
 use Rattle.scale_info_encode.specs.DefinitionWriters.{field}
-use Rattle.scale_info_encode.specs.Writings.{value_within, definition_within, part_within, pair_within}
-use Rattle.scale_info_encode.proofs.InTurn.{next_value, next_part, next_entry, no_next_value, first_of_all, alike, uneven, tail_whole, last_in_turn, none_left}
-use Rattle.scale_info_encode.proofs.SoFar.{SoFar, appended, passed, both_ok, both_err, both_kept, fails, starts, ends, done, goes_on, first_fails, next_fails, part_appended}
-use Rattle.scale_info_encode.proofs.Steps.{composite_is, tuple_is, sequence_is, map_is, variant_missing, variant_misnamed, variant_named, pair_is, field_named, field_misnamed}
+use Rattle.scale_info_encode.specs.Writings.{value_within, definition_within, part_within, pair_within, items_within, pairs_within}
+use Rattle.scale_info_encode.proofs.InTurn.{next_value, next_part, next_entry, no_next_value, first_of_all, alike, uneven, tail_whole, none_left}
+use Rattle.scale_info_encode.proofs.SoFar.{SoFar, appended, passed, both, fails, ends, done, goes_on, first_fails, next_fails, part_appended}
+use Rattle.scale_info_encode.proofs.Steps.{composite_is, tuple_is, counted_list, second_of_pair, variant_missing, variant_misnamed, variant_named, pair_is, field_named, field_misnamed}
 use Rattle.scale_info_encode.proofs.encode.+value.Goals as goal
 
-pub composite_value-returns-in-Record-clause-ok : goal.composite_value-returns-in-Record-clause-ok
-composite_value-returns-in-Record-clause-ok t c =
-    subst (λ w. OnOk c.fields.result (Appends w c.args.out.now.items c.fields.new.out.items))
-    (sym (composite_is c.args.left c.args.table.now c.args.composite.now c.args.value.now c.in-Record.values
-    c.as_slice-in-Record.result.now c.as_slice.result.now c.in-Record.is c.as_slice-in-Record.ensures c.as_slice.ensures))
-    c.fields.ensures.ok
-
-pub composite_value-returns-in-Record-clause-err : goal.composite_value-returns-in-Record-clause-err
-composite_value-returns-in-Record-clause-err t c =
-    subst (λ w. IfErr c.fields.result (Fails w c.fields.new.steps.items))
-    (sym (composite_is c.args.left c.args.table.now c.args.composite.now c.args.value.now c.in-Record.values
-    c.as_slice-in-Record.result.now c.as_slice.result.now c.in-Record.is c.as_slice-in-Record.ensures c.as_slice.ensures))
-    c.fields.ensures.err
+pub composite_value-returns-in-Record : goal.composite_value-returns-in-Record
+composite_value-returns-in-Record t c =
+    let whole =
+    composite_is c.args.left c.args.table.now c.args.composite.now c.args.value.now c.in-Record.values
+    c.as_slice-in-Record.result.now c.as_slice.result.now c.in-Record.is c.as_slice-in-Record.ensures c.as_slice.ensures in
+    record {
+      ok = subst (λ w. OnOk c.fields.result (Appends w c.args.out.now.items c.fields.new.out.items)) (sym whole) c.fields.ensures.ok;
+      err = subst (λ w. IfErr c.fields.result (Fails w c.fields.new.steps.items)) (sym whole) c.fields.ensures.err;
+      kept = c.fields.ensures.kept;
+    }
 
 pub tuple_value-returns-in-List-clause-err : goal.tuple_value-returns-in-List-clause-err
 tuple_value-returns-in-List-clause-err t c =
@@ -61,40 +58,21 @@ items_by-returns-in_default-clause-err t c =
     (sym (no_next_value c.args.count c.loop-place.place write c.loop-place.rest.now (omega arith) c.in_default.len_below))
     c.mismatch.ensures)
 
-pub sequence_value-returns-in_ok-without_parts-in-List-clause-ok : goal.sequence_value-returns-in_ok-without_parts-in-List-clause-ok
-sequence_value-returns-in_ok-without_parts-in-List-clause-ok t c =
-    both_ok c.items.result _ _ _ _ _ _
-    (sequence_is c.args.left c.args.table.now c.args.sequence.now c.args.value.now c.in-List.values
-    c.as_slice-values.result.now c.in-List.is c.as_slice-values.ensures)
-    (done c.count.result _ c.in_ok-without_parts-in-List.ensures.same c.count.ensures.ok) c.items.ensures.ok
+pub sequence_value-returns-in_ok-without_parts-in-List : goal.sequence_value-returns-in_ok-without_parts-in-List
+sequence_value-returns-in_ok-without_parts-in-List t c =
+    let all =
+    counted_list (items_within c.args.left c.args.table.now c.args.sequence.now.type_param) c.items.result _ _ _ _ _ _
+    c.in-List.is c.as_slice-values.ensures (done c.count.result _ c.in_ok-without_parts-in-List.ensures.same c.count.ensures.ok)
+    c.items.new.steps.items c.items.ensures.ok c.items.ensures.err c.items.ensures.kept in
+    record { ok = all.0; err = all.1; kept = all.2 }
 
-pub sequence_value-returns-in_ok-without_parts-in-List-clause-kept : goal.sequence_value-returns-in_ok-without_parts-in-List-clause-kept
-sequence_value-returns-in_ok-without_parts-in-List-clause-kept t c =
-    both_kept c.items.result _ _ _ _ _ _
-    (sequence_is c.args.left c.args.table.now c.args.sequence.now c.args.value.now c.in-List.values
-    c.as_slice-values.result.now c.in-List.is c.as_slice-values.ensures)
-    (done c.count.result _ c.in_ok-without_parts-in-List.ensures.same c.count.ensures.ok) c.items.ensures.kept
-
-pub map_value-returns-in_ok-without_parts-in-List-clause-ok : goal.map_value-returns-in_ok-without_parts-in-List-clause-ok
-map_value-returns-in_ok-without_parts-in-List-clause-ok t c =
-    both_ok c.pairs.result _ _ _ _ _ _
-    (map_is c.args.left c.args.table.now c.args.map.now c.args.value.now c.in-List.entries
-    c.as_slice-entries.result.now c.in-List.is c.as_slice-entries.ensures)
-    (done c.count.result _ c.in_ok-without_parts-in-List.ensures.same c.count.ensures.ok) c.pairs.ensures.ok
-
-pub map_value-returns-in_ok-without_parts-in-List-clause-err : goal.map_value-returns-in_ok-without_parts-in-List-clause-err
-map_value-returns-in_ok-without_parts-in-List-clause-err t c =
-    both_err c.pairs.result _ _ _ _ _ c.pairs.new.out.items
-    (map_is c.args.left c.args.table.now c.args.map.now c.args.value.now c.in-List.entries
-    c.as_slice-entries.result.now c.in-List.is c.as_slice-entries.ensures)
-    (done c.count.result _ c.in_ok-without_parts-in-List.ensures.same c.count.ensures.ok) c.pairs.new.steps.items c.pairs.ensures.err
-
-pub map_value-returns-in_ok-without_parts-in-List-clause-kept : goal.map_value-returns-in_ok-without_parts-in-List-clause-kept
-map_value-returns-in_ok-without_parts-in-List-clause-kept t c =
-    both_kept c.pairs.result _ _ _ _ _ _
-    (map_is c.args.left c.args.table.now c.args.map.now c.args.value.now c.in-List.entries
-    c.as_slice-entries.result.now c.in-List.is c.as_slice-entries.ensures)
-    (done c.count.result _ c.in_ok-without_parts-in-List.ensures.same c.count.ensures.ok) c.pairs.ensures.kept
+pub map_value-returns-in_ok-without_parts-in-List : goal.map_value-returns-in_ok-without_parts-in-List
+map_value-returns-in_ok-without_parts-in-List t c =
+    let all =
+    counted_list (pairs_within c.args.left c.args.table.now c.args.map.now.key c.args.map.now.value) c.pairs.result _ _ _ _ _ _
+    c.in-List.is c.as_slice-entries.ensures (done c.count.result _ c.in_ok-without_parts-in-List.ensures.same c.count.ensures.ok)
+    c.pairs.new.steps.items c.pairs.ensures.ok c.pairs.ensures.err c.pairs.ensures.kept in
+    record { ok = all.0; err = all.1; kept = all.2 }
 
 pub value_within-returns-in_err-definition-clause-err : goal.value_within-returns-in_err-definition-clause-err
 value_within-returns-in_err-definition-clause-err t c =
@@ -181,46 +159,27 @@ pair-returns-in-Err-clause-err t c =
     subst (λ w. Fails w c.of_whole.new.steps.items c.of_whole.result) (sym whole)
     (first_fails _ _ (error_of c.of_whole.new.steps.items c.of_whole.result) (c.of_whole.ensures (write c.first-item.result) c.in-Err.ensures.err))
 
-pub sequence_value-returns-in_ok-without_parts-in-List-clause-err : goal.sequence_value-returns-in_ok-without_parts-in-List-clause-err
-sequence_value-returns-in_ok-without_parts-in-List-clause-err t c =
-    both_err c.items.result _ _ _ _ _ c.items.new.out.items
-    (sequence_is c.args.left c.args.table.now c.args.sequence.now c.args.value.now c.in-List.values
-    c.as_slice-values.result.now c.in-List.is c.as_slice-values.ensures)
-    (done c.count.result _ c.in_ok-without_parts-in-List.ensures.same c.count.ensures.ok) c.items.new.steps.items c.items.ensures.err
-
 pub pair-returns-in-Err-value_within-clause-err : goal.pair-returns-in-Err-value_within-clause-err
 pair-returns-in-Err-value_within-clause-err t c =
-    let levels = c.saturating_sub-inner.result in
     let all = c.as_slice.result.now in
-    let rest = take (length all - 1) (drop 1 all) in
-    let whole =
-    pair_is c.args.left c.args.table.now c.args.key.now c.args.value.now c.args.entry.now levels c.in-List.both all
-    c.first-item.result c.in-List.is c.as_slice.ensures c.saturating_sub-inner.ensures c.in-len1-up.len_at_least
-    c.first-item.is in
-    let first = part_appended (step.Index 0) _ _ _ c.in_default-value_within.ensures.ok in
-    let s = goes_on _ _ _ _ _ _ _ (starts _ _ _ _ refl refl) whole first in
-    let second =
-    last_in_turn 1 (item (value_within levels c.args.table.now c.args.value.now.id)) all rest c.second-item.result refl
-    c.in-len1-up-more.len_at_least c.second-item.is in
-    next_fails _ _ _ _ _ _ (error_of c.of_whole-in-Err-value_within.new.steps.items c.of_whole-in-Err-value_within.result) s second
+    let levels = c.saturating_sub-inner.result in
+    let s =
+    second_of_pair c.args.left c.args.table.now c.args.key.now c.args.value.now _ levels _ all (take (length all - 1) (drop 1 all))
+    _ _ _ _ c.in-List.is c.as_slice.ensures c.saturating_sub-inner.ensures c.in-len1-up.len_at_least c.first-item.is
+    refl c.in-len1-up-more.len_at_least c.second-item.is c.in_default-value_within.ensures.ok in
+    next_fails _ _ _ _ _ _ (error_of c.of_whole-in-Err-value_within.new.steps.items c.of_whole-in-Err-value_within.result) s refl
     (c.of_whole-in-Err-value_within.ensures
     (value_within levels c.args.table.now c.args.value.now.id c.second-item.result) c.in-Err-value_within.ensures.err)
 
 pub pair-returns-clause-ok : goal.pair-returns-clause-ok
 pair-returns-clause-ok t c =
-    let levels = c.saturating_sub-inner.result in
     let all = c.as_slice.result.now in
     let rest = take (length all - 1) (drop 1 all) in
-    let whole =
-    pair_is c.args.left c.args.table.now c.args.key.now c.args.value.now c.args.entry.now levels c.in-List.both all
-    c.first-item.result c.in-List.is c.as_slice.ensures c.saturating_sub-inner.ensures c.in-len1-up.len_at_least
-    c.first-item.is in
-    let first = part_appended (step.Index 0) _ _ _ c.in_default-value_within.ensures.ok in
-    let s = goes_on _ _ _ _ _ _ _ (starts _ _ _ _ refl refl) whole first in
-    let second =
-    last_in_turn 1 (item (value_within levels c.args.table.now c.args.value.now.id)) all rest c.second-item.result refl
-    c.in-len1-up-more.len_at_least c.second-item.is in
-    let both = goes_on _ _ _ _ _ _ _ s second (part_appended (step.Index 1) _ _ _ c.in_default-value_within-2.ensures.ok) in
+    let s =
+    second_of_pair c.args.left c.args.table.now c.args.key.now c.args.value.now _ c.saturating_sub-inner.result _ all rest
+    _ _ _ _ c.in-List.is c.as_slice.ensures c.saturating_sub-inner.ensures c.in-len1-up.len_at_least c.first-item.is
+    refl c.in-len1-up-more.len_at_least c.second-item.is c.in_default-value_within.ensures.ok in
+    let both = goes_on _ _ _ _ _ _ _ s refl (part_appended (step.Index 1) _ _ _ c.in_default-value_within-2.ensures.ok) in
     let none : length (take (length rest - 1) (drop 1 rest)) ≡ 0 = grind (arith, common_steps) in
     ends _ _ _ _ _ both (record {
       encoding = [];
@@ -246,24 +205,16 @@ variant_value-returns-then-ne-clause-err t c =
     c.in-Variant.values c.in-Some.variant.now c.in-Variant.is some differs))
     c.mismatch-then-ne.ensures
 
-pub variant_value-returns-clause-ok : goal.variant_value-returns-clause-ok
-variant_value-returns-clause-ok t c =
+pub variant_value-returns : goal.variant_value-returns
+variant_value-returns t c =
     let some : find (λ v. v.index == c.in-Variant.index) c.args.choice.now.variants ≡ Some c.in-Some.variant.now =
     grind (arith, common_steps) in
     let same : bytes_eq c.in-Some.variant.now.name c.in-Variant.name ≡ true = grind (arith, common_steps) in
-    both_ok c.fields.result _ _ _ _ _ _
+    let all =
+    both c.fields.result _ _ _ _ _ c.fields.new.out.items
     (variant_named c.args.left c.args.table.now c.args.choice.now c.args.value.now c.in-Variant.name c.in-Variant.index
     c.in-Variant.values c.as_slice-3.result.now c.in-Some.variant.now c.as_slice-2.result.now
     c.in-Variant.is some same c.as_slice-2.ensures c.as_slice-3.ensures)
-    (appended c.in-Variant.index _ _ c.in_ok-push.ensures.items) c.fields.ensures.ok
-
-pub variant_value-returns-clause-err : goal.variant_value-returns-clause-err
-variant_value-returns-clause-err t c =
-    let some : find (λ v. v.index == c.in-Variant.index) c.args.choice.now.variants ≡ Some c.in-Some.variant.now =
-    grind (arith, common_steps) in
-    let same : bytes_eq c.in-Some.variant.now.name c.in-Variant.name ≡ true = grind (arith, common_steps) in
-    both_err c.fields.result _ _ _ _ _ c.fields.new.out.items
-    (variant_named c.args.left c.args.table.now c.args.choice.now c.args.value.now c.in-Variant.name c.in-Variant.index
-    c.in-Variant.values c.as_slice-3.result.now c.in-Some.variant.now c.as_slice-2.result.now
-    c.in-Variant.is some same c.as_slice-2.ensures c.as_slice-3.ensures)
-    (appended c.in-Variant.index _ _ c.in_ok-push.ensures.items) c.fields.new.steps.items c.fields.ensures.err
+    (appended c.in-Variant.index _ _ c.in_ok-push.ensures.items) c.fields.new.steps.items c.fields.ensures.ok c.fields.ensures.err
+    c.fields.ensures.kept in
+    record { ok = all.0; err = all.1; kept = all.2 }

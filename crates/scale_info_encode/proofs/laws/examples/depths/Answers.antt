@@ -1,20 +1,8 @@
-use Rattle.std.proofs.Common.{refl}
+use Rattle.std.proofs.Common.{rules}
 use Rattle.scale_info_encode.specs.Writings.{value_within, compact_within}
 use Rattle.scale_info_encode.proofs.ValueKinds.{outs}
 use Rattle.scale_info_encode.proofs.laws.examples.depths.Goals as goal
 
-pub returns-clause-own : goal.returns-clause-own
+pub returns : goal.returns
 unfolding value_within compact_within
-returns-clause-own c = simp outs refl
-
-pub returns-clause-deepest : goal.returns-clause-deepest
-unfolding value_within compact_within
-returns-clause-deepest c = simp outs refl
-
-pub returns-clause-items : goal.returns-clause-items
-unfolding value_within compact_within
-returns-clause-items c = simp outs refl
-
-pub returns-clause-past : goal.returns-clause-past
-unfolding value_within compact_within
-returns-clause-past c = refl
+returns c = search (rules, outs)

@@ -1,14 +1,10 @@
-use Rattle.std.proofs.Common.{refl}
+use Rattle.std.proofs.Common.{rules}
 use Rattle.std.specs.Str.{is_utf8, chars}
 use Rattle.std.specs.Char.{encode_utf8}
 use Rattle.scale_info_encode.specs.Writings.{value_within}
 use Rattle.scale_info_encode.proofs.ValueKinds.{outs}
 use Rattle.scale_info_encode.proofs.laws.examples.texts.Goals as goal
 
-pub returns-clause-text : goal.returns-clause-text
+pub returns : goal.returns
 unfolding value_within is_utf8 chars encode_utf8
-returns-clause-text c = simp outs refl
-
-pub returns-clause-no_text : goal.returns-clause-no_text
-unfolding value_within is_utf8 chars encode_utf8
-returns-clause-no_text c = simp outs refl
+returns c = search (rules, outs)
