@@ -1,13 +1,10 @@
 -- Definitions written and read.
-use Rattle.std.proofs.Common.{◌≡◌, ℕ, ◌≤◌, ◌<◌, lit<, List, ◌∷◌, ◌++◌, Result, Ok, Err, refl, sym, ap}
+use Rattle.std.proofs.Common.{◌≡◌, ℕ, ◌≤◌, ◌<◌, lit<, List, ◌∷◌, ◌++◌, refl, sym, ap}
 use Rattle.std.proofs.Common.{subst, ◌∙◌, arith}
-use Rattle.std.specs.Prelude.{OnOk, IfErr}
 use Rattle.scale_info_types.specs.Orders.{definition_index}
 use Rattle.scale_info_types.specs.Portable as portable
 use Rattle.scale_info_types.specs.declared.ty.TypeDef.TheVariants as def
-use Rattle.scale_info_bytes.specs.declared.error.EncodeError.{EncodeError}
 use Rattle.scale_info_bytes.specs.Encodings.{AppendsEncoding, HasPrefix, HasNoPrefix, HasNoEncoding}
-use Rattle.scale_info_bytes.specs.Encodings.{IfTooLong}
 use Rattle.scale_info_bytes.specs.Parts.{HasIndex}
 use Rattle.scale_info_grammar.specs.Ty.{EncodesComposite, EncodesVariants, EncodesSequence}
 use Rattle.scale_info_grammar.specs.Ty.{EncodesArray, EncodesTuple, EncodesPrimitive}
@@ -16,7 +13,6 @@ use Rattle.scale_info_grammar.specs.Ty.{EncodesTypeDefWithIndex, composite, vari
 use Rattle.scale_info_grammar.specs.Ty.{array}
 use Rattle.scale_info_grammar.specs.Ty.{tuple, primitive, compact, bit_sequence, map}
 use Rattle.scale_info_grammar.specs.Ty.{EncodesTypeDef}
-use Rattle.scale_info_bytes.proofs.Errors.{too_long_on}
 use Rattle.scale_info_bytes.proofs.Index.{BeginsWith, prefix_past_index, after}
 use Rattle.scale_info_bytes.proofs.Steps.{prefix_map}
 

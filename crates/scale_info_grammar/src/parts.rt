@@ -8,6 +8,7 @@ use scale_info_types::ty::variant::Variant;
 use scale_info_types::ty::{Description, Field, TypeDef, TypeParameter};
 
 /// The field with this name, type, name of the type and documentation.
+#[inline(always)]
 pub fn field_of<F: Form>(
     parts: (
         Option<F::String>,
@@ -26,6 +27,7 @@ pub fn field_of<F: Form>(
 }
 
 /// The variant with this name, these fields, this index and documentation.
+#[inline(always)]
 pub fn variant_of<F: Form>(
     parts: (F::String, (Items<Field<F>>, (u8, Items<F::String>))),
 ) -> Variant<F>
@@ -41,6 +43,7 @@ pub fn variant_of<F: Form>(
 }
 
 /// The description with this path, these parameters, this definition and documentation.
+#[inline(always)]
 pub fn description_of<F: Form>(
     parts: (
         Path<F>,
