@@ -14,8 +14,9 @@ use Rattle.scale_info_types.specs.Portable.{Field, Id, Text, TypeDef, Variant}
 use Rattle.scale_info_types.specs.References.{definition_references, field_references}
 use Rattle.scale_info_types.specs.declared.ty.PortableType.{PortableType}
 use Rattle.scale_info_types.specs.declared.ty.TypeDef.TheVariants as def
+use Rattle.scale_info_value.proofs.ByLayers.{Known, lower, by_layers}
 use Rattle.scale_info_value.specs.declared.value.Dyn.{Dyn}
-use Rattle.scale_info_value.specs.declared.value.Dyn.TheFolds.{fold-roll-Dyn, ind-Dyn, map-Dyn}
+use Rattle.scale_info_value.specs.declared.value.Dyn.TheFolds.{fold-roll-Dyn, map-Dyn}
 use Rattle.scale_info_value.specs.declared.value.Dyn.TheOpen as layer
 use Rattle.scale_info_value.specs.declared.value.Dyn.TheOpen.{Dyn-F}
 use Rattle.scale_info_value.specs.declared.value.Dyn.TheVariants as dyn
@@ -101,83 +102,74 @@ module _ (table part : PortableRegistry) (ids : List ℕ) (is : IsPartOf table i
           reached_next (system_of table) ids id r.id (entry_of entry) reached
           (ap (option_map entry_of) there) (definition_refers entry.ty r c)
 
+  -- definitions by the table that are those by the part, and refer to what is reached
+  abbrev AreKnown : List (Option TypeDef) → List (Option TypeDef) → Type 0
+  AreKnown types others = (types ≡ others) × AllRefer Reached types
+
+  -- one more of them
+  one_known :
+      (id : ℕ) (types others : List (Option TypeDef)) → Reached id → AreKnown types others
+      → AreKnown (definition_at table id ∷ types) (definition_at part id ∷ others)
+  one_known id types others reached rest = (
+    (λ i. known id reached i ∷ rest.0 i),
+    (refers id reached, rest.1),
+  )
+
   -- so many of one definition
-  many : (n : ℕ) (t : Option TypeDef) → Refers Reached t → AllRefer Reached (replicate n t)
-  many zero t h = tt
-  many (suc n) t h = (h, many n t h)
+  many_known :
+      (n : ℕ) (t u : Option TypeDef) → t ≡ u → Refers Reached t
+      → AreKnown (replicate n t) (replicate n u)
+  many_known zero t u e h = (refl, tt)
+  many_known (suc n) t u e h =
+      let rest = many_known n t u e h in
+      ((λ i. e i ∷ rest.0 i), (h, rest.1))
+
+  -- the definitions of so many items
+  items_known :
+      (n : ℕ) (r : Id) → Each Reached (r ∷ [])
+      → AreKnown (replicate n (definition_at table r.id)) (replicate n (definition_at part r.id))
+  items_known n r h =
+      let reached = h r (contains_head r []) in
+      many_known n (definition_at table r.id) (definition_at part r.id) (known r.id reached)
+      (refers r.id reached)
 
   -- the definitions of fields that are reached
-  fields_known : (fs : List Field) → Each Reached (field_references fs) → field_types table fs ≡ field_types part fs
-  fields_known [] h = refl
+  fields_known :
+      (fs : List Field) → Each Reached (field_references fs)
+      → AreKnown (field_types table fs) (field_types part fs)
+  fields_known [] h = (refl, tt)
   fields_known (f ∷ fs) h =
-      let first = known f.ty.id (h f.ty (contains_head f.ty (field_references fs))) in
-      let rest = fields_known fs (λ r c. h r (contains_tail f.ty (field_references fs) r c)) in
-      λ i. first i ∷ rest i
-
-  fields_refer : (fs : List Field) → Each Reached (field_references fs) → AllRefer Reached (field_types table fs)
-  fields_refer [] h = tt
-  fields_refer (f ∷ fs) h = (
-    refers f.ty.id (h f.ty (contains_head f.ty (field_references fs))),
-    fields_refer fs (λ r c. h r (contains_tail f.ty (field_references fs) r c)),
-  )
+      one_known f.ty.id (field_types table fs) (field_types part fs)
+      (h f.ty (contains_head f.ty (field_references fs)))
+      (fields_known fs (λ r c. h r (contains_tail f.ty (field_references fs) r c)))
 
   -- those of members
   members_known :
       (rs : List Id) → Each Reached rs
-      → map (λ (t : Id). definition_at table t.id) rs ≡ map (λ (t : Id). definition_at part t.id) rs
-  members_known [] h = refl
+      → AreKnown (map (λ (t : Id). definition_at table t.id) rs)
+      (map (λ (t : Id). definition_at part t.id) rs)
+  members_known [] h = (refl, tt)
   members_known (r ∷ rs) h =
-      let first = known r.id (h r (contains_head r rs)) in
-      let rest = members_known rs (λ s c. h s (contains_tail r rs s c)) in
-      λ i. first i ∷ rest i
+      one_known r.id (map (λ (t : Id). definition_at table t.id) rs)
+      (map (λ (t : Id). definition_at part t.id) rs) (h r (contains_head r rs)) (members_known rs (λ s c. h s (contains_tail r rs s c)))
 
-  members_refer :
-      (rs : List Id) → Each Reached rs → AllRefer Reached (map (λ (t : Id). definition_at table t.id) rs)
-  members_refer [] h = tt
-  members_refer (r ∷ rs) h = (
-    refers r.id (h r (contains_head r rs)),
-    members_refer rs (λ s c. h s (contains_tail r rs s c)),
-  )
-
-  -- the definitions of the parts of a value are those of the table
+  -- the definitions of the parts of a value, by the table and by the part
   parts_known :
       (type : Option TypeDef) (index count : ℕ) → Refers Reached type
-      → part_types table type index count ≡ part_types part type index count
-  parts_known None index count h = refl
+      → AreKnown (part_types table type index count) (part_types part type index count)
+  parts_known None index count h = (refl, tt)
   parts_known (Some (def.Composite d)) index count h = fields_known d.fields h
   parts_known (Some (def.Variant d)) index count h =
       fields_known (fields_of (find (λ v. v.index == index) d.variants))
       (λ r c. h r (found_fields index d.variants r c))
-  parts_known (Some (def.Sequence d)) index count h =
-      ap (replicate count) (known d.type_param.id (h d.type_param (contains_head d.type_param [])))
-  parts_known (Some (def.Array d)) index count h =
-      ap (replicate count) (known d.type_param.id (h d.type_param (contains_head d.type_param [])))
+  parts_known (Some (def.Sequence d)) index count h = items_known count d.type_param h
+  parts_known (Some (def.Array d)) index count h = items_known count d.type_param h
   parts_known (Some (def.Tuple d)) index count h = members_known d.fields h
-  parts_known (Some (def.Primitive p)) index count h = refl
-  parts_known (Some (def.Compact d)) index count h = refl
-  parts_known (Some (def.BitSequence d)) index count h = refl
-  parts_known (Some (def.Map d)) index count h = refl
-
-  -- and what they refer to is reached
-  parts_refer :
-      (type : Option TypeDef) (index count : ℕ) → Refers Reached type
-      → AllRefer Reached (part_types table type index count)
-  parts_refer None index count h = tt
-  parts_refer (Some (def.Composite d)) index count h = fields_refer d.fields h
-  parts_refer (Some (def.Variant d)) index count h =
-      fields_refer (fields_of (find (λ v. v.index == index) d.variants))
-      (λ r c. h r (found_fields index d.variants r c))
-  parts_refer (Some (def.Sequence d)) index count h =
-      many count (definition_at table d.type_param.id)
-      (refers d.type_param.id (h d.type_param (contains_head d.type_param [])))
-  parts_refer (Some (def.Array d)) index count h =
-      many count (definition_at table d.type_param.id)
-      (refers d.type_param.id (h d.type_param (contains_head d.type_param [])))
-  parts_refer (Some (def.Tuple d)) index count h = members_refer d.fields h
-  parts_refer (Some (def.Primitive p)) index count h = tt
-  parts_refer (Some (def.Compact d)) index count h = tt
-  parts_refer (Some (def.BitSequence d)) index count h = tt
-  parts_refer (Some (def.Map d)) index count h = many count (Some (pair_of d.key d.value)) h
+  parts_known (Some (def.Primitive p)) index count h = (refl, tt)
+  parts_known (Some (def.Compact d)) index count h = (refl, tt)
+  parts_known (Some (def.BitSequence d)) index count h = (refl, tt)
+  parts_known (Some (def.Map d)) index count h =
+      many_known count (Some (pair_of d.key d.value)) (Some (pair_of d.key d.value)) refl h
 
   -- which lists are bytes
   bytes_known : (type : Option TypeDef) → Refers Reached type → are_bytes table type ≡ are_bytes part type
@@ -198,14 +190,6 @@ module _ (table part : PortableRegistry) (ids : List ℕ) (is : IsPartOf table i
   abbrev Alike : Dyn → Type 0
   Alike d = (type : Option TypeDef) → Refers Reached type → events_by table type d ≡ events_by part type d
 
-  -- a value of which that is known
-  abbrev Known : Type 0
-  Known = (d : Dyn) × Alike d
-
-  -- a layer of such values
-  abbrev lower : Dyn-F Known → Dyn-F Dyn
-  lower y = map-Dyn Known Dyn (λ e. e.0) y
-
   -- a layer with no parts
   by_layer :
       (x : Dyn-F Dyn) (type : Option TypeDef)
@@ -217,21 +201,24 @@ module _ (table part : PortableRegistry) (ids : List ℕ) (is : IsPartOf table i
       ∙ e ∙ sym (ap (λ h. h type) (fold-roll-Dyn (Option TypeDef → List Event) (step_by part) x))
 
   -- a list
-  lists_alike : (ks : List Known) → Alike (dyn.List (map (λ k. k.0) ks))
+  lists_alike : (ks : List (Known Alike)) → Alike (dyn.List (map (λ k. k.0) ks))
   lists_alike ks type h =
       let vs : List Dyn = map (λ k. k.0) ks in
       let types = part_types table type 0 (length vs) in
       list_typed table type vs
       ∙ ap (λ b. list_events b (in_place (value_by table) vs types)) (bytes_known type h)
       ∙ ap (list_events (are_bytes part type))
-      (in_place_alike Reached (value_by table) (value_by part) (λ (k : Known). k.0) (λ k t r. k.1 t r) ks types
-      (parts_refer type 0 (length vs) h))
-      ∙ ap (λ ts. list_events (are_bytes part type) (in_place (value_by part) vs ts)) (parts_known type 0 (length vs) h)
+      (in_place_alike Reached (value_by table) (value_by part) (λ (k : Known Alike). k.0)
+      (λ k t r. k.1 t r) ks types
+      (parts_known type 0 (length vs) h).1)
+      ∙ ap (λ ts. list_events (are_bytes part type) (in_place (value_by part) vs ts))
+      (parts_known type 0 (length vs) h).0
       ∙ sym (list_typed part type vs)
 
   -- fields between two events
   fields_alike :
-      (first last : Event) (named : Bool) (ks : List (Option Text × Known)) (type : Option TypeDef) (index count : ℕ)
+      (first last : Event) (named : Bool) (ks : List (Option Text × Known Alike))
+      (type : Option TypeDef) (index count : ℕ)
       → Refers Reached type
       → bracketed first (placed (field_by table named) (part_types table type index count)) last
       (map (λ k. (k.0, k.1.0)) ks)
@@ -242,12 +229,14 @@ module _ (table part : PortableRegistry) (ids : List ℕ) (is : IsPartOf table i
       let types = part_types table type index count in
       ap (λ es. first ∷ flat_map (λ e. e) es ++ last ∷ [])
       (in_place_alike Reached (field_by table named) (field_by part named)
-      (λ (k : Option Text × Known). (k.0, k.1.0)) (λ k t r. ap (λ es. field k.0 named ∷ es) (k.1.1 t r)) ks types
-      (parts_refer type index count h))
-      ∙ ap (λ ts. bracketed first (placed (field_by part named) ts) last fs) (parts_known type index count h)
+      (λ (k : Option Text × Known Alike). (k.0, k.1.0))
+      (λ k t r. ap (λ es. field k.0 named ∷ es) (k.1.1 t r)) ks types
+      (parts_known type index count h).1)
+      ∙ ap (λ ts. bracketed first (placed (field_by part named) ts) last fs)
+      (parts_known type index count h).0
 
   -- each layer of values that are shown alike
-  layers_alike : (y : Dyn-F Known) → Alike (roll-Dyn (lower y))
+  layers_alike : (y : Dyn-F (Known Alike)) → Alike (roll-Dyn (lower Alike y))
   layers_alike (layer.Bool b) type h = by_layer (layer.Bool b) type refl
   layers_alike (layer.Unsigned n) type h = by_layer (layer.Unsigned n) type refl
   layers_alike (layer.Signed n) type h = by_layer (layer.Signed n) type refl
@@ -271,7 +260,7 @@ module _ (table part : PortableRegistry) (ids : List ℕ) (is : IsPartOf table i
 
   -- each value is shown alike
   all_alike : (d : Dyn) → Alike d
-  all_alike = ind-Dyn Alike (λ x y joined. subst (λ z. Alike (roll-Dyn z)) joined (layers_alike y))
+  all_alike = by_layers Alike layers_alike
 
   -- by each type that is reached
   pub shows_alike : (id : ℕ) → Reached id → (value : Dyn) → events part id value ≡ events table id value

@@ -25,6 +25,13 @@ same_loaded entries n (Some entry) p there e =
     let same : Some entry ≡ p = cc in
     ap Some (get_or_from_slice_get entries n entry not_loaded there) ∙ same
 
+-- a part of a table, in which what is reached from these ids is read as in the whole
+pub record IsLoadedPart (table : PortableRegistry) (ids : List ℕ)
+    (loaded : PortableRegistry) : Type 0 where
+  pub part : IsPartOf table ids loaded
+  pub alike : (id : ℕ) → IsReached (system_of table) ids id → IsAlikeAt table loaded id
+  pub within : (id : ℕ) → IsReached (system_of table) ids id → id < length table.types
+
 module _ (table : PortableRegistry) (ids order numbers : List ℕ) (entries : List PortableType)
     (numbering : IsNumbering (system_of table) ids order) (dense : AreNumbers order numbers)
     (count : length numbers ≡ length table.types) (few : length table.types ≤ 4294967295)
@@ -38,7 +45,7 @@ module _ (table : PortableRegistry) (ids order numbers : List ℕ) (entries : Li
   in_order id reached = (reached_exactly (system_of table) ids order numbering id).1 reached
 
   -- it is an index of the table
-  pub reached_within : (id : ℕ) → IsReached (system_of table) ids id → id < length table.types
+  reached_within : (id : ℕ) → IsReached (system_of table) ids id → id < length table.types
   reached_within id reached =
       let inside = numbers_within order numbers dense id (in_order id reached) in omega (arith, count)
 
@@ -63,7 +70,7 @@ module _ (table : PortableRegistry) (ids order numbers : List ℕ) (entries : Li
       get_or_past entries 4294967295 not_loaded (omega (arith, count, as_many))
 
   -- the table as it is loaded is the part that is reached
-  pub is_part : IsPartOf table ids part
+  is_part : IsPartOf table ids part
   is_part = record {
     long = length-map numbers (entry_numbered entries) ∙ count;
     loaded = λ id reached.
@@ -83,8 +90,12 @@ module _ (table : PortableRegistry) (ids order numbers : List ℕ) (entries : Li
   }
 
   -- values are read by it and shown as by the whole
-  pub is_alike : (id : ℕ) → IsReached (system_of table) ids id → IsAlikeAt table part id
+  is_alike : (id : ℕ) → IsReached (system_of table) ids id → IsAlikeAt table part id
   is_alike id reached = record {
     reads = reads_alike table part ids is_part id reached;
     shows = shows_alike table part ids is_part id reached;
   }
+
+  -- what is loaded is that part, in which all that is reached is found and read as in the whole
+  pub loads : IsLoadedPart table ids part
+  loads = record { part = is_part; alike = is_alike; within = reached_within }
