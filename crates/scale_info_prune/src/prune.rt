@@ -103,8 +103,8 @@ pub fn append_pruned(
     table.append_pruned(alloc, ids, out)
 }
 
-/// Numbers what the given ids reach, over the index of a table, in the room of an earlier numbering,
-/// if there is one.
+/// Numbers what the given ids reach, over the index of a table, in the room of an earlier one, if
+/// there is one.
 pub(crate) fn number_index(
     alloc: Global,
     count: u32,
