@@ -22,7 +22,8 @@ pub both_pushed_at :
     {A B : Type 0} (xs : List A) (ys : List B) (y : A) (w : B) (k : ℕ) (x : A) (v : B)
     → length xs ≡ length ys → slice_get (xs ++ y ∷ []) k ≡ Some x
     → slice_get (ys ++ w ∷ []) k ≡ Some v
-    → ((slice_get xs k ≡ Some x) × (slice_get ys k ≡ Some v)) ⊎ ((k ≡ length xs) × (x ≡ y) × (v ≡ w))
+    → ((slice_get xs k ≡ Some x) × (slice_get ys k ≡ Some v))
+    ⊎ ((k ≡ length xs) × (x ≡ y) × (v ≡ w))
 both_pushed_at xs ys y w k x v long e f =
     elim (pushed_at xs y k x e) [
       | inl a ↦

@@ -29,8 +29,9 @@ next_path :
     c.loop-index.common.items c.loop-index.others.items
 next_path c types others x y =
     at_path types others c.args.paths.now c.args.marks.now c.loop-index.index
-    c.index-paths-index.result false c.loop-index.common.items c.loop-index.others.items c.loop-index-test.true c.requires.marks
-    (c.loop-index.invariant types others x y) c.if-marks-index.false
+    c.index-paths-index.result false c.loop-index.common.items c.loop-index.others.items
+    c.loop-index-test.true c.requires.marks (c.loop-index.invariant types others x y)
+    c.if-marks-index.false
 
 -- these are its ids in the new table
 ids_there :
@@ -70,7 +71,8 @@ returns-then-there-len c = λ types others x y.
       other =
           other_count _ _ _ _ _ _ _ (next_path at.After-is_empty types others x y) row there
           (row_of (λ v. v.items) types c.args.paths.now c.args.ids.now c.loop-index.index
-          c.index-paths-index.result c.index-ids-index.result c.loop-index-test.true c.requires.ids y)
+          c.index-paths-index.result c.index-ids-index.result c.loop-index-test.true
+          c.requires.ids y)
           (ids_there at.After-is_empty others x) (some_there at.Else-is_empty) unequal;
     }
 

@@ -8,8 +8,8 @@ use Rattle.scale_info_export.specs.LentEntries.{lent_entries}
 use Rattle.scale_info_export.proofs.LentEntries.{chosen_at, length_lent, walk_error}
 use Rattle.scale_info_numberings.specs.Numberings.{IsNumbering}
 use Rattle.scale_info_references.specs.Conversions.{number_of}
-use Rattle.scale_info_tables.proofs.Moved.{is_pruned, numbers_agree}
-use Rattle.scale_info_walk.proofs.Visiting.{numbers_long, numbers_within}
+use Rattle.scale_info_tables.proofs.Moved.{is_pruned, numbers_agree, order_few}
+use Rattle.scale_info_walk.proofs.Visiting.{numbers_within}
 use Rattle.scale_info_walk.specs.TypeSystems.{types_system}
 use Rattle.scale_info_export.proofs.lent.number_kept.Goals as goal
 
@@ -36,10 +36,8 @@ returns-clause-within g c k d h =
 
 pub returns-clause-short : goal.returns-clause-short
 returns-clause-short g c =
-    let count = c.in_ok-found.ensures.count in
-    let few = c.in_ok-found.ensures.few in
-    let long = numbers_long c.in_ok-found.found.order.items c.in_ok-found.found.numbers.items c.in_ok-found.ensures.numbers in
-    omega arith
+    order_few c.in_ok-found.found.order.items c.in_ok-found.found.numbers.items
+    c.in_ok-found.ensures.numbers c.in_ok-found.ensures.count c.in_ok-found.ensures.few
 
 pub returns-clause-ok : goal.returns-clause-ok
 returns-clause-ok g c =
@@ -49,9 +47,6 @@ returns-clause-ok g c =
     let order = c.in_ok-found.found.order.items in
     let numbers = c.in_ok-found.found.numbers.items in
     let dense = c.in_ok-found.ensures.numbers in
-    let count = c.in_ok-found.ensures.count in
-    let few = c.in_ok-found.ensures.few in
-    let long = numbers_long order numbers dense in
     let numbering : IsNumbering (types_system types) roots order =
     subst (λ rs. IsNumbering (types_system types) rs order) c.deref.ensures.value c.in_ok-found.ensures.numbering in
     let ids = subst (λ (ns : List ℕ). (old new : ℕ) → (get nat_cmp c.in_ok-map.map old ≡ Some new)
@@ -61,5 +56,6 @@ returns-clause-ok g c =
       chosen_at _ c.args.filter chosen.0 _ _ roots c.len.ensures chosen.1,
       λ kept x.
           is_pruned types roots order numbers (number_of numbers) kept numbering dense (numbers_agree numbers) x
-          c.in_ok-map.map (omega arith) ids,
+          c.in_ok-map.map
+          (order_few order numbers dense c.in_ok-found.ensures.count c.in_ok-found.ensures.few) ids,
     )
