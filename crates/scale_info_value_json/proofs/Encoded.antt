@@ -189,20 +189,18 @@ half_written w half most (negsuc n) e =
 -- values of each primitive are written
 primitives_written : (p : TypeDefPrimitive) → AreWritten (takers.primitive p) (writers.primitive p)
 primitives_written kind.Bool = truth_written
-primitives_written kind.Char = λ tree value e. cc
 primitives_written kind.Str = text_written
 primitives_written kind.U8 = unsigned_written (2 ^ 8) (writers.unsigned w8) (width_written w8 (2 ^ 8) (omega arith))
 primitives_written kind.U16 = unsigned_written (2 ^ 16) (writers.unsigned w16) (width_written w16 (2 ^ 16) (omega arith))
 primitives_written kind.U32 = unsigned_written (2 ^ 32) (writers.unsigned w32) (width_written w32 (2 ^ 32) (omega arith))
 primitives_written kind.U64 = unsigned_written (2 ^ 64) (writers.unsigned w64) (width_written w64 (2 ^ 64) (omega arith))
 primitives_written kind.U128 = unsigned_written (2 ^ 128) (writers.unsigned w128) (width_written w128 (2 ^ 128) (omega arith))
-primitives_written kind.U256 = λ tree value e. cc
 primitives_written kind.I8 = signed_written (2 ^ 7) (writers.signed w8) (half_written w8 (2 ^ 7) (omega arith))
 primitives_written kind.I16 = signed_written (2 ^ 15) (writers.signed w16) (half_written w16 (2 ^ 15) (omega arith))
 primitives_written kind.I32 = signed_written (2 ^ 31) (writers.signed w32) (half_written w32 (2 ^ 31) (omega arith))
 primitives_written kind.I64 = signed_written (2 ^ 63) (writers.signed w64) (half_written w64 (2 ^ 63) (omega arith))
 primitives_written kind.I128 = signed_written (2 ^ 127) (writers.signed w128) (half_written w128 (2 ^ 127) (omega arith))
-primitives_written kind.I256 = λ tree value e. cc
+primitives_written _ = λ tree value e. cc
 
 -- a compact integer below a limit is written
 compact_written : (limit n : ℕ) → n < limit → HasBytes (if_fits (nat_lt n limit) (compact_bytes n))
@@ -501,69 +499,53 @@ compact_type_written take write part None = λ tree value e. cc
 compact_type_written take write part (Some d) =
     compacts_written (λ r. take r.id) (λ r. write r.id) (λ r. part r.id) d.type_def
 
+-- what is taken is written, however many levels are left
+abbrev AreWrittenWithin : (ℕ → PortableRegistry → ℕ → Taker Dyn) → (ℕ → PortableRegistry → ℕ → Writer Dyn) → Type 0
+AreWrittenWithin take write =
+    (left : ℕ) (table : PortableRegistry) (id : ℕ) → AreWritten (take left table id) (write left table id)
+
 -- compact integers are written, however many levels are left
-compact_level_written :
-    (left : ℕ) (table : PortableRegistry) (id : ℕ)
-    → AreWritten (taken_values.compact_within left table id) (written_values.compact_within left table id)
+compact_level_written : AreWrittenWithin taken_values.compact_within written_values.compact_within
 unfolding written_values.compact_within taken_values.compact_within
 compact_level_written zero table id = λ tree value e. cc
 compact_level_written (suc left) table id =
     compact_type_written (taken_values.compact_within left table) (written_values.compact_within left table)
     (compact_level_written left table) (type_at table id)
 
+-- the takers of these at an id
+abbrev takers_at : PortableRegistry → (ℕ → Taker Dyn) → (ℕ → Taker Dyn) → (ℕ → Taker Dyn) → ℕ → Takers
+takers_at table value inner compact r =
+    record { value = value r; inner = inner r; compact = compact r; is_byte = is_byte (definition_at table r) }
+
+-- the writers of these at an id
+abbrev writers_at : (ℕ → Writer Dyn) → (ℕ → Writer Dyn) → (ℕ → Writer Dyn) → ℕ → Writers
+writers_at value inner compact r = record { value = value r; inner = inner r; compact = compact r }
+
 -- values by a description are written
 type_written :
-    (takers_of : ℕ → Takers) (writers_of : ℕ → Writers) → ((id : ℕ) → PartIsWritten (takers_of id) (writers_of id))
-    → (o : Option Description)
-    → AreWritten (taken_values.value_by_type takers_of o) (written_values.value_by_type writers_of o)
-type_written takers_of writers_of part None = λ tree value e. cc
-type_written takers_of writers_of part (Some d) =
-    values_written (λ r. takers_of r.id) (λ r. writers_of r.id) (λ r. part r.id) d.type_def
+    (table : PortableRegistry) (take take_inner take_compact : ℕ → Taker Dyn)
+    (write write_inner write_compact : ℕ → Writer Dyn)
+    → ((id : ℕ) → AreWritten (take id) (write id)) → ((id : ℕ) → AreWritten (take_inner id) (write_inner id))
+    → ((id : ℕ) → AreWritten (take_compact id) (write_compact id)) → (o : Option Description)
+    → AreWritten (taken_values.value_by_type (takers_at table take take_inner take_compact) o)
+    (written_values.value_by_type (writers_at write write_inner write_compact) o)
+type_written table take take_inner take_compact write write_inner write_compact value inner compact None = λ tree value e. cc
+type_written table take take_inner take_compact write write_inner write_compact value inner compact (Some d) =
+    values_written (λ r. takers_at table take take_inner take_compact r.id)
+    (λ r. writers_at write write_inner write_compact r.id)
+    (λ r. record { value = value r.id; inner = inner r.id; compact = compact r.id }) d.type_def
 
 -- values are written, however many levels are left
-level_written :
-    (left : ℕ) (table : PortableRegistry) (id : ℕ)
-    → AreWritten (taken_values.value_within left table id) (written_values.value_within left table id)
+level_written : AreWrittenWithin taken_values.value_within written_values.value_within
 unfolding written_values.value_within taken_values.value_within
 level_written zero table id = λ tree value e. cc
 level_written (suc zero) table id =
-    type_written
-    (λ r. record {
-      value = λ t. not_taken too_deep;
-      inner = λ t. not_taken too_deep;
-      compact = taken_values.compact_within 1 table r;
-      is_byte = is_byte (definition_at table r);
-    })
-    (λ r. record {
-      value = λ v. refused writing.too_deep;
-      inner = λ v. refused writing.too_deep;
-      compact = written_values.compact_within 1 table r;
-    })
-    (λ r. record {
-      value = λ tree value e. cc;
-      inner = λ tree value e. cc;
-      compact = compact_level_written 1 table r;
-    })
-    (type_at table id)
+    type_written table (λ r tree. not_taken too_deep) (λ r tree. not_taken too_deep) _
+    (λ r value. refused writing.too_deep) (λ r value. refused writing.too_deep) _
+    (λ r tree value e. cc) (λ r tree value e. cc) (compact_level_written 1 table) (type_at table id)
 level_written (suc (suc left)) table id =
-    type_written
-    (λ r. record {
-      value = taken_values.value_within (suc left) table r;
-      inner = taken_values.value_within left table r;
-      compact = taken_values.compact_within (suc (suc left)) table r;
-      is_byte = is_byte (definition_at table r);
-    })
-    (λ r. record {
-      value = written_values.value_within (suc left) table r;
-      inner = written_values.value_within left table r;
-      compact = written_values.compact_within (suc (suc left)) table r;
-    })
-    (λ r. record {
-      value = level_written (suc left) table r;
-      inner = level_written left table r;
-      compact = compact_level_written (suc (suc left)) table r;
-    })
-    (type_at table id)
+    type_written table _ _ _ _ _ _ (level_written (suc left) table) (level_written left table)
+    (compact_level_written (suc (suc left)) table) (type_at table id)
 
 -- a value that is taken has an encoding, which is read as that value
 pub taken_is_encoded :

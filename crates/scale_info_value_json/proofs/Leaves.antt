@@ -13,8 +13,10 @@ use Rattle.hex.proofs.HexLemmas.{decode_of-encode_lower}
 use Rattle.json.specs.Token as token
 use Rattle.json.specs.Token.{Token}
 use Rattle.json.specs.Json as json
+use Rattle.json.specs.Print.{IsNumber}
 use Rattle.json.proofs.Printed.Decimals.{IsNumber-decimal, IsNumber-signed_decimal}
-use Rattle.serde_json.specs.Data.{Data, boolean, number, string, unsigned, negative}
+use Rattle.serde_json.specs.Data.{Data, Num, boolean, number, string, unsigned, negative}
+use Rattle.serde_json.specs.Read.{number_of}
 use Rattle.serde_json.proofs.Numbers.{number_of-decimal, number_of-negative}
 use Rattle.scale_info_value_json.specs.Takers.{Taker, taken}
 use Rattle.scale_info_value_json.specs.TreeParts.{natural_in, integer_in, decimal_in, signed_decimal_in, bytes_in, is_within}
@@ -39,6 +41,25 @@ signed_back (pos n) h =
     ∙ ap (option_map pos) (decimal_back n h)
 signed_back (negsuc n) h = ap (option_map (λ n. neg_ℤ (pos n))) (decimal_back (suc n) h)
 
+-- a string
+pub string_shown : {A : Type 0} (s : List ℕ) (take : Taker A) (value : A) → take (string s) ≡ taken value → IsShown (token.string s ∷ []) take value
+string_shown s take value e =
+    record { json = json.string s; tree = string s; prints = refl; numbers = tt; reads = refl; is = e }
+
+-- a number that is read as it was printed
+number_shown :
+    {A : Type 0} (s : List ℕ) (n : Num) (take : Taker A) (value : A) → IsNumber s → number_of s ≡ Some n
+    → take (number n) ≡ taken value → IsShown (token.number s ∷ []) take value
+number_shown s n take value printed reads e =
+    record {
+      json = json.number s;
+      tree = number n;
+      prints = refl;
+      numbers = printed;
+      reads = ap (option_map number) reads;
+      is = e;
+    }
+
 -- an integer of an unsigned type
 pub natural_shown :
     {A : Type 0} (n : ℕ) (take : Taker A) (value : A) → n < 2 ^ 128
@@ -51,23 +72,9 @@ natural_shown {A} n take value h by = by_size (nat_lt n (2 ^ 53)) refl
         → IsShown ((if small then token.number (decimal n) else token.string (decimal n)) ∷ []) take value
     by_size true e =
         let less : n < 2 ^ 53 = ltb-true _ _ e in
-        record {
-          json = json.number (decimal n);
-          tree = number (unsigned n);
-          prints = refl;
-          numbers = IsNumber-decimal n (omega arith);
-          reads = ap (option_map number) (number_of-decimal n (omega arith));
-          is = by (number (unsigned n)) refl;
-        }
-    by_size false e =
-        record {
-          json = json.string (decimal n);
-          tree = string (decimal n);
-          prints = refl;
-          numbers = tt;
-          reads = refl;
-          is = by (string (decimal n)) (decimal_back n (omega arith));
-        }
+        number_shown (decimal n) (unsigned n) take value (IsNumber-decimal n (omega arith))
+        (number_of-decimal n (omega arith)) (by (number (unsigned n)) refl)
+    by_size false e = string_shown (decimal n) take value (by (string (decimal n)) (decimal_back n (omega arith)))
 
 -- an integer of a signed type
 pub integer_shown :
@@ -81,23 +88,12 @@ integer_shown {A} z take value h by = by_size (nat_lt (unsigned_abs z) (2 ^ 53))
     small_shown : (z : ℤ) → unsigned_abs z < 2 ^ 53 → ((tree : Data) → integer_in tree ≡ Some z → take tree ≡ taken value)
         → IsShown (token.number (signed_decimal z) ∷ []) take value
     small_shown (pos n) less by =
-        record {
-          json = json.number (decimal n);
-          tree = number (unsigned n);
-          prints = refl;
-          numbers = IsNumber-decimal n (omega arith);
-          reads = ap (option_map number) (number_of-decimal n (omega arith));
-          is = by (number (unsigned n)) refl;
-        }
+        number_shown (decimal n) (unsigned n) take value (IsNumber-decimal n (omega arith))
+        (number_of-decimal n (omega arith)) (by (number (unsigned n)) refl)
     small_shown (negsuc n) less by =
-        record {
-          json = json.number (signed_decimal (negsuc n));
-          tree = number (negative (negsuc n));
-          prints = refl;
-          numbers = IsNumber-signed_decimal (negsuc n) (omega arith);
-          reads = ap (option_map number) (number_of-negative n (omega arith));
-          is = by (number (negative (negsuc n))) refl;
-        }
+        number_shown (signed_decimal (negsuc n)) (negative (negsuc n)) take value
+        (IsNumber-signed_decimal (negsuc n) (omega arith)) (number_of-negative n (omega arith))
+        (by (number (negative (negsuc n))) refl)
 
     bounded : (z : ℤ) → is_within (2 ^ 127) z ≡ true → unsigned_abs z < 10 ^ 64
     bounded (pos n) e = let less : n < 2 ^ 127 = ltb-true _ _ e in omega arith
@@ -108,19 +104,7 @@ integer_shown {A} z take value h by = by_size (nat_lt (unsigned_abs z) (2 ^ 53))
         → IsShown ((if small then token.number (signed_decimal z) else token.string (signed_decimal z)) ∷ []) take value
     by_size true e = small_shown z (ltb-true _ _ e) by
     by_size false e =
-        record {
-          json = json.string (signed_decimal z);
-          tree = string (signed_decimal z);
-          prints = refl;
-          numbers = tt;
-          reads = refl;
-          is = by (string (signed_decimal z)) (signed_back z (bounded z h));
-        }
-
--- a string
-pub string_shown : {A : Type 0} (s : List ℕ) (take : Taker A) (value : A) → take (string s) ≡ taken value → IsShown (token.string s ∷ []) take value
-string_shown s take value e =
-    record { json = json.string s; tree = string s; prints = refl; numbers = tt; reads = refl; is = e }
+        string_shown (signed_decimal z) take value (by (string (signed_decimal z)) (signed_back z (bounded z h)))
 
 -- a truth value
 pub truth_shown : {A : Type 0} (b : Bool) (take : Taker A) (value : A) → take (boolean b) ≡ taken value → IsShown (token.boolean b ∷ []) take value

@@ -46,27 +46,37 @@ split_last (x ∷ y ∷ ys) d l =
     ap (λ t. x ∷ t) shorter
     ∙ ap (λ k. take k (x ∷ y ∷ ys) ++ get_or (x ∷ y ∷ ys) k d ∷ []) (sym n)
 
--- fields, where those before the last of some and the others are given
+-- fields, where some that end with a field, and the others, are given
 pub regrouped :
-    (fields rest before after : List Field) (field : Field) → fields ≡ rest ++ after
-    → rest ≡ before ++ field ∷ [] → fields ≡ before ++ field ∷ after
-regrouped fields rest before after field e r =
-    e ∙ ap (λ t. t ++ after) r ∙ append_assoc before (field ∷ []) after
+    (fields rest after : List Field) (field : Field) → fields ≡ rest ++ after → 1 ≤ length rest
+    → get_or rest (length rest - 1) field ≡ field → fields ≡ take (length rest - 1) rest ++ field ∷ after
+regrouped fields rest after field e some last =
+    let before = take (length rest - 1) rest in
+    e ∙ ap (λ t. t ++ after) (split_last rest field some ∙ ap (λ f. before ++ f ∷ []) last)
+    ∙ append_assoc before (field ∷ []) after
 
 names_join :
     (before : List Field) (field : Field) (after : List Field)
     → names_of (before ++ field ∷ after) ≡ names_of before ++ field.name ∷ names_of after
 names_join before field after = map-append (λ (f : Field). f.name) before (field ∷ after)
 
+-- names among which a suffix is no names of members are none
+by_suffix :
+    (fields rest after : List Field) (field : Field) (name : Option (List ℕ)) → fields ≡ rest ++ after → 1 ≤ length rest
+    → get_or rest (length rest - 1) field ≡ field → field.name ≡ name → is_object_of (name ∷ names_of after) ≡ false
+    → is_object_of (names_of fields) ≡ false
+by_suffix fields rest after field name e some last is none =
+    let before = take (length rest - 1) rest in
+    ap (λ t. is_object_of (names_of t)) (regrouped fields rest after field e some last)
+    ∙ ap is_object_of (names_join before field after)
+    ∙ ap (λ n. is_object_of (names_of before ++ n ∷ names_of after)) is
+    ∙ not_suffix (names_of before) (name ∷ names_of after) none
+
 -- some fields of which one has no name are no members of an object
 pub nameless :
-    (fields rest before after : List Field) (field : Field) → fields ≡ rest ++ after
-    → rest ≡ before ++ field ∷ [] → field.name ≡ None → is_object_of (names_of fields) ≡ false
-nameless fields rest before after field e r none =
-    ap (λ t. is_object_of (names_of t)) (regrouped fields rest before after field e r)
-    ∙ ap is_object_of (names_join before field after)
-    ∙ ap (λ n. is_object_of (names_of before ++ n ∷ names_of after)) none
-    ∙ not_suffix (names_of before) (None ∷ names_of after) refl
+    (fields rest after : List Field) (field : Field) → fields ≡ rest ++ after → 1 ≤ length rest
+    → get_or rest (length rest - 1) field ≡ field → field.name ≡ None → is_object_of (names_of fields) ≡ false
+nameless fields rest after field e some last is = by_suffix fields rest after field None e some last is refl
 
 -- a name that is among those after it comes twice
 twice_of : (name : List ℕ) (others : List (Option (List ℕ))) → has_name (Some name) others ≡ true
@@ -76,14 +86,11 @@ twice_of name others h =
 
 -- some fields of which one has a name that a later one has are no members of an object
 pub twice :
-    (fields rest before after : List Field) (field : Field) (name : List ℕ) → fields ≡ rest ++ after
-    → rest ≡ before ++ field ∷ [] → field.name ≡ Some name
+    (fields rest after : List Field) (field : Field) (name : List ℕ) → fields ≡ rest ++ after → 1 ≤ length rest
+    → get_or rest (length rest - 1) field ≡ field → field.name ≡ Some name
     → has_name (Some name) (names_of after) ≡ true → is_object_of (names_of fields) ≡ false
-twice fields rest before after field name e r some h =
-    ap (λ t. is_object_of (names_of t)) (regrouped fields rest before after field e r)
-    ∙ ap is_object_of (names_join before field after)
-    ∙ ap (λ n. is_object_of (names_of before ++ n ∷ names_of after)) some
-    ∙ not_suffix (names_of before) (Some name ∷ names_of after) (twice_of name (names_of after) h)
+twice fields rest after field name e some last is h =
+    by_suffix fields rest after field (Some name) e some last is (twice_of name (names_of after) h)
 
 -- a field with a name of its own before members of an object
 pub one_more :

@@ -19,9 +19,9 @@ use Rattle.scale_info_value.specs.declared.value.Dyn.{Dyn}
 use Rattle.scale_info_value.specs.declared.value.Dyn.TheVariants as dyn
 use Rattle.scale_info_value.specs.Readings.{type_at}
 use Rattle.scale_info_visit.specs.Events.{definition_at, is_byte, names}
-use Rattle.scale_info_value_json.specs.Takers.{taken, refused, mismatch, too_deep, taken_map, if_found, in_turn}
+use Rattle.scale_info_value_json.specs.Takers.{taken, refused, mismatch, too_deep, taken_map, if_found}
 use Rattle.scale_info_value_json.specs.TreeParts.{bytes_in, list_in, items_in, is_object_of, without_prefix}
-use Rattle.scale_info_value_json.specs.DefinitionTakers.{Takers, value_by, each, counted, object_fields, field}
+use Rattle.scale_info_value_json.specs.DefinitionTakers.{Takers, value_by, each, counted}
 use Rattle.scale_info_value_json.specs.Takings.{value_within, part_within, items_within, is_count_of}
 use Rattle.scale_info_value_json.specs.Takings.{fields_within, object_fields_within, array_fields_within}
 use Rattle.scale_info_value_json.proofs.SoFar.{then_more}
@@ -85,26 +85,30 @@ module _ (left : ℕ) (table : PortableRegistry) (ty : Id) (count : Option ℕ) 
       ∙ ap (λ o. taken_map dyn.List (if_found (option_map (map (λ n. number (unsigned n))) o)
       (counted (is_count_of count) (value_within (left - 1) table ty.id)))) e
 
+  -- by the test of how many there are
+  bytes_tested :
+      (bytes : List ℕ) (test : Bool) → bytes_in text ≡ Some bytes → is_count_of count (length bytes) ≡ test
+      → items_within left table ty count (string text)
+      ≡ taken_map dyn.List
+      (if test then each (value_within (left - 1) table ty.id) (map (λ n. number (unsigned n)) bytes) else refused mismatch)
+  bytes_tested bytes test e is =
+      bytes_are bytes e
+      ∙ ap (λ (t : Bool). taken_map dyn.List
+      (if t then each (value_within (left - 1) table ty.id) (map (λ n. number (unsigned n)) bytes) else refused mismatch))
+      (ap (is_count_of count) (length-map bytes (λ n. number (unsigned n))) ∙ is)
+
   -- as many as there are to be
   pub bytes_counted :
       (bytes : List ℕ) → bytes_in text ≡ Some bytes → is_count_of count (length bytes) ≡ true
       → items_within left table ty count (string text)
       ≡ taken_map dyn.List (each (value_within (left - 1) table ty.id) (map (λ n. number (unsigned n)) bytes))
-  bytes_counted bytes e fits =
-      bytes_are bytes e
-      ∙ ap (λ (t : Bool). taken_map dyn.List
-      (if t then each (value_within (left - 1) table ty.id) (map (λ n. number (unsigned n)) bytes) else refused mismatch))
-      (ap (is_count_of count) (length-map bytes (λ n. number (unsigned n))) ∙ fits)
+  bytes_counted bytes e fits = bytes_tested bytes true e fits
 
   -- another number of bytes is none of the type
   pub bytes_miscounted :
       (bytes : List ℕ) → bytes_in text ≡ Some bytes → is_count_of count (length bytes) ≡ false
       → items_within left table ty count (string text) ≡ refused mismatch
-  bytes_miscounted bytes e fits =
-      bytes_are bytes e
-      ∙ ap (λ (t : Bool). taken_map dyn.List
-      (if t then each (value_within (left - 1) table ty.id) (map (λ n. number (unsigned n)) bytes) else refused mismatch))
-      (ap (is_count_of count) (length-map bytes (λ n. number (unsigned n))) ∙ fits)
+  bytes_miscounted bytes e fits = bytes_tested bytes false e fits
 
   -- where no level is left for them, bytes are too deep
   pub bytes_too_deep :
@@ -147,22 +151,26 @@ module _ (left : ℕ) (table : PortableRegistry) (all : List Field) where
   names_stay [] = refl
   names_stay (f ∷ fs) = λ i. name_stays f.name i ∷ names_stay fs i
 
+  -- fields by the test of their names
+  by_names :
+      (tree : Data) (test : Bool) → is_object_of (names all) ≡ test
+      → fields_within left table all tree
+      ≡ (if test then object_fields_within left table all tree else if_found (items_in tree) (array_fields_within left table all))
+  by_names tree test e =
+      ap (λ (t : Bool).
+      if t then object_fields_within left table all tree else if_found (items_in tree) (array_fields_within left table all))
+      (ap is_object_of (names_stay all) ∙ e)
+
   -- fields that are the members of an object
   pub object_is :
       (tree : Data) → is_object_of (names all) ≡ true → fields_within left table all tree ≡ object_fields_within left table all tree
-  object_is tree e =
-      let fs = map (map_field {G = Unit {0}} (part_within left table) (λ t. t)) all in
-      ap (λ (t : Bool). if t then object_fields fs tree else if_found (items_in tree) (in_turn (map field fs)))
-      (ap is_object_of (names_stay all) ∙ e)
+  object_is tree e = by_names tree true e
 
   -- fields that are the items of an array
   pub array_is :
       (tree : Data) → is_object_of (names all) ≡ false
       → fields_within left table all tree ≡ if_found (items_in tree) (array_fields_within left table all)
-  array_is tree e =
-      let fs = map (map_field {G = Unit {0}} (part_within left table) (λ t. t)) all in
-      ap (λ (t : Bool). if t then object_fields fs tree else if_found (items_in tree) (in_turn (map field fs)))
-      (ap is_object_of (names_stay all) ∙ e)
+  array_is tree e = by_names tree false e
 
   -- of these items
   pub array_items_are :

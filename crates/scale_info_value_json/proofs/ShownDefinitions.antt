@@ -16,6 +16,7 @@ use Rattle.scale_info_primitives.specs.declared.primitive.TypeDefPrimitive.{Type
 use Rattle.scale_info_primitives.specs.declared.primitive.TypeDefPrimitive.TheVariants as kind
 use Rattle.scale_info_tables.specs.declared.portable.PortableRegistry.{PortableRegistry}
 use Rattle.scale_info_value.specs.declared.value.Dyn.{Dyn}
+use Rattle.scale_info_value.specs.declared.value.Dyn.TheOpen.{Dyn-F}
 use Rattle.scale_info_value.specs.declared.value.Dyn.TheVariants as dyn
 use Rattle.scale_info_encode.specs.Writers as writing
 use Rattle.scale_info_encode.specs.Writers.{Writer, written, if_fits, refused, item}
@@ -23,13 +24,13 @@ use Rattle.scale_info_encode.specs.IntegerWriters.{count, compact_bytes, is_sign
 use Rattle.scale_info_encode.specs.DefinitionWriters as writers
 use Rattle.scale_info_encode.specs.DefinitionWriters.{Writers, held, list_in, record_in, unsigned_in, signed_in, truth_in, text_in}
 use Rattle.scale_info_encode.proofs.Inverse.{as_many}
-use Rattle.scale_info_encode.proofs.ValueKinds.{lists, records, truths, texts, unsigned_integers, signed_integers}
+use Rattle.scale_info_encode.proofs.ValueKinds.{IsKind, lists, records, truths, texts, unsigned_integers, signed_integers}
 use Rattle.scale_info_visit.specs.Events as event
-use Rattle.scale_info_visit.specs.Events.{definition_at, field_types, keys, all_named, begin_record, end_record, pair_of, list_events, in_place, events_of}
+use Rattle.scale_info_visit.specs.Events.{Event, definition_at, field_types, keys, all_named, begin_record, end_record, pair_of, list_events, in_place, events_of}
 use Rattle.scale_info_visit.specs.Visits.{placed, field_by, value_by}
-use Rattle.scale_info_visit.proofs.Events.{list_typed, record_typed, truth_alone, unsigned_alone, signed_alone, text_alone}
+use Rattle.scale_info_visit.proofs.Events.{HasNoParts, list_typed, record_typed, truth_alone, unsigned_alone, signed_alone, text_alone}
 use Rattle.scale_info_visit.proofs.Events.{truth_events, unsigned_events, signed_events, text_events}
-use Rattle.scale_info_value_text.specs.ValueTexts.{event_tokens, unsigned_token, signed_token}
+use Rattle.scale_info_value_text.specs.ValueTexts.{event_tokens}
 use Rattle.scale_info_value_json.specs.Takers.{Taken, Taker, taken, refused as not_taken, mismatch, taken_map, if_found, in_turn}
 use Rattle.scale_info_value_json.specs.DefinitionTakers as takers
 use Rattle.scale_info_value_json.specs.DefinitionTakers.{Takers, each, counted, items, members, has_count}
@@ -50,39 +51,46 @@ fitted : (test : Bool) (bytes b : List ℕ) → if_fits test bytes ≡ written b
 fitted true bytes b e = refl
 fitted false bytes b e = cc
 
+-- a value of a kind without parts, which is shown as one event, is taken back
+alone_back :
+    {A : Type 0} (make : A → Dyn) (kind_of : Dyn-F Dyn → Option A) (write : Writer A) (shown_as : A → Event) (take : Taker Dyn)
+    → IsKind make kind_of → ((x : A) → HasNoParts (make x)) → ((x : A) → events_of (make x) ≡ shown_as x ∷ [])
+    → ((x : A) (b : List ℕ) → write x ≡ written b → AllByRecursion IsByte b
+    → IsShown (flat_map event_tokens (shown_as x ∷ [])) take (make x))
+    → (table : PortableRegistry) (type : Option TypeDef) → AreTakenBack (held kind_of write) (tokens_by table type) take
+alone_back make kind_of write shown_as take k alone events shown table type value bytes e all own =
+    let x = held_parts make kind_of write k value bytes e in
+    subst (λ v. IsShown (tokens_by table type v) take v) (sym x.1)
+    (subst (λ ts. IsShown ts take (make x.0)) (sym (ap (flat_map event_tokens) (alone x.0 table type ∙ events x.0)))
+    (shown x.0 bytes x.2 all))
+
 -- an integer of an unsigned type is taken back
 unsigned_back :
-    (table : PortableRegistry) (type : Option TypeDef) (limit : ℕ) (write : Writer ℕ) → limit ≤ 2 ^ 128
-    → ((n : ℕ) (b : List ℕ) → write n ≡ written b → n < limit)
+    (limit : ℕ) (write : Writer ℕ) → limit ≤ 2 ^ 128 → ((n : ℕ) (b : List ℕ) → write n ≡ written b → n < limit)
+    → (table : PortableRegistry) (type : Option TypeDef)
     → AreTakenBack (held unsigned_in write) (tokens_by table type) (takers.unsigned limit)
-unsigned_back table type limit write most fits value bytes e all own =
-    let x = held_parts dyn.Unsigned unsigned_in write unsigned_integers value bytes e in
-    let less = fits x.0 bytes x.2 in
-    let shows : tokens_by table type (dyn.Unsigned x.0) ≡ unsigned_token x.0 ∷ [] =
-    ap (flat_map event_tokens) (unsigned_alone x.0 table type ∙ unsigned_events x.0) in
-    subst (λ v. IsShown (tokens_by table type v) (takers.unsigned limit) v) (sym x.1)
-    (subst (λ ts. IsShown ts (takers.unsigned limit) (dyn.Unsigned x.0)) (sym shows)
-    (natural_shown x.0 (takers.unsigned limit) (dyn.Unsigned x.0) (omega arith)
+unsigned_back limit write most fits =
+    alone_back dyn.Unsigned unsigned_in write event.unsigned (takers.unsigned limit) unsigned_integers unsigned_alone unsigned_events
+    (λ n b e all.
+    let less = fits n b e in
+    natural_shown n (takers.unsigned limit) (dyn.Unsigned n) (omega arith)
     (λ tree is.
-    ap (λ o. if_found (below limit o) (λ n. taken (dyn.Unsigned n))) is
-    ∙ ap (λ (t : Bool). if_found (if t then Some x.0 else None) (λ n. taken (dyn.Unsigned n))) (lt-ltb x.0 limit less))))
+    ap (λ o. if_found (below limit o) (λ m. taken (dyn.Unsigned m))) is
+    ∙ ap (λ (t : Bool). if_found (if t then Some n else None) (λ m. taken (dyn.Unsigned m))) (lt-ltb n limit less)))
 
 -- an integer of a signed type is taken back
 signed_back :
-    (table : PortableRegistry) (type : Option TypeDef) (limit : ℕ) (write : Writer ℤ)
+    (limit : ℕ) (write : Writer ℤ)
     → ((z : ℤ) (b : List ℕ) → write z ≡ written b → (is_within limit z ≡ true) × (is_within (2 ^ 127) z ≡ true))
+    → (table : PortableRegistry) (type : Option TypeDef)
     → AreTakenBack (held signed_in write) (tokens_by table type) (takers.signed limit)
-signed_back table type limit write fits value bytes e all own =
-    let x = held_parts dyn.Signed signed_in write signed_integers value bytes e in
-    let less = fits x.0 bytes x.2 in
-    let shows : tokens_by table type (dyn.Signed x.0) ≡ signed_token x.0 ∷ [] =
-    ap (flat_map event_tokens) (signed_alone x.0 table type ∙ signed_events x.0) in
-    subst (λ v. IsShown (tokens_by table type v) (takers.signed limit) v) (sym x.1)
-    (subst (λ ts. IsShown ts (takers.signed limit) (dyn.Signed x.0)) (sym shows)
-    (integer_shown x.0 (takers.signed limit) (dyn.Signed x.0) less.1
+signed_back limit write fits =
+    alone_back dyn.Signed signed_in write event.signed (takers.signed limit) signed_integers signed_alone signed_events
+    (λ z b e all.
+    integer_shown z (takers.signed limit) (dyn.Signed z) (fits z b e).1
     (λ tree is.
-    ap (λ o. if_found (within limit o) (λ z. taken (dyn.Signed z))) is
-    ∙ ap (λ (t : Bool). if_found (if t then Some x.0 else None) (λ z. taken (dyn.Signed z))) less.0)))
+    ap (λ o. if_found (within limit o) (λ y. taken (dyn.Signed y))) is
+    ∙ ap (λ (t : Bool). if_found (if t then Some z else None) (λ y. taken (dyn.Signed y))) (fits z b e).0))
 
 -- an integer that fits a width is within half of its limit
 half_fits :
@@ -97,26 +105,21 @@ half_fits w half h most (negsuc n) b e =
 
 -- a truth value is taken back
 truth_back : (table : PortableRegistry) (type : Option TypeDef) → AreTakenBack (held truth_in writers.truth) (tokens_by table type) takers.truth
-truth_back table type value bytes e all own =
-    let x = held_parts dyn.Bool truth_in writers.truth truths value bytes e in
-    subst (λ v. IsShown (tokens_by table type v) takers.truth v) (sym x.1)
-    (subst (λ ts. IsShown ts takers.truth (dyn.Bool x.0))
-    (sym (ap (flat_map event_tokens) (truth_alone x.0 table type ∙ truth_events x.0)))
-    (truth_shown x.0 takers.truth (dyn.Bool x.0) refl))
+truth_back =
+    alone_back dyn.Bool truth_in writers.truth event.truth takers.truth truths truth_alone truth_events
+    (λ t b e all. truth_shown t takers.truth (dyn.Bool t) refl)
 
 -- a text is taken back
 text_back : (table : PortableRegistry) (type : Option TypeDef) → AreTakenBack (held text_in writers.text) (tokens_by table type) takers.text
-text_back table type value bytes e all own =
-    let x = held_parts dyn.Text text_in writers.text texts value bytes e in
-    let p = parted_bytes (count (length x.0)) (if_fits (is_utf8 x.0) x.0) bytes x.2 all in
-    let short = fitted (nat_lt (length x.0) (2 ^ 32)) (compact_bytes (length x.0)) p.0 p.2 in
-    let utf8 = fitted (is_utf8 x.0) x.0 p.1 p.3 in
-    subst (λ v. IsShown (tokens_by table type v) takers.text v) (sym x.1)
-    (subst (λ ts. IsShown ts takers.text (dyn.Text x.0))
-    (sym (ap (flat_map event_tokens) (text_alone x.0 table type ∙ text_events x.0)))
-    (string_shown x.0 takers.text (dyn.Text x.0)
-    (ap (λ (t : Bool). if t && is_utf8 x.0 then taken (dyn.Text x.0) else not_taken mismatch) short
-    ∙ ap (λ (t : Bool). if t then taken (dyn.Text x.0) else not_taken mismatch) utf8)))
+text_back =
+    alone_back dyn.Text text_in writers.text event.text takers.text texts text_alone text_events
+    (λ t b e all.
+    let p = parted_bytes (count (length t)) (if_fits (is_utf8 t) t) b e all in
+    let short = fitted (nat_lt (length t) (2 ^ 32)) (compact_bytes (length t)) p.0 p.2 in
+    let utf8 = fitted (is_utf8 t) t p.1 p.3 in
+    string_shown t takers.text (dyn.Text t)
+    (ap (λ (b : Bool). if b && is_utf8 t then taken (dyn.Text t) else not_taken mismatch) short
+    ∙ ap (λ (b : Bool). if b then taken (dyn.Text t) else not_taken mismatch) utf8))
 
 -- an integer that fits a width is below its limit
 width_fits : (w : Width) (n : ℕ) (b : List ℕ) → writers.unsigned w n ≡ written b → n < 256 ^ byte_len w
@@ -129,17 +132,17 @@ pub primitives_back :
 primitives_back table type kind.Bool = truth_back table type
 primitives_back table type kind.Char = nothing_back writing.unsupported (tokens_by table type) (takers.primitive kind.Char)
 primitives_back table type kind.Str = text_back table type
-primitives_back table type kind.U8 = unsigned_back table type (2 ^ 8) (writers.unsigned w8) (omega arith) (width_fits w8)
-primitives_back table type kind.U16 = unsigned_back table type (2 ^ 16) (writers.unsigned w16) (omega arith) (width_fits w16)
-primitives_back table type kind.U32 = unsigned_back table type (2 ^ 32) (writers.unsigned w32) (omega arith) (width_fits w32)
-primitives_back table type kind.U64 = unsigned_back table type (2 ^ 64) (writers.unsigned w64) (omega arith) (width_fits w64)
-primitives_back table type kind.U128 = unsigned_back table type (2 ^ 128) (writers.unsigned w128) (omega arith) (width_fits w128)
+primitives_back table type kind.U8 = unsigned_back (2 ^ 8) (writers.unsigned w8) (omega arith) (width_fits w8) table type
+primitives_back table type kind.U16 = unsigned_back (2 ^ 16) (writers.unsigned w16) (omega arith) (width_fits w16) table type
+primitives_back table type kind.U32 = unsigned_back (2 ^ 32) (writers.unsigned w32) (omega arith) (width_fits w32) table type
+primitives_back table type kind.U64 = unsigned_back (2 ^ 64) (writers.unsigned w64) (omega arith) (width_fits w64) table type
+primitives_back table type kind.U128 = unsigned_back (2 ^ 128) (writers.unsigned w128) (omega arith) (width_fits w128) table type
 primitives_back table type kind.U256 = nothing_back writing.unsupported (tokens_by table type) (takers.primitive kind.U256)
-primitives_back table type kind.I8 = signed_back table type (2 ^ 7) (writers.signed w8) (half_fits w8 (2 ^ 7) (omega arith) (omega arith))
-primitives_back table type kind.I16 = signed_back table type (2 ^ 15) (writers.signed w16) (half_fits w16 (2 ^ 15) (omega arith) (omega arith))
-primitives_back table type kind.I32 = signed_back table type (2 ^ 31) (writers.signed w32) (half_fits w32 (2 ^ 31) (omega arith) (omega arith))
-primitives_back table type kind.I64 = signed_back table type (2 ^ 63) (writers.signed w64) (half_fits w64 (2 ^ 63) (omega arith) (omega arith))
-primitives_back table type kind.I128 = signed_back table type (2 ^ 127) (writers.signed w128) (half_fits w128 (2 ^ 127) (omega arith) (omega arith))
+primitives_back table type kind.I8 = signed_back (2 ^ 7) (writers.signed w8) (half_fits w8 (2 ^ 7) (omega arith) (omega arith)) table type
+primitives_back table type kind.I16 = signed_back (2 ^ 15) (writers.signed w16) (half_fits w16 (2 ^ 15) (omega arith) (omega arith)) table type
+primitives_back table type kind.I32 = signed_back (2 ^ 31) (writers.signed w32) (half_fits w32 (2 ^ 31) (omega arith) (omega arith)) table type
+primitives_back table type kind.I64 = signed_back (2 ^ 63) (writers.signed w64) (half_fits w64 (2 ^ 63) (omega arith) (omega arith)) table type
+primitives_back table type kind.I128 = signed_back (2 ^ 127) (writers.signed w128) (half_fits w128 (2 ^ 127) (omega arith) (omega arith)) table type
 primitives_back table type kind.I256 = nothing_back writing.unsupported (tokens_by table type) (takers.primitive kind.I256)
 
 -- a compact integer below a limit was written
@@ -150,11 +153,11 @@ compact_fits limit n b e = ltb-true _ _ (fitted (nat_lt n limit) (compact_bytes 
 compact_primitives_back :
     (table : PortableRegistry) (type : Option TypeDef) (p : TypeDefPrimitive)
     → AreTakenBack (writers.compact_primitive p) (tokens_by table type) (takers.compact_primitive p)
-compact_primitives_back table type kind.U8 = unsigned_back table type (2 ^ 8) _ (omega arith) (compact_fits (2 ^ 8))
-compact_primitives_back table type kind.U16 = unsigned_back table type (2 ^ 16) _ (omega arith) (compact_fits (2 ^ 16))
-compact_primitives_back table type kind.U32 = unsigned_back table type (2 ^ 32) _ (omega arith) (compact_fits (2 ^ 32))
-compact_primitives_back table type kind.U64 = unsigned_back table type (2 ^ 64) _ (omega arith) (compact_fits (2 ^ 64))
-compact_primitives_back table type kind.U128 = unsigned_back table type (2 ^ 128) _ (omega arith) (compact_fits (2 ^ 128))
+compact_primitives_back table type kind.U8 = unsigned_back (2 ^ 8) _ (omega arith) (compact_fits (2 ^ 8)) table type
+compact_primitives_back table type kind.U16 = unsigned_back (2 ^ 16) _ (omega arith) (compact_fits (2 ^ 16)) table type
+compact_primitives_back table type kind.U32 = unsigned_back (2 ^ 32) _ (omega arith) (compact_fits (2 ^ 32)) table type
+compact_primitives_back table type kind.U64 = unsigned_back (2 ^ 64) _ (omega arith) (compact_fits (2 ^ 64)) table type
+compact_primitives_back table type kind.U128 = unsigned_back (2 ^ 128) _ (omega arith) (compact_fits (2 ^ 128)) table type
 compact_primitives_back table type _ = λ value bytes e all own. cc
 
 -- ---- parts

@@ -12,6 +12,7 @@ use Rattle.scale_info_types.specs.Portable.{Id, Text, Variant}
 use Rattle.scale_info_types.specs.declared.ty.variant.Variant.{Variant as AnyVariant}
 use Rattle.scale_info_types.specs.Shapes.{map_variant}
 use Rattle.scale_info_value.specs.declared.value.Dyn.TheVariants as dyn
+use Rattle.scale_info_encode.proofs.NamedParts.{first_made}
 use Rattle.scale_info_value_json.specs.Takers.{refused, mismatch, taken_map, if_found}
 use Rattle.scale_info_value_json.specs.DefinitionTakers.{Takers, is_shared, chosen, variant_of, variant}
 use Rattle.scale_info_tables.specs.declared.portable.PortableRegistry.{PortableRegistry}
@@ -23,32 +24,16 @@ pub first_with_index :
     {T : Type 0} (on : Id → T) (i : ℕ) (vs : List Variant)
     → find (λ v. v.index == i) (map (map_variant {G = Unit {0}} on (λ t. t)) vs)
     ≡ option_map (map_variant {G = Unit {0}} on (λ t. t)) (find (λ v. v.index == i) vs)
-first_with_index on i [] = refl
-first_with_index {T} on i (v ∷ vs) = first_or (v.index == i) _ _ (first_with_index on i vs)
-  where
-    first_or :
-        (here : Bool) (rest : Option Variant) (other : Option (AnyVariant (Unit {0}) T Text))
-        → other ≡ option_map (map_variant {G = Unit {0}} on (λ t. t)) rest
-        → cond here (Some (map_variant {G = Unit {0}} on (λ t. t) v)) other
-        ≡ option_map (map_variant {G = Unit {0}} on (λ t. t)) (cond here (Some v) rest)
-    first_or true rest other e = refl
-    first_or false rest other e = e
+first_with_index {T} on i vs =
+    first_made {X = Variant} {Y = AnyVariant (Unit {0}) T Text} (map_variant on (λ t. t)) (λ v. v.index == i) vs
 
 -- as does the first with a name
 pub first_with_name :
     {T : Type 0} (on : Id → T) (name : Text) (vs : List Variant)
     → find (λ v. bytes_eq v.name name) (map (map_variant {G = Unit {0}} on (λ t. t)) vs)
     ≡ option_map (map_variant {G = Unit {0}} on (λ t. t)) (find (λ v. bytes_eq v.name name) vs)
-first_with_name on name [] = refl
-first_with_name {T} on name (v ∷ vs) = first_or (bytes_eq v.name name) _ _ (first_with_name on name vs)
-  where
-    first_or :
-        (here : Bool) (rest : Option Variant) (other : Option (AnyVariant (Unit {0}) T Text))
-        → other ≡ option_map (map_variant {G = Unit {0}} on (λ t. t)) rest
-        → cond here (Some (map_variant {G = Unit {0}} on (λ t. t) v)) other
-        ≡ option_map (map_variant {G = Unit {0}} on (λ t. t)) (cond here (Some v) rest)
-    first_or true rest other e = refl
-    first_or false rest other e = e
+first_with_name {T} on name vs =
+    first_made {X = Variant} {Y = AnyVariant (Unit {0}) T Text} (map_variant on (λ t. t)) (λ v. bytes_eq v.name name) vs
 
 -- one where a test passes
 abbrev one_if : Bool → ℕ

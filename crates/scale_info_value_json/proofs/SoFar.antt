@@ -59,11 +59,8 @@ stops whole left done why s e = s.is ∙ ap (preceded done) e
 pub passes :
     {A B : Type 0} (part : Taken A) (whole : Taken B) (e : ValueJsonError)
     → ((why : TreeRefusal) → part ≡ refused why → whole ≡ refused why) → IsErrorOf part e → IsErrorOf whole e
-passes part whole error.NoSuchType f h = f _ h
-passes part whole error.Unsupported f h = f _ h
-passes part whole error.TooDeep f h = f _ h
-passes part whole error.Mismatch f h = f _ h
 passes part whole error.Memory f h = tt
+passes part whole _ f h = f _ h
 
 -- an error of the next is one of the whole
 pub fails :
@@ -74,10 +71,8 @@ fails whole left more first done e s is h =
 
 -- a refusal is the error that it becomes
 refused_as : {A : Type 0} (whole : Taken A) (why : TreeRefusal) → whole ≡ refused why → IsErrorOf whole (error_of why)
-refused_as whole refusal.NoSuchType e = e
-refused_as whole refusal.Unsupported e = e
-refused_as whole refusal.TooDeep e = e
 refused_as whole refusal.Mismatch e = e
+refused_as whole _ e = e
 
 -- an error that is passed on
 pub passed :

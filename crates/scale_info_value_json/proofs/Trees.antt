@@ -2,7 +2,7 @@
 use Rattle.std.proofs.Common.{◌≡◌, ◌≢◌, ℕ, ◌==◌, List, [], ◌∷◌, length, map, Some, None, option_map, String, Global}
 use Rattle.std.proofs.Common.{refl, ap, sym, ◌∙◌, arith, string_bytes}
 use Rattle.std.specs.Prelude.{slice_get}
-use Rattle.serde_json.specs.Data.{Data, null, boolean, number, string, array, object, Members, no_members, member}
+use Rattle.serde_json.specs.Data.{Data, object, Members, no_members, member}
 use Rattle.serde_json.specs.Find.{as_object, as_array}
 use Rattle.serde_json.specs.View.{view, items_view, members_view}
 use Rattle.serde_json.specs.declared.value.Value.{Value}
@@ -20,12 +20,8 @@ items_found d vs e = ap Some (sym (listed_view vs)) ∙ ap (option_map listed) e
 
 -- a tree that is read as an object is the object
 object_of : (d : Data) (ms : Members) → Some ms ≡ as_object d → d ≡ object ms
-object_of null ms e = absurd cc
-object_of (boolean b) ms e = absurd cc
-object_of (number n) ms e = absurd cc
-object_of (string s) ms e = absurd cc
-object_of (array ds) ms e = absurd cc
 object_of (object ns) ms e = let same : ms ≡ ns = cc in ap object (sym same)
+object_of _ ms e = absurd cc
 
 -- an object that was found has as many members as its entries
 pub members_found :

@@ -14,6 +14,7 @@ use Rattle.scale_info_primitives.specs.declared.primitive.TypeDefPrimitive.{Type
 use Rattle.scale_info_primitives.specs.declared.primitive.TypeDefPrimitive.TheVariants as kind
 use Rattle.scale_info_value.specs.declared.value.Dyn.{Dyn}
 use Rattle.scale_info_value.specs.declared.value.Dyn.TheVariants as dyn
+use Rattle.scale_info_encode.specs.CompactTypes.{by_width, of_only_field, by_compact_type}
 use Rattle.scale_info_value_json.specs.Takers.{Taken, Taker, taken, refused, mismatch, unsupported}
 use Rattle.scale_info_value_json.specs.Takers.{taken_map, if_found, all_taken, in_turn}
 use Rattle.scale_info_value_json.specs.TreeParts.{natural_in, integer_in, below, within, text_in}
@@ -166,24 +167,19 @@ value_by (def.Compact d) tree = d.type_param.compact tree
 value_by (def.BitSequence d) tree = refused unsupported
 value_by (def.Map d) tree = pairs d.key d.value tree
 
+-- nothing is taken of a type whose values are not taken
+abbrev pub unsupported_type : Taker Dyn
+unsupported_type tree = refused unsupported
+
 -- a compact integer that fits the width of the primitive
 abbrev pub compact_primitive : TypeDefPrimitive → Taker Dyn
-compact_primitive kind.U8 tree = unsigned (2 ^ 8) tree
-compact_primitive kind.U16 tree = unsigned (2 ^ 16) tree
-compact_primitive kind.U32 tree = unsigned (2 ^ 32) tree
-compact_primitive kind.U64 tree = unsigned (2 ^ 64) tree
-compact_primitive kind.U128 tree = unsigned (2 ^ 128) tree
-compact_primitive _ tree = refused unsupported
+compact_primitive p tree = by_width unsupported_type unsigned p tree
 
 -- a composite of exactly one field stands for that field
 abbrev pub compact_field : {F : Type 0} → List (Field F (Taker Dyn) Text) → Taker Dyn
-compact_field [] tree = refused unsupported
-compact_field (f ∷ []) tree = f.ty tree
-compact_field (f ∷ g ∷ more) tree = refused unsupported
+compact_field all tree = of_only_field unsupported_type all tree
 
 -- a compact integer of the type, where each reference stands for the compact integers of its type,
 -- one deeper
 abbrev pub compact_by : {F : Type 0} → TypeDef F (Taker Dyn) Text → Taker Dyn
-compact_by (def.Composite d) tree = compact_field d.fields tree
-compact_by (def.Primitive p) tree = compact_primitive p tree
-compact_by _ tree = refused unsupported
+compact_by d tree = by_compact_type unsupported_type compact_primitive d tree
