@@ -7,7 +7,7 @@ use Rattle.scale_info_typed.specs.Meanings.{and_others, member_and, no_members}
 use Rattle.scale_info_typed.proofs.AllOf.{left_at}
 
 -- what the items from an index on are, by the first of them and the others
-pub members_are :
+members_are :
     {A B : Type 0} (first : Dyn → Option A) (others : List Dyn → Option B) (found : Option (List Dyn)) (i : ℕ) (item : Dyn)
     → Some item ≡ option_and_then (λ all. slice_get all i) found
     → option_and_then (λ all. member_and first others (drop i all)) found
@@ -16,20 +16,42 @@ members_are first others None i item h = absurd (none-some item (sym h))
 members_are first others (Some all) i item h = ap (λ left. member_and first others left) (left_at all i item (sym h))
 
 -- both are found
-pub both_found :
+both_found :
     {A B : Type 0} (first : Option A) (others : Option B) (x : A) (xs : B)
     → first ≡ Some x → others ≡ Some xs → and_others first others ≡ Some (x, xs)
 both_found first others x xs e h = (λ i. and_others (e i) (h i))
 
 -- the first is missing
-pub no_first : {A B : Type 0} (first : Option A) (others : Option B) → first ≡ None → and_others first others ≡ None
+no_first : {A B : Type 0} (first : Option A) (others : Option B) → first ≡ None → and_others first others ≡ None
 no_first first others e = ap (λ o. and_others o others) e
 
 -- the others are missing
-pub no_others :
+no_others :
     {A B : Type 0} (first : Option A) (others : Option B) (x : A)
     → first ≡ Some x → others ≡ None → and_others first others ≡ None
 no_others first others x e h = (λ i. and_others (e i) (h i))
+
+module _ {A B : Type 0} (first : Dyn → Option A) (others : List Dyn → Option B) (found : Option (List Dyn)) (i : ℕ)
+    (item : Dyn) (at : Some item ≡ option_and_then (λ all. slice_get all i) found) where
+  -- the items from an index on, as members
+  abbrev from : Option (A × B)
+  from = option_and_then (λ all. member_and first others (drop i all)) found
+
+  -- those after it
+  abbrev after : Option B
+  after = option_and_then (λ all. others (drop (i + 1) all)) found
+
+  -- they are members, where the first of them is one, and the others are
+  pub both_are : (x : A) (xs : B) → first item ≡ Some x → after ≡ Some xs → from ≡ Some (x, xs)
+  both_are x xs e h = members_are first others found i item at ∙ both_found (first item) after x xs e h
+
+  -- they are none, where the first of them is none
+  pub first_is_none : first item ≡ None → from ≡ None
+  first_is_none none = members_are first others found i item at ∙ no_first (first item) after none
+
+  -- nor are they, where the others are none
+  pub others_are_none : (x : A) → first item ≡ Some x → after ≡ None → from ≡ None
+  others_are_none x e none = members_are first others found i item at ∙ no_others (first item) after x e none
 
 -- where none is left
 pub at_end_of :
