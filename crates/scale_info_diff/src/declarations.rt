@@ -53,35 +53,37 @@ pub fn first_declared_change(
     ensures cause { IfErr result (λ error. IsPruneError old.now old_ids.now error
         ⊎ IsPruneError new.now new_ids.now error) }
 {
-    let old = IndexedTable::of(alloc, old)?;
-    let table = pruned_to(alloc, &old, old_ids)?;
-    let new = IndexedTable::of(alloc, new)?;
-    let other = pruned_to(alloc, &new, new_ids)?;
+    let mut old = IndexedTable::of(alloc, old)?;
+    let table = pruned_to(alloc, &mut old, old_ids)?;
+    let mut new = IndexedTable::of(alloc, new)?;
+    let other = pruned_to(alloc, &mut new, new_ids)?;
     Ok(change_between(alloc, &table, &other)?)
 }
 
 /// What [`first_declared_change`] says of the bytes, of tables that were read before: who asks of
-/// many paths reads both tables once.
+/// many paths reads both tables once, and each answer takes time for what is kept of them.
 ///
 /// Errors, of the old table before the new one: `NoSuchType`, for the first id that is no index;
 /// `Retain(Dangling)`, where an id is reached that is no index; `Memory`, where an allocation
 /// failed.
 pub fn declared_change_of(
     alloc: Global,
-    old: &IndexedTable<'_>,
+    old: &mut IndexedTable<'_>,
     old_ids: &[u32],
-    new: &IndexedTable<'_>,
+    new: &mut IndexedTable<'_>,
     new_ids: &[u32],
 ) -> Result<Option<String>, PruneError>
-    requires old { (input : List ℕ) × IsIndexed input old.now }
-    requires new { (input : List ℕ) × IsIndexed input new.now }
+    requires old { (input : List ℕ) × IsIndexed input old.old }
+    requires new { (input : List ℕ) × IsIndexed input new.old }
     ensures ok { IfOk result (λ found. (input other : List ℕ)
-        → IsIndexed input old.now → IsIndexed other new.now
+        → IsIndexed input old.old → IsIndexed other new.old
         → TellsDeclaredChange input old_ids.now other new_ids.now
         (option_map string_bytes found)) }
     ensures cause { IfErr result (λ error. (input other : List ℕ)
-        → IsIndexed input old.now → IsIndexed other new.now
+        → IsIndexed input old.old → IsIndexed other new.old
         → IsPruneError input old_ids.now error ⊎ IsPruneError other new_ids.now error) }
+    ensures old { (input : List ℕ) → IsIndexed input old.old → IsIndexed input old.new }
+    ensures new { (input : List ℕ) → IsIndexed input new.old → IsIndexed input new.new }
 {
     let table = pruned_to(alloc, old, old_ids)?;
     let other = pruned_to(alloc, new, new_ids)?;
@@ -93,17 +95,18 @@ pub fn declared_change_of(
 /// Errors: as those of [`declared_change_of`], for one table.
 fn pruned_to(
     alloc: Global,
-    table: &IndexedTable<'_>,
+    table: &mut IndexedTable<'_>,
     ids: &[u32],
 ) -> Result<PortableRegistry, PruneError>
-    requires { (input : List ℕ) × IsIndexed input table.now }
-    ensures ok { IfOk result (λ kept. (input : List ℕ) → IsIndexed input table.now
+    requires { (input : List ℕ) × IsIndexed input table.old }
+    ensures ok { IfOk result (λ kept. (input : List ℕ) → IsIndexed input table.old
         → (order : List ℕ) × IsPrunedTo input ids.now order kept.types) }
-    ensures cause { IfErr result (λ error. (input : List ℕ) → IsIndexed input table.now
+    ensures cause { IfErr result (λ error. (input : List ℕ) → IsIndexed input table.old
         → IsPruneError input ids.now error) }
+    ensures indexed { (input : List ℕ) → IsIndexed input table.old → IsIndexed input table.new }
 {
     let mut bytes = Vec::new(alloc);
-    table.append_pruned(alloc, ids, &mut bytes)?;
+    table.append_pruned_again(alloc, ids, &mut bytes)?;
     table_of(alloc, &bytes)
 }
 

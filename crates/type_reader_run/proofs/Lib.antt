@@ -1,4 +1,5 @@
 pub mod Differences
+mod Sides
 pub mod DigitValues
 pub mod Explained
 pub mod Faults

@@ -95,6 +95,12 @@ pub record IsSideOf (docs : Docs) (table : List ℕ) (side : Side) : Type 0 wher
       (map (λ row. row.items) side.named.ids.items)
   pub indexed : IsIndexed side.named.bytes.now side.indexed
 
+-- a side after types were compared by it: the same types by their paths, and an index of what it
+-- was an index of
+pub record KeepsSide (before after : Side) : Type 0 where
+  pub named : after.named ≡ before.named
+  pub indexed : (input : List ℕ) → IsIndexed input before.indexed → IsIndexed input after.indexed
+
 -- one of two tables is not pruned to its ids: an id is reached that is no index
 abbrev pub IsNotPruned : (old old_ids new new_ids : List ℕ) → Type 0
 IsNotPruned old old_ids new new_ids =

@@ -11,9 +11,9 @@ use Rattle.scale_info_value_json.specs.Takers.{Taken, taken, refused, no_such_ty
 use Rattle.scale_info_value_json.specs.Takers.{too_deep, mismatch}
 use Rattle.scale_info_value_json.specs.Takings.{taking}
 use Rattle.type_reader_io.specs.declared.error.LineError.{LineError}
-use Rattle.type_reader_io.specs.declared.error.LineError.TheVariants as errors
 use Rattle.type_reader_io.specs.declared.error.ValueFault.{ValueFault}
 use Rattle.type_reader_io.specs.declared.error.ValueFault.TheVariants as faults
+use Rattle.type_reader_run.specs.LineErrors.{IfFault}
 
 -- the bytes are JSON, of this tree; JSON is UTF-8
 pub record IsJsonOf (tree : Data) (json : List ℕ) : Type 0 where
@@ -33,19 +33,15 @@ pub record IsEncodedLine (table : PortableRegistry) (id : ℕ) (json line : List
 
 -- why no value is taken, by what comes of it
 abbrev pub IsTakingFault : Taken Dyn → ValueFault → Type 0
-IsTakingFault outcome faults.NoDigits = ⊥
-IsTakingFault outcome faults.NoJson = ⊥
 IsTakingFault outcome faults.NoSuchType = outcome ≡ refused no_such_type
 IsTakingFault outcome faults.Unsupported = outcome ≡ refused unsupported
 IsTakingFault outcome faults.TooDeep = outcome ≡ refused too_deep
-IsTakingFault outcome faults.Malformed = ⊥
-IsTakingFault outcome faults.TrailingBytes = ⊥
 IsTakingFault outcome faults.Mismatch = outcome ≡ refused mismatch
+IsTakingFault outcome fault = ⊥
 
 -- the same of an error; an allocation may fail
 abbrev pub IsTakingError : Taken Dyn → LineError → Type 0
-IsTakingError outcome (errors.Fault fault) = IsTakingFault outcome fault
-IsTakingError outcome errors.Memory = Unit {0}
+IsTakingError outcome error = IfFault (IsTakingFault outcome) error
 
 -- the bytes are no JSON
 abbrev pub IsNoJson : List ℕ → ValueFault → Type 0
@@ -54,8 +50,7 @@ IsNoJson json fault =
 
 -- why bytes have no tree; an allocation may fail
 abbrev pub IsTreeError : List ℕ → LineError → Type 0
-IsTreeError json (errors.Fault fault) = IsNoJson json fault
-IsTreeError json errors.Memory = Unit {0}
+IsTreeError json error = IfFault (IsNoJson json) error
 
 -- the text has a tree, from which no value of the type is taken, for this reason
 pub record HasTakingFault (table : PortableRegistry) (id : ℕ) (json : List ℕ)
@@ -66,6 +61,5 @@ pub record HasTakingFault (table : PortableRegistry) (id : ℕ) (json : List ℕ
 
 -- why there is no line for the JSON text; an allocation may fail
 abbrev pub IsEncodingError : PortableRegistry → ℕ → List ℕ → LineError → Type 0
-IsEncodingError table id json (errors.Fault fault) =
-    IsNoJson json fault ⊎ HasTakingFault table id json fault
-IsEncodingError table id json errors.Memory = Unit {0}
+IsEncodingError table id json error =
+    IfFault (λ fault. IsNoJson json fault ⊎ HasTakingFault table id json fault) error

@@ -1,6 +1,7 @@
 pub mod Conversions
 pub mod Differences
 pub mod Encodings
+pub mod LineErrors
 pub mod Listings
 pub mod Outputs
 pub mod Refusals

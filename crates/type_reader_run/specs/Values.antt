@@ -11,9 +11,9 @@ use Rattle.scale_info_value.specs.Readings.{reading}
 use Rattle.scale_info_value.specs.declared.value.Dyn.{Dyn}
 use Rattle.scale_info_value_text.specs.ValueTexts.{HasBytesLeft, IsTextOf}
 use Rattle.type_reader_io.specs.declared.error.LineError.{LineError}
-use Rattle.type_reader_io.specs.declared.error.LineError.TheVariants as errors
 use Rattle.type_reader_io.specs.declared.error.ValueFault.{ValueFault}
 use Rattle.type_reader_io.specs.declared.error.ValueFault.TheVariants as faults
+use Rattle.type_reader_run.specs.LineErrors.{IfFault}
 
 -- the bytes that an even number of hexadecimal digits writes, with `0x` before them or without it
 abbrev pub bytes_by_digits : List ℕ → Option (List ℕ)
@@ -43,19 +43,16 @@ pub record IsValueLine (table : PortableRegistry) (id : ℕ) (digits line : List
 
 -- why bytes are not one value, by what comes of decoding them
 abbrev pub IsReadingFault : Outcome Dyn → ValueFault → Type 0
-IsReadingFault outcome faults.NoDigits = ⊥
-IsReadingFault outcome faults.NoJson = ⊥
 IsReadingFault outcome faults.NoSuchType = outcome ≡ failed no_such_type
 IsReadingFault outcome faults.Unsupported = outcome ≡ failed unsupported
 IsReadingFault outcome faults.TooDeep = outcome ≡ failed too_deep
 IsReadingFault outcome faults.Malformed = outcome ≡ failed malformed
 IsReadingFault outcome faults.TrailingBytes = HasBytesLeft outcome
-IsReadingFault outcome faults.Mismatch = ⊥
+IsReadingFault outcome fault = ⊥
 
 -- the same of an error; an allocation may fail
 abbrev pub IsReadingError : Outcome Dyn → LineError → Type 0
-IsReadingError outcome (errors.Fault fault) = IsReadingFault outcome fault
-IsReadingError outcome errors.Memory = Unit {0}
+IsReadingError outcome error = IfFault (IsReadingFault outcome) error
 
 -- the digits write bytes that are not one value of the type, for this reason
 pub record HasReadingFault (table : PortableRegistry) (id : ℕ) (digits : List ℕ)
@@ -70,11 +67,9 @@ IsNoDigits digits fault = (fault ≡ faults.NoDigits) × (bytes_by_digits digits
 
 -- why the text writes no bytes; an allocation may fail
 abbrev pub IsDigitsError : List ℕ → LineError → Type 0
-IsDigitsError digits (errors.Fault fault) = IsNoDigits digits fault
-IsDigitsError digits errors.Memory = Unit {0}
+IsDigitsError digits error = IfFault (IsNoDigits digits) error
 
 -- why there is no line for the digits; an allocation may fail
 abbrev pub IsValueError : PortableRegistry → ℕ → List ℕ → LineError → Type 0
-IsValueError table id digits (errors.Fault fault) =
-    IsNoDigits digits fault ⊎ HasReadingFault table id digits fault
-IsValueError table id digits errors.Memory = Unit {0}
+IsValueError table id digits error =
+    IfFault (λ fault. IsNoDigits digits fault ⊎ HasReadingFault table id digits fault) error

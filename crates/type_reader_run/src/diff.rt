@@ -11,8 +11,9 @@ ghost use Rattle.type_reader_io.specs.declared.command.Docs.{Docs as DocsValue};
 ghost use Rattle.type_reader_io.specs.declared.error.ReaderError.TheVariants as reader_error;
 ghost use Rattle.type_reader_run.specs.Differences.{AppendsChange, AreChangesBy, AreLines};
 ghost use Rattle.type_reader_run.specs.Differences.{AreLinesOf, IsDiffError, IsInEither};
-ghost use Rattle.type_reader_run.specs.Differences.{IsPathError, IsReferenceError, IsSideOf, is_of};
-ghost use Rattle.type_reader_run.specs.Differences.{change_line, path_of, reason_text};
+ghost use Rattle.type_reader_run.specs.Differences.{IsPathError, IsReferenceError, IsSideOf};
+ghost use Rattle.type_reader_run.specs.Differences.{KeepsSide, change_line, is_of, path_of};
+ghost use Rattle.type_reader_run.specs.Differences.{reason_text};
 ghost use Rattle.type_reader_run.specs.Tables.{IsOneTable};
 
 use crate::reason::{Side, compared_bytes, is_at, reason_of, side_of};
@@ -85,16 +86,18 @@ fn append_reasoned(out: &mut String, path: &Text, reason: &Option<String>) -> Re
 fn append_change(
     alloc: Global,
     out: &mut String,
-    old: &Side<'_>,
-    new: &Side<'_>,
+    old: &mut Side<'_>,
+    new: &mut Side<'_>,
     change: &Change,
 ) -> Result<(), AllocError>
-    requires old { (input : List ℕ) × IsIndexed input old.now.indexed }
-    requires new { (input : List ℕ) × IsIndexed input new.now.indexed }
-    ensures { OnOk result ((docs : DocsValue) (table other : List ℕ)
-        → IsSideOf docs table old.now → IsSideOf docs other new.now
+    requires old { (input : List ℕ) × IsIndexed input old.old.indexed }
+    requires new { (input : List ℕ) × IsIndexed input new.old.indexed }
+    ensures ok { OnOk result ((docs : DocsValue) (table other : List ℕ)
+        → IsSideOf docs table old.old → IsSideOf docs other new.old
         → AppendsChange docs table other change.now
         (string_bytes out.old) (string_bytes out.new)) }
+    ensures old { KeepsSide old.old old.new }
+    ensures new { KeepsSide new.old new.new }
 {
     match change {
         Change::Removed(path) => append_path(out, "- ", path),
@@ -109,15 +112,15 @@ fn append_change(
 /// The lines of the changes of these paths between two tables; of all, where there is no path.
 fn lines_of(
     alloc: Global,
-    old: &Side<'_>,
-    new: &Side<'_>,
+    old: &mut Side<'_>,
+    new: &mut Side<'_>,
     paths: &[Text],
     changes: &[Change],
 ) -> Result<Vec<u8>, AllocError>
-    requires old { (input : List ℕ) × IsIndexed input old.now.indexed }
-    requires new { (input : List ℕ) × IsIndexed input new.now.indexed }
+    requires old { (input : List ℕ) × IsIndexed input old.old.indexed }
+    requires new { (input : List ℕ) × IsIndexed input new.old.indexed }
     ensures { IfOk result (λ lines. (docs : DocsValue) (table other : List ℕ)
-        → IsSideOf docs table old.now → IsSideOf docs other new.now
+        → IsSideOf docs table old.old → IsSideOf docs other new.old
         → AreLinesOf docs table other (filter (is_of paths.now) changes.now) lines.items) }
 {
     let mut out = String::new(alloc);
@@ -152,9 +155,9 @@ fn lines_by(
     }
     let old = compared_bytes(alloc, comparison.docs, old)?;
     let new = compared_bytes(alloc, comparison.docs, new)?;
-    let side = side_of(alloc, &old)?;
-    let other = side_of(alloc, &new)?;
-    Ok(lines_of(alloc, &side, &other, comparison.paths, changes)?)
+    let mut side = side_of(alloc, &old)?;
+    let mut other = side_of(alloc, &new)?;
+    Ok(lines_of(alloc, &mut side, &mut other, comparison.paths, changes)?)
 }
 
 /// Whether one of the types has the path.

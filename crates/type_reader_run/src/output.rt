@@ -1,12 +1,13 @@
 //! What is written of a table.
 ghost use Rattle.std.specs.Prelude.{◌≡◌, [], IfOk, IfErr};
+ghost use Rattle.scale_info_grammar.specs.Ty.{EncodesTypes};
 ghost use Rattle.type_reader_io.specs.declared.error.ReaderError.TheVariants as reader_error;
 ghost use Rattle.type_reader_run.specs.Listings.{AreListed};
 ghost use Rattle.type_reader_run.specs.Outputs.{IsFinding, IsGraph, IsListing, IsPruning, MakesOf};
 ghost use Rattle.type_reader_run.specs.Outputs.{OutputsOf, bytes_of};
 ghost use Rattle.type_reader_run.specs.Refusals.{HasSelectionError, IsGraphingError};
 ghost use Rattle.type_reader_run.specs.Refusals.{IsMakingError, IsOutputError, IsPruningError};
-ghost use Rattle.type_reader_run.specs.Selections.{IsSelectionError};
+ghost use Rattle.type_reader_run.specs.Selections.{AreSelected, IsSelectionError};
 ghost use Rattle.type_reader_run.specs.Tables.{IsOneTable, source_line};
 
 use crate::convert::converted;
@@ -125,6 +126,24 @@ fn found(alloc: Global, table: &[u8], pattern: &Text) -> Result<Vec<u8>, ReaderE
     Ok(titles_of(alloc, &registry, &ids)?)
 }
 
+/// The descriptions of a table, and the ids of the types that the texts give of it.
+///
+/// Errors: as [`selected`].
+fn selected_of(
+    alloc: Global,
+    table: &[u8],
+    texts: &[Text],
+) -> Result<(PortableRegistry, Vec<u32>), ReaderError>
+    requires { IsOneTable table.now }
+    ensures ok { IfOk result (λ found. EncodesTypes found.0.types table.now
+        × AreSelected found.0.types texts.now found.1.items) }
+    ensures err { IfErr result (HasSelectionError table.now texts.now) }
+{
+    let registry = registry_of(alloc, table)?;
+    let ids = selected(alloc, &registry, texts)?;
+    Ok((registry, ids))
+}
+
 /// The table of what the types reach that the texts give.
 ///
 /// Errors: as [`selected`] and [`pruned`].
@@ -134,8 +153,7 @@ fn pruned_to(alloc: Global, table: &[u8], texts: &[Text]) -> Result<Output<'stat
         (λ output. IsPruning table.now texts.now (bytes_of output.bytes) output.notes.items) }
     ensures err { IfErr result (IsPruningError table.now texts.now) }
 {
-    let registry = registry_of(alloc, table)?;
-    let ids = selected(alloc, &registry, texts)?;
+    let (_, ids) = selected_of(alloc, table, texts)?;
     pruned(alloc, table, &ids)
 }
 
@@ -147,8 +165,7 @@ fn graphed(alloc: Global, table: &[u8], texts: &[Text]) -> Result<Vec<u8>, Reade
     ensures ok { IfOk result (λ output. IsGraph table.now texts.now output.items) }
     ensures err { IfErr result (IsGraphingError table.now texts.now) }
 {
-    let registry = registry_of(alloc, table)?;
-    let ids = selected(alloc, &registry, texts)?;
+    let (registry, ids) = selected_of(alloc, table, texts)?;
     graph_of(alloc, &registry, &ids)
 }
 

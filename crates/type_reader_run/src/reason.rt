@@ -6,7 +6,7 @@ ghost use Rattle.scale_info_prune.specs.TableIndexes.{IsIndexed};
 ghost use Rattle.scale_info_types.specs.declared.ty.PortableType.{PortableType as Entry};
 ghost use Rattle.type_reader_io.specs.declared.command.Docs.{Docs as DocsValue};
 ghost use Rattle.type_reader_io.specs.declared.error.ReaderError.TheVariants as reader_error;
-ghost use Rattle.type_reader_run.specs.Differences.{IsComparedAs, IsReason, IsSideOf};
+ghost use Rattle.type_reader_run.specs.Differences.{IsComparedAs, IsReason, IsSideOf, KeepsSide};
 ghost use Rattle.type_reader_run.specs.Tables.{IsOneTable};
 
 use crate::strip::stripped;
@@ -86,19 +86,21 @@ pub fn is_at(alloc: Global, entry: &PortableType, path: &Text) -> Result<bool, A
 /// Errors: `AllocError`, if an allocation failed.
 pub fn reason_of(
     alloc: Global,
-    old: &Side<'_>,
-    new: &Side<'_>,
+    old: &mut Side<'_>,
+    new: &mut Side<'_>,
     path: &Text,
 ) -> Result<Option<String>, AllocError>
-    requires old { (input : List ℕ) × IsIndexed input old.now.indexed }
-    requires new { (input : List ℕ) × IsIndexed input new.now.indexed }
-    ensures { IfOk result (λ reason. (docs : DocsValue) (table other : List ℕ)
-        → IsSideOf docs table old.now → IsSideOf docs other new.now
+    requires old { (input : List ℕ) × IsIndexed input old.old.indexed }
+    requires new { (input : List ℕ) × IsIndexed input new.old.indexed }
+    ensures ok { IfOk result (λ reason. (docs : DocsValue) (table other : List ℕ)
+        → IsSideOf docs table old.old → IsSideOf docs other new.old
         → IsReason docs table other path.now (option_map string_bytes reason)) }
+    ensures old { KeepsSide old.old old.new }
+    ensures new { KeepsSide new.old new.new }
 {
     let ids = old.named.ids_of(path);
     let new_ids = new.named.ids_of(path);
-    match declared_change_of(alloc, &old.indexed, ids, &new.indexed, new_ids) {
+    match declared_change_of(alloc, &mut old.indexed, ids, &mut new.indexed, new_ids) {
         Ok(found) => Ok(found),
         Err(PruneError::Retain(RetainError::Dangling { .. })) => Ok(None),
         Err(_) => Err(AllocError),
