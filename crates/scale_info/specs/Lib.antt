@@ -87,6 +87,7 @@ pub use Rattle.scale_info_json_text.specs.TextTables
 pub use Rattle.scale_info_transcode.specs.Transcodings
 pub use Rattle.scale_info_value.specs.Readings
 pub use Rattle.scale_info_value.specs.BuiltValues
+pub use Rattle.scale_info_value.specs.Equalities
 pub use Rattle.scale_info_value.specs.Outcomes
 pub use Rattle.scale_info_value.specs.ValueDefinitions
 pub use Rattle.scale_info_value.specs.IntegerDecoders

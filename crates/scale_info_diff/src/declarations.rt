@@ -106,7 +106,7 @@ fn pruned_to(
     ensures indexed { (input : List ℕ) → IsIndexed input table.old → IsIndexed input table.new }
 {
     let mut bytes = Vec::new(alloc);
-    table.append_pruned_again(alloc, ids, &mut bytes)?;
+    table.append_pruned(alloc, ids, &mut bytes)?;
     table_of(alloc, &bytes)
 }
 

@@ -5,8 +5,9 @@ ghost use Rattle.scale_info_docs.specs.Changes.{AppendsChanged};
 ghost use Rattle.scale_info_docs.specs.WithoutDocs.{entry_without_docs};
 ghost use Rattle.scale_info_grammar.specs.Ty.{EncodesTypes};
 
-use crate::list::append_list;
+use crate::part::WithoutDocs;
 use scale_info_bytes::error::DecodeError;
+use scale_info_collections::items::Items;
 use scale_info_types::ty::PortableType;
 
 /// Appends the table at the start of the input without docs, and returns the rest of the input.
@@ -30,7 +31,7 @@ pub fn append_without_docs<'a>(input: &'a [u8], out: &mut Vec<u8>) -> Result<&'a
     ensures same { OnErr result (out.new.items ≡ out.old.items) }
 {
     let start = out.len();
-    let appended = append_list::<PortableType>(input, out);
+    let appended = Items::<PortableType>::append(input, out);
     if appended.is_err() {
         out.truncate(start);
     }

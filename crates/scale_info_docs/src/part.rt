@@ -51,3 +51,18 @@ pub fn append_copy<'a, T: Pass>(input: &'a [u8], out: &mut Vec<u8>) -> Result<&'
         None => Err(DecodeError::Malformed),
     }
 }
+
+/// A part of a table that has no docs.
+pub trait HasNoDocs: Pass {}
+
+impl<T: HasNoDocs> WithoutDocs for T {
+    ghost encodes = { T.encodes };
+
+    ghost without_docs = { λ v. v };
+
+    fn append<'a>(input: &'a [u8], out: &mut Vec<u8>) -> Result<&'a [u8], DecodeError> {
+        append_copy::<T>(input, out)
+    }
+
+    ghost law = { T.law };
+}

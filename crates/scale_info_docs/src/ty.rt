@@ -1,30 +1,28 @@
 //! Parts of a table, written again without docs.
-ghost use Rattle.std.specs.Prelude.{[], map};
-ghost use Rattle.scale_info_bytes.specs.CompactLaws.{compact_law};
-ghost use Rattle.scale_info_bytes.specs.IntegerLaws.{u8_law};
-ghost use Rattle.scale_info_bytes.specs.Integers.{EncodesCompact, EncodesU8};
-ghost use Rattle.scale_info_bytes.specs.PartLaws.{list_law, option_law, through_law};
-ghost use Rattle.scale_info_bytes.specs.Parts.{EncodesList, EncodesOption};
+ghost use Rattle.std.specs.Prelude.{[]};
+ghost use Rattle.scale_info_bytes.specs.PartLaws.{list_law};
+ghost use Rattle.scale_info_bytes.specs.Parts.{EncodesList};
 ghost use Rattle.scale_info_bytes.specs.StringLaws.{text_law};
 ghost use Rattle.scale_info_bytes.specs.Strings.{EncodesText};
 ghost use Rattle.scale_info_docs.specs.WithoutDocs.{definition_without_docs};
 ghost use Rattle.scale_info_docs.specs.WithoutDocs.{description_without_docs};
 ghost use Rattle.scale_info_docs.specs.WithoutDocs.{entry_without_docs, field_without_docs};
 ghost use Rattle.scale_info_docs.specs.WithoutDocs.{variant_without_docs};
-ghost use Rattle.scale_info_grammar.specs.Ty.{EncodesDescription, EncodesField, EncodesId};
-ghost use Rattle.scale_info_grammar.specs.Ty.{EncodesParameter, EncodesPath, EncodesPortableType};
+ghost use Rattle.scale_info_grammar.specs.Ty.{EncodesDescription, EncodesField};
+ghost use Rattle.scale_info_grammar.specs.Ty.{EncodesParameter, EncodesPortableType};
 ghost use Rattle.scale_info_grammar.specs.Ty.{EncodesTypeDef, EncodesVariant};
 ghost use Rattle.scale_info_grammar.specs.TyLaws.{description_law, field_law, parameter_law};
-ghost use Rattle.scale_info_grammar.specs.TyLaws.{id_law, path_law, portable_type_law};
+ghost use Rattle.scale_info_grammar.specs.TyLaws.{portable_type_law};
 ghost use Rattle.scale_info_grammar.specs.TyLaws.{type_def_law, variant_law};
 
-use crate::list::append_list;
-use crate::part::{WithoutDocs, append_copy};
+use crate::list::HasDocs;
+use crate::part::{HasNoDocs, WithoutDocs, append_copy};
 use scale_info_bytes::error::DecodeError;
 use scale_info_collections::items::Items;
 use scale_info_collections::text::Text;
 use scale_info_identities::symbol::UntrackedSymbol;
 use scale_info_identities::type_id::TypeId;
+use scale_info_passes::ty::DescriptionParts;
 use scale_info_passes::visitors::skip;
 use scale_info_type_ids::impls::Compact;
 use scale_info_types::form::PortableForm;
@@ -35,77 +33,23 @@ use scale_info_types::ty::{Description, PortableType, TypeDef, TypeParameter};
 
 type Id = UntrackedSymbol<TypeId>;
 
-impl WithoutDocs for u8 {
-    ghost encodes = { EncodesU8 };
+impl HasNoDocs for u8 {}
 
-    ghost without_docs = { λ v. v };
+impl HasNoDocs for Text {}
 
-    fn append<'a>(input: &'a [u8], out: &mut Vec<u8>) -> Result<&'a [u8], DecodeError> {
-        append_copy::<u8>(input, out)
-    }
+impl HasNoDocs for Option<Text> {}
 
-    ghost law = { u8_law };
-}
+impl HasNoDocs for Id {}
 
-impl WithoutDocs for Text {
-    ghost encodes = { EncodesText };
+impl HasNoDocs for Compact<u32> {}
 
-    ghost without_docs = { λ v. v };
+impl HasNoDocs for Path<PortableForm> {}
 
-    fn append<'a>(input: &'a [u8], out: &mut Vec<u8>) -> Result<&'a [u8], DecodeError> {
-        append_copy::<Text>(input, out)
-    }
+impl HasDocs for Field<PortableForm> {}
 
-    ghost law = { text_law };
-}
+impl HasDocs for Variant<PortableForm> {}
 
-impl WithoutDocs for Option<Text> {
-    ghost encodes = { EncodesOption EncodesText };
-
-    ghost without_docs = { λ v. v };
-
-    fn append<'a>(input: &'a [u8], out: &mut Vec<u8>) -> Result<&'a [u8], DecodeError> {
-        append_copy::<Option<Text>>(input, out)
-    }
-
-    ghost law = { option_law text_law };
-}
-
-impl WithoutDocs for Id {
-    ghost encodes = { EncodesId };
-
-    ghost without_docs = { λ v. v };
-
-    fn append<'a>(input: &'a [u8], out: &mut Vec<u8>) -> Result<&'a [u8], DecodeError> {
-        append_copy::<Id>(input, out)
-    }
-
-    ghost law = { id_law };
-}
-
-impl WithoutDocs for Compact<u32> {
-    ghost encodes = { λ v b. EncodesCompact v.0 b };
-
-    ghost without_docs = { λ v. v };
-
-    fn append<'a>(input: &'a [u8], out: &mut Vec<u8>) -> Result<&'a [u8], DecodeError> {
-        append_copy::<Compact<u32>>(input, out)
-    }
-
-    ghost law = { through_law (λ v. v.0) (λ v w e i. record { 0 = e i }) compact_law };
-}
-
-impl WithoutDocs for Path<PortableForm> {
-    ghost encodes = { EncodesPath };
-
-    ghost without_docs = { λ v. v };
-
-    fn append<'a>(input: &'a [u8], out: &mut Vec<u8>) -> Result<&'a [u8], DecodeError> {
-        append_copy::<Path<PortableForm>>(input, out)
-    }
-
-    ghost law = { path_law };
-}
+impl HasDocs for PortableType {}
 
 impl WithoutDocs for Items<TypeParameter<PortableForm>> {
     ghost encodes = { EncodesList EncodesParameter };
@@ -150,18 +94,6 @@ impl WithoutDocs for Field<PortableForm> {
     ghost law = { field_law };
 }
 
-impl WithoutDocs for Items<Field<PortableForm>> {
-    ghost encodes = { EncodesList EncodesField };
-
-    ghost without_docs = { map field_without_docs };
-
-    fn append<'a>(input: &'a [u8], out: &mut Vec<u8>) -> Result<&'a [u8], DecodeError> {
-        append_list::<Field<PortableForm>>(input, out)
-    }
-
-    ghost law = { list_law field_law };
-}
-
 impl WithoutDocs for Variant<PortableForm> {
     ghost encodes = { EncodesVariant };
 
@@ -172,18 +104,6 @@ impl WithoutDocs for Variant<PortableForm> {
     }
 
     ghost law = { variant_law };
-}
-
-impl WithoutDocs for Items<Variant<PortableForm>> {
-    ghost encodes = { EncodesList EncodesVariant };
-
-    ghost without_docs = { map variant_without_docs };
-
-    fn append<'a>(input: &'a [u8], out: &mut Vec<u8>) -> Result<&'a [u8], DecodeError> {
-        append_list::<Variant<PortableForm>>(input, out)
-    }
-
-    ghost law = { list_law variant_law };
 }
 
 /// A composite's fields and an enum's variants lose their docs; the other kinds have none.
@@ -215,13 +135,7 @@ impl WithoutDocs for Description<PortableForm> {
     ghost without_docs = { description_without_docs };
 
     fn append<'a>(input: &'a [u8], out: &mut Vec<u8>) -> Result<&'a [u8], DecodeError> {
-        <(
-            Path<PortableForm>,
-            (
-                Items<TypeParameter<PortableForm>>,
-                (TypeDef<PortableForm>, Items<Text>),
-            ),
-        )>::append(input, out)
+        DescriptionParts::append(input, out)
     }
 
     ghost law = { description_law };

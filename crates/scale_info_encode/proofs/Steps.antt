@@ -1,11 +1,11 @@
 -- One level of a writing.
-use Rattle.std.proofs.Common.{◌≡◌, ℕ, zero, suc, ◌-◌, ◌≤◌, ◌==◌, Bool, true, false, List, [], ◌∷◌, map, find}
-use Rattle.std.proofs.Common.{length, take, drop, get_or, Option, Some, None, option_map, Result, refl, ap, sym, ◌∙◌, subst, arith}
+use Rattle.std.proofs.Common.{◌≡◌, ℕ, ◌-◌, ◌≤◌, ◌==◌, Bool, true, false, List, [], ◌∷◌, map, find}
+use Rattle.std.proofs.Common.{length, take, drop, get_or, Option, Some, None, option_map, Result, refl, ap, sym, ◌∙◌, subst}
 use Rattle.std.specs.Prelude.{if◌then◌else◌, IfErr, OnOk, OnErr}
 use Rattle.std.specs.Option.{option_eq}
 use Rattle.std.specs.Str.{bytes_eq}
 use Rattle.scale_info_bytes.specs.Encodings.{IsPrefix}
-use Rattle.scale_info_types.specs.Portable.{Id, Text, Field, Variant, Description, TypeDefComposite}
+use Rattle.scale_info_types.specs.Portable.{Id, Text, Field, Variant, TypeDefComposite}
 use Rattle.scale_info_types.specs.Portable.{TypeDefTuple, TypeDefVariant}
 use Rattle.scale_info_types.specs.Shapes.{map_field, map_variant}
 use Rattle.scale_info_types.specs.declared.ty.variant.Variant.{Variant as AnyVariant}
@@ -13,87 +13,22 @@ use Rattle.scale_info_types.specs.declared.ty.TypeDef.TheVariants as def
 use Rattle.scale_info_tables.specs.declared.portable.PortableRegistry.{PortableRegistry}
 use Rattle.scale_info_value.specs.declared.value.Dyn.{Dyn}
 use Rattle.scale_info_value.specs.declared.value.Dyn.TheVariants as dyn
-use Rattle.scale_info_value.specs.Readings.{type_at}
+use Rattle.scale_info_value.specs.Readings.{value_at, defined_at}
 use Rattle.scale_info_encode.specs.declared.failure.PartError.{PartError}
 use Rattle.scale_info_encode.specs.declared.path.Step.{Step}
 use Rattle.scale_info_encode.specs.declared.path.Step.TheVariants as step
 use Rattle.scale_info_encode.specs.Failures.{Fails}
-use Rattle.scale_info_encode.specs.Writers.{Writer, written, refused, too_deep, no_such_type, mismatch, followed_by}
+use Rattle.scale_info_encode.specs.Writers.{Writer, written, refused, mismatch, followed_by}
 use Rattle.scale_info_encode.specs.Writers.{of_part, step_to, item, in_turn, Appends}
 use Rattle.scale_info_encode.specs.IntegerWriters.{count}
 use Rattle.scale_info_encode.specs.DefinitionWriters.{Writers, held, record_in, list_in, variant_in}
-use Rattle.scale_info_encode.specs.DefinitionWriters.{counted, field, fields, fields_of, chosen_variant}
-use Rattle.scale_info_encode.specs.Writings.{compact_by_type, value_by_type, compact_within, value_within}
-use Rattle.scale_info_encode.specs.Writings.{definition_within, compact_definition_within, fields_within}
-use Rattle.scale_info_encode.specs.Writings.{members_within, pair_within, part_within}
+use Rattle.scale_info_encode.specs.DefinitionWriters.{counted, members, field, fields, fields_of, chosen_variant}
+use Rattle.scale_info_encode.specs.Writings.{writings, fields_within, pair_within, part_within}
 use Rattle.scale_info_encode.proofs.Appending.{is_held}
 use Rattle.scale_info_encode.proofs.InTurn.{first_in_turn, last_in_turn}
 use Rattle.scale_info_encode.proofs.NamedParts.{first_made}
 use Rattle.scale_info_encode.proofs.SoFar.{SoFar, both, goes_on, starts, part_appended}
 use Rattle.scale_info_encode.proofs.ValueKinds.{records, lists, variants, chosen}
-
--- where no level is left, a value is too deep, and so is a compact integer
-pub nothing_left :
-    (left : ℕ) (table : PortableRegistry) (id : ℕ) (value : Dyn) → left ≡ 0
-    → (value_within left table id value ≡ refused too_deep) × (compact_within left table id value ≡ refused too_deep)
-unfolding value_within compact_within
-nothing_left zero table id value e = (refl, refl)
-nothing_left (suc left) table id value e = absurd (omega arith)
-
--- else a compact integer goes by the description of its type
-compact_level :
-    (left : ℕ) (table : PortableRegistry) (id : ℕ) (value : Dyn) → 1 ≤ left
-    → compact_within left table id value ≡ compact_by_type (compact_within (left - 1) table) (type_at table id) value
-unfolding compact_within
-compact_level zero table id value h = absurd (omega arith)
-compact_level (suc left) table id value h =
-    let e : left ≡ suc left - 1 = omega arith in
-    ap (λ n. compact_by_type (compact_within n table) (type_at table id) value) e
-
--- the writers that an id stands for
-abbrev part_of : ℕ → PortableRegistry → ℕ → Writers
-part_of left table r = record {
-  value = value_within (left - 1) table r;
-  inner = value_within (left - 2) table r;
-  compact = compact_within left table r;
-}
-
--- else a value goes by the description of its type
-value_level :
-    (left : ℕ) (table : PortableRegistry) (id : ℕ) (value : Dyn) → 1 ≤ left
-    → value_within left table id value ≡ value_by_type (part_of left table) (type_at table id) value
-unfolding value_within
-value_level zero table id value h = absurd (omega arith)
-value_level (suc zero) table id value h = refl
-value_level (suc (suc left)) table id value h =
-    let e : suc left ≡ suc (suc left) - 1 = omega arith in
-    let f : left ≡ suc (suc left) - 2 = omega arith in
-    λ i. value_by_type (λ r. record {
-      value = value_within (e i) table r;
-      inner = value_within (f i) table r;
-      compact = compact_within (suc (suc left)) table r;
-    }) (type_at table id) value
-
--- an id that is no index has no value, and no compact integer
-pub no_type :
-    (left : ℕ) (table : PortableRegistry) (id : ℕ) (value : Dyn) → 1 ≤ left → type_at table id ≡ None
-    → (value_within left table id value ≡ refused no_such_type)
-    × (compact_within left table id value ≡ refused no_such_type)
-no_type left table id value h e = (
-  value_level left table id value h ∙ ap (λ o. value_by_type (part_of left table) o value) e,
-  compact_level left table id value h ∙ ap (λ o. compact_by_type (compact_within (left - 1) table) o value) e,
-)
-
--- a value of a type goes by the type's definition, and so does a compact integer
-pub type_known :
-    (left : ℕ) (table : PortableRegistry) (id : ℕ) (value : Dyn) (d : Description)
-    → 1 ≤ left → type_at table id ≡ Some d
-    → (value_within left table id value ≡ definition_within left table d.type_def value)
-    × (compact_within left table id value ≡ compact_definition_within left table d.type_def value)
-type_known left table id value d h e = (
-  value_level left table id value h ∙ ap (λ o. value_by_type (part_of left table) o value) e,
-  compact_level left table id value h ∙ ap (λ o. compact_by_type (compact_within (left - 1) table) o value) e,
-)
 
 -- what comes of a list that is written after its count, where the count was appended
 pub counted_list :
@@ -112,7 +47,7 @@ module _ (left : ℕ) (table : PortableRegistry) where
   pub composite_is :
       (composite : TypeDefComposite) (value : Dyn) (values found : List (Option Text × Dyn)) (fs : List Field)
       → value ≡ dyn.Record values → found ≡ values → fs ≡ composite.fields
-      → definition_within left table (def.Composite composite) value ≡ fields_within left table fs found
+      → defined_at writings left table (def.Composite composite) value ≡ fields_within left table fs found
   composite_is composite value values found fs is e f =
       is_held dyn.Record record_in (fields_within left table composite.fields) records value values is
       ∙ (λ i. fields_within left table (sym f i) (sym e i))
@@ -121,25 +56,25 @@ module _ (left : ℕ) (table : PortableRegistry) where
   pub tuple_is :
       (tuple : TypeDefTuple) (value : Dyn) (values found : List Dyn) (types : List Id) → value ≡ dyn.List values
       → found ≡ values → types ≡ tuple.fields
-      → definition_within left table (def.Tuple tuple) value ≡ members_within left table types found
+      → defined_at writings left table (def.Tuple tuple) value ≡ members (map (part_within left table) types) found
   tuple_is tuple value values found types is e f =
-      is_held dyn.List list_in (members_within left table tuple.fields) lists value values is
-      ∙ (λ i. members_within left table (sym f i) (sym e i))
+      is_held dyn.List list_in (members (map (part_within left table) tuple.fields)) lists value values is
+      ∙ (λ i. members (map (part_within left table) (sym f i)) (sym e i))
 
   -- the first of a key and a value, and the other
   pub pair_is :
       (key value : Id) (entry : Dyn) (inner : ℕ) (values found : List Dyn) (first : Dyn) → entry ≡ dyn.List values
       → found ≡ values → inner ≡ left - 2 → 1 ≤ length found → first ≡ get_or found 0 first
       → pair_within left table key value entry
-      ≡ followed_by (item (value_within inner table key.id) 0 first)
-      (in_turn 1 (item (value_within inner table value.id) ∷ []) (drop 1 found))
+      ≡ followed_by (item (value_at writings inner table key.id) 0 first)
+      (in_turn 1 (item (value_at writings inner table value.id) ∷ []) (drop 1 found))
   pair_is key value entry inner values found first is e levels long at =
       is_held dyn.List list_in
-      (in_turn 0 (item (value_within (left - 2) table key.id) ∷ item (value_within (left - 2) table value.id) ∷ []))
+      (in_turn 0 (item (value_at writings (left - 2) table key.id) ∷ item (value_at writings (left - 2) table value.id) ∷ []))
       lists entry values is
-      ∙ (λ i. in_turn 0 (item (value_within (sym levels i) table key.id) ∷ item (value_within (sym levels i) table value.id) ∷ [])
+      ∙ (λ i. in_turn 0 (item (value_at writings (sym levels i) table key.id) ∷ item (value_at writings (sym levels i) table value.id) ∷ [])
       (sym e i))
-      ∙ first_in_turn 0 (item (value_within inner table key.id)) (item (value_within inner table value.id) ∷ []) found first
+      ∙ first_in_turn 0 (item (value_at writings inner table key.id)) (item (value_at writings inner table value.id) ∷ []) found first
       long at
 
   -- of a pair the second is left, where the first was appended
@@ -147,12 +82,12 @@ module _ (left : ℕ) (table : PortableRegistry) where
       (key value : Id) (entry : Dyn) (inner : ℕ) (values found rest : List Dyn) (first second : Dyn) (old mid : List ℕ)
       → entry ≡ dyn.List values → found ≡ values → inner ≡ left - 2 → 1 ≤ length found → first ≡ get_or found 0 first
       → rest ≡ take (length found - 1) (drop 1 found) → 1 ≤ length rest → second ≡ get_or rest 0 second
-      → Appends (value_within inner table key.id first) old mid
+      → Appends (value_at writings inner table key.id first) old mid
       → SoFar (pair_within left table key value entry)
-      (followed_by (item (value_within inner table value.id) 1 second) (in_turn 2 [] (drop 1 rest))) old mid
+      (followed_by (item (value_at writings inner table value.id) 1 second) (in_turn 2 [] (drop 1 rest))) old mid
   second_of_pair key value entry inner values found rest first second old mid is e levels long at others more next a =
       subst (λ w. SoFar (pair_within left table key value entry) w old mid)
-      (last_in_turn 1 (item (value_within inner table value.id)) found rest second others more next)
+      (last_in_turn 1 (item (value_at writings inner table value.id)) found rest second others more next)
       (goes_on _ _ _ _ _ _ _ (starts _ _ _ _ refl refl)
       (pair_is key value entry inner values found first is e levels long at) (part_appended (step.Index 0) _ _ _ a))
 
@@ -165,18 +100,18 @@ module _ (left : ℕ) (table : PortableRegistry) where
   field_is :
       (f : Field) (place : ℕ) (named : Option Text × Dyn) (test : Bool) → option_eq bytes_eq f.name named.0 ≡ test
       → field (map_field {G = Unit {0}} (part_within left table) (λ t. t) f) place named
-      ≡ of_part (step_to place named.0) (if test then value_within (left - 1) table f.ty.id named.1 else refused mismatch)
+      ≡ of_part (step_to place named.0) (if test then value_at writings (left - 1) table f.ty.id named.1 else refused mismatch)
   field_is f place named test e =
       ap (λ o. of_part (step_to place named.0)
-      (if option_eq bytes_eq o named.0 then value_within (left - 1) table f.ty.id named.1 else refused mismatch)) (own_name f.name)
+      (if option_eq bytes_eq o named.0 then value_at writings (left - 1) table f.ty.id named.1 else refused mismatch)) (own_name f.name)
       ∙ ap (λ t. of_part (step_to place named.0)
-      (if t then value_within (left - 1) table f.ty.id named.1 else refused mismatch)) e
+      (if t then value_at writings (left - 1) table f.ty.id named.1 else refused mismatch)) e
 
   -- a field under its name
   pub field_named :
       (f : Field) (place : ℕ) (named : Option Text × Dyn) → option_eq bytes_eq f.name named.0 ≡ true
       → field (map_field {G = Unit {0}} (part_within left table) (λ t. t) f) place named
-      ≡ of_part (step_to place named.0) (value_within (left - 1) table f.ty.id named.1)
+      ≡ of_part (step_to place named.0) (value_at writings (left - 1) table f.ty.id named.1)
   field_named f place named e = field_is f place named true e
 
   -- a field under another name
@@ -195,7 +130,7 @@ module _ (left : ℕ) (table : PortableRegistry) where
       (choice : TypeDefVariant) (value : Dyn) (name : Text) (index : ℕ) (values : List (Option Text × Dyn))
       (o : Option Variant)
       → value ≡ dyn.Variant name index values → find (λ v. v.index == index) choice.variants ≡ o
-      → definition_within left table (def.Variant choice) value
+      → defined_at writings left table (def.Variant choice) value
       ≡ followed_by (written (index ∷ [])) (fields_of (option_map written_variant o) name values)
   variant_is choice value name index values o is e =
       is_held chosen variant_in (chosen_variant (map written_variant choice.variants)) variants value (name, index, values) is
@@ -206,7 +141,7 @@ module _ (left : ℕ) (table : PortableRegistry) where
   pub variant_missing :
       (choice : TypeDefVariant) (value : Dyn) (name : Text) (index : ℕ) (values : List (Option Text × Dyn))
       → value ≡ dyn.Variant name index values → find (λ v. v.index == index) choice.variants ≡ None
-      → definition_within left table (def.Variant choice) value ≡ refused mismatch
+      → defined_at writings left table (def.Variant choice) value ≡ refused mismatch
   variant_missing choice value name index values is e = variant_is choice value name index values None is e
 
   -- the variant with the index has another name
@@ -214,7 +149,7 @@ module _ (left : ℕ) (table : PortableRegistry) where
       (choice : TypeDefVariant) (value : Dyn) (name : Text) (index : ℕ) (values : List (Option Text × Dyn)) (v : Variant)
       → value ≡ dyn.Variant name index values → find (λ v. v.index == index) choice.variants ≡ Some v
       → bytes_eq v.name name ≡ false
-      → definition_within left table (def.Variant choice) value ≡ refused mismatch
+      → defined_at writings left table (def.Variant choice) value ≡ refused mismatch
   variant_misnamed choice value name index values v is e differs =
       variant_is choice value name index values (Some v) is e
       ∙ ap (λ t. followed_by (written (index ∷ []))
@@ -226,7 +161,7 @@ module _ (left : ℕ) (table : PortableRegistry) where
       (v : Variant) (fs : List Field)
       → value ≡ dyn.Variant name index values → find (λ v. v.index == index) choice.variants ≡ Some v
       → bytes_eq v.name name ≡ true → fs ≡ v.fields → found ≡ values
-      → definition_within left table (def.Variant choice) value
+      → defined_at writings left table (def.Variant choice) value
       ≡ followed_by (written (index ∷ [])) (fields_within left table fs found)
   variant_named choice value name index values found v fs is e same f g =
       variant_is choice value name index values (Some v) is e

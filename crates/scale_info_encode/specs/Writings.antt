@@ -1,72 +1,28 @@
 -- What comes of encoding a value by a table.
-use Rattle.std.specs.Prelude.{ℕ, zero, suc, ◌-◌, List, Option, Some, None, map}
-use Rattle.scale_info_types.specs.Portable.{Id, Field, TypeDef, Description}
-use Rattle.scale_info_types.specs.Shapes.{map_definition, map_field}
+use Rattle.std.specs.Prelude.{ℕ, ◌-◌, List, Option, map}
+use Rattle.scale_info_types.specs.Portable.{Id, Field}
+use Rattle.scale_info_types.specs.Shapes.{map_field}
 use Rattle.scale_info_tables.specs.declared.portable.PortableRegistry.{PortableRegistry}
 use Rattle.scale_info_value.specs.declared.value.Dyn.{Dyn}
-use Rattle.scale_info_value.specs.Readings.{type_at}
+use Rattle.scale_info_value.specs.Readings.{Levels, levels_of, value_at, part_at}
 use Rattle.scale_info_encode.specs.Writers.{Writer, refused, no_such_type, too_deep}
-use Rattle.scale_info_encode.specs.DefinitionWriters.{Writers, value_by, compact_by, items}
-use Rattle.scale_info_encode.specs.DefinitionWriters.{members, fields, pair, pairs}
+use Rattle.scale_info_encode.specs.DefinitionWriters.{Writers, value_by, compact_by, fields}
+use Rattle.scale_info_encode.specs.DefinitionWriters.{pair}
 
--- a compact integer by the description of a type, where `write` encodes one by an id
-abbrev pub compact_by_type : (ℕ → Writer Dyn) → Option Description → Writer Dyn
-compact_by_type write None value = refused no_such_type
-compact_by_type write (Some d) value =
-    compact_by (map_definition {G = Unit {0}} (λ r. write r.id) (λ t. t) d.type_def) value
-
--- a compact integer by an id, where that many levels are left
-unfoldable pub compact_within : ℕ → PortableRegistry → ℕ → Writer Dyn
-compact_within zero table id value = refused too_deep
-compact_within (suc left) table id value =
-    compact_by_type (compact_within left table) (type_at table id) value
-
--- a value by the description of its type, where `part` encodes by an id
-abbrev pub value_by_type : (ℕ → Writers) → Option Description → Writer Dyn
-value_by_type part None value = refused no_such_type
-value_by_type part (Some d) value =
-    value_by (map_definition {G = Unit {0}} (λ r. part r.id) (λ t. t) d.type_def) value
-
--- A value by an id, where that many levels are left. Its parts are one level deeper; the type of a
--- compact integer is as deep as the integer itself.
-unfoldable pub value_within : ℕ → PortableRegistry → ℕ → Writer Dyn
-value_within zero table id value = refused too_deep
-value_within (suc zero) table id value =
-    value_by_type (λ r. record {
-      value = λ v. refused too_deep;
-      inner = λ v. refused too_deep;
-      compact = compact_within 1 table r;
-    }) (type_at table id) value
-value_within (suc (suc left)) table id value =
-    value_by_type (λ r. record {
-      value = value_within (suc left) table r;
-      inner = value_within left table r;
-      compact = compact_within (suc (suc left)) table r;
-    }) (type_at table id) value
+-- how values are encoded
+abbrev pub writings : Levels (Writer Dyn) (Writer Dyn) Writers
+writings =
+    levels_of (λ value. refused too_deep) (λ value. refused no_such_type) value_by compact_by
+    (λ table r value inner compact. record { value = value; inner = inner; compact = compact })
 
 -- The bytes of a value of the type with that id, at a depth, or why it has none. The value that is
 -- asked for has depth 1, and no value is deeper than 128.
 abbrev pub writing : PortableRegistry → ℕ → ℕ → Writer Dyn
-writing table id depth value = value_within (129 - depth) table id value
+writing table id depth value = value_at writings (129 - depth) table id value
 
 -- the writers that a reference stands for, where `left` levels are left for the value itself
 abbrev pub part_within : ℕ → PortableRegistry → Id → Writers
-part_within left table r = record {
-  value = value_within (left - 1) table r.id;
-  inner = value_within (left - 2) table r.id;
-  compact = compact_within left table r.id;
-}
-
--- a value by a definition
-abbrev pub definition_within : ℕ → PortableRegistry → TypeDef → Writer Dyn
-definition_within left table d value =
-    value_by (map_definition {G = Unit {0}} (part_within left table) (λ t. t) d) value
-
--- a compact integer by a definition
-abbrev pub compact_definition_within : ℕ → PortableRegistry → TypeDef → Writer Dyn
-compact_definition_within left table d value =
-    compact_by
-    (map_definition {G = Unit {0}} (λ r. compact_within (left - 1) table r.id) (λ t. t) d) value
+part_within left table r = part_at writings left table r.id
 
 -- the values of fields
 abbrev pub fields_within :
@@ -74,20 +30,7 @@ abbrev pub fields_within :
 fields_within left table all values =
     fields (map (map_field {G = Unit {0}} (part_within left table) (λ t. t)) all) values
 
--- so many values of one type
-abbrev pub items_within : ℕ → PortableRegistry → Id → ℕ → Writer (List Dyn)
-items_within left table ty n values = items n (part_within left table ty) values
-
--- a value of each type in order
-abbrev pub members_within : ℕ → PortableRegistry → List Id → Writer (List Dyn)
-members_within left table types values = members (map (part_within left table) types) values
-
 -- a key and a value
 abbrev pub pair_within : ℕ → PortableRegistry → Id → Id → Writer Dyn
 pair_within left table key value entry =
     pair (part_within left table key) (part_within left table value) entry
-
--- so many keys and values
-abbrev pub pairs_within : ℕ → PortableRegistry → Id → Id → ℕ → Writer (List Dyn)
-pairs_within left table key value n entries =
-    pairs n (part_within left table key) (part_within left table value) entries

@@ -1,12 +1,13 @@
 //! Values encoded by the definitions of their types.
-ghost use Rattle.std.specs.Prelude.{◌≡◌, ◌≤◌, IfErr, OnOk, OnErr, length, replicate};
+ghost use Rattle.std.specs.Prelude.{◌≡◌, ◌≤◌, IfErr, OnOk, OnErr, length, map, replicate};
 ghost use Rattle.scale_info_bytes.specs.Encodings.{IsPrefix};
 ghost use Rattle.scale_info_types.specs.declared.ty.TypeDef.TheVariants as def;
+ghost use Rattle.scale_info_value.specs.Readings.{value_at, defined_at};
 ghost use Rattle.scale_info_encode.specs.Writers.{Appends, IsErrorOf, item, in_turn};
 ghost use Rattle.scale_info_encode.specs.Failures.{Fails};
-ghost use Rattle.scale_info_encode.specs.Writings.{value_within, definition_within, fields_within};
-ghost use Rattle.scale_info_encode.specs.Writings.{items_within, members_within, pair_within};
-ghost use Rattle.scale_info_encode.specs.Writings.{pairs_within, writing};
+ghost use Rattle.scale_info_encode.specs.DefinitionWriters.{items, members, pairs};
+ghost use Rattle.scale_info_encode.specs.Writings.{writing, writings, part_within};
+ghost use Rattle.scale_info_encode.specs.Writings.{fields_within, pair_within};
 
 use crate::compact::compact_within;
 use crate::definition::definition_of;
@@ -85,8 +86,9 @@ fn value_within(
     steps: &mut Vec<Step>,
 ) -> Result<(), PartError>
     ensures ok { OnOk result
-        (Appends (value_within left table.now id value.now) out.old.items out.new.items) }
-    ensures err { IfErr result (Fails (value_within left table.now id value.now) steps.new.items) }
+        (Appends (value_at writings left table.now id value.now) out.old.items out.new.items) }
+    ensures err { IfErr result
+        (Fails (value_at writings left table.now id value.now) steps.new.items) }
     ensures kept { OnErr result (IsPrefix out.old.items out.new.items) }
 {
     let definition = definition_of(table, id, left)?;
@@ -109,10 +111,10 @@ fn value_by(
 ) -> Result<(), PartError>
     requires { 1 ≤ left }
     ensures ok { OnOk result
-        (Appends (definition_within left table.now definition.now value.now)
+        (Appends (defined_at writings left table.now definition.now value.now)
         out.old.items out.new.items) }
     ensures err { IfErr result
-        (Fails (definition_within left table.now definition.now value.now) steps.new.items) }
+        (Fails (defined_at writings left table.now definition.now value.now) steps.new.items) }
     ensures kept { OnErr result (IsPrefix out.old.items out.new.items) }
 {
     match definition {
@@ -144,10 +146,10 @@ fn composite_value(
 ) -> Result<(), PartError>
     requires { 1 ≤ left }
     ensures ok { OnOk result
-        (Appends (definition_within left table.now (def.Composite composite.now) value.now)
+        (Appends (defined_at writings left table.now (def.Composite composite.now) value.now)
         out.old.items out.new.items) }
     ensures err { IfErr result
-        (Fails (definition_within left table.now (def.Composite composite.now) value.now)
+        (Fails (defined_at writings left table.now (def.Composite composite.now) value.now)
         steps.new.items) }
     ensures kept { OnErr result (IsPrefix out.old.items out.new.items) }
 {
@@ -179,10 +181,10 @@ fn variant_value(
 ) -> Result<(), PartError>
     requires { 1 ≤ left }
     ensures ok { OnOk result
-        (Appends (definition_within left table.now (def.Variant choice.now) value.now)
+        (Appends (defined_at writings left table.now (def.Variant choice.now) value.now)
         out.old.items out.new.items) }
     ensures err { IfErr result
-        (Fails (definition_within left table.now (def.Variant choice.now) value.now)
+        (Fails (defined_at writings left table.now (def.Variant choice.now) value.now)
         steps.new.items) }
     ensures kept { OnErr result (IsPrefix out.old.items out.new.items) }
 {
@@ -224,10 +226,10 @@ fn sequence_value(
 ) -> Result<(), PartError>
     requires { 1 ≤ left }
     ensures ok { OnOk result
-        (Appends (definition_within left table.now (def.Sequence sequence.now) value.now)
+        (Appends (defined_at writings left table.now (def.Sequence sequence.now) value.now)
         out.old.items out.new.items) }
     ensures err { IfErr result
-        (Fails (definition_within left table.now (def.Sequence sequence.now) value.now)
+        (Fails (defined_at writings left table.now (def.Sequence sequence.now) value.now)
         steps.new.items) }
     ensures kept { OnErr result (IsPrefix out.old.items out.new.items) }
 {
@@ -262,10 +264,10 @@ fn array_value(
 ) -> Result<(), PartError>
     requires { 1 ≤ left }
     ensures ok { OnOk result
-        (Appends (definition_within left table.now (def.Array array.now) value.now)
+        (Appends (defined_at writings left table.now (def.Array array.now) value.now)
         out.old.items out.new.items) }
     ensures err { IfErr result
-        (Fails (definition_within left table.now (def.Array array.now) value.now)
+        (Fails (defined_at writings left table.now (def.Array array.now) value.now)
         steps.new.items) }
     ensures kept { OnErr result (IsPrefix out.old.items out.new.items) }
 {
@@ -300,10 +302,10 @@ fn items(
 ) -> Result<(), PartError>
     requires { 1 ≤ left }
     ensures ok { OnOk result
-        (Appends (items_within left table.now ty.now count values.now)
+        (Appends (items count (part_within left table.now ty.now) values.now)
         out.old.items out.new.items) }
     ensures err { IfErr result
-        (Fails (items_within left table.now ty.now count values.now) steps.new.items) }
+        (Fails (items count (part_within left table.now ty.now) values.now) steps.new.items) }
     ensures kept { OnErr result (IsPrefix out.old.items out.new.items) }
 {
     if count == 0 && values.is_empty() {
@@ -333,11 +335,11 @@ fn items_by(
 ) -> Result<(), PartError>
     requires { 1 ≤ left }
     ensures ok { OnOk result (Appends
-        (in_turn 0 (replicate count (item (definition_within left table.now definition.now)))
+        (in_turn 0 (replicate count (item (defined_at writings left table.now definition.now)))
         values.now)
         out.old.items out.new.items) }
     ensures err { IfErr result (Fails
-        (in_turn 0 (replicate count (item (definition_within left table.now definition.now)))
+        (in_turn 0 (replicate count (item (defined_at writings left table.now definition.now)))
         values.now) steps.new.items) }
     ensures kept { OnErr result (IsPrefix out.old.items out.new.items) }
 {
@@ -370,10 +372,10 @@ fn tuple_value(
 ) -> Result<(), PartError>
     requires { 1 ≤ left }
     ensures ok { OnOk result
-        (Appends (definition_within left table.now (def.Tuple tuple.now) value.now)
+        (Appends (defined_at writings left table.now (def.Tuple tuple.now) value.now)
         out.old.items out.new.items) }
     ensures err { IfErr result
-        (Fails (definition_within left table.now (def.Tuple tuple.now) value.now)
+        (Fails (defined_at writings left table.now (def.Tuple tuple.now) value.now)
         steps.new.items) }
     ensures kept { OnErr result (IsPrefix out.old.items out.new.items) }
 {
@@ -405,10 +407,11 @@ fn members(
 ) -> Result<(), PartError>
     requires { 1 ≤ left }
     ensures ok { OnOk result
-        (Appends (members_within left table.now types.now values.now)
+        (Appends (members (map (part_within left table.now) types.now) values.now)
         out.old.items out.new.items) }
     ensures err { IfErr result
-        (Fails (members_within left table.now types.now values.now) steps.new.items) }
+        (Fails (members (map (part_within left table.now) types.now) values.now)
+        steps.new.items) }
     ensures kept { OnErr result (IsPrefix out.old.items out.new.items) }
 {
     let mut rest = values;
@@ -478,10 +481,10 @@ fn map_value(
 ) -> Result<(), PartError>
     requires { 1 ≤ left }
     ensures ok { OnOk result
-        (Appends (definition_within left table.now (def.Map map.now) value.now)
+        (Appends (defined_at writings left table.now (def.Map map.now) value.now)
         out.old.items out.new.items) }
     ensures err { IfErr result
-        (Fails (definition_within left table.now (def.Map map.now) value.now)
+        (Fails (defined_at writings left table.now (def.Map map.now) value.now)
         steps.new.items) }
     ensures kept { OnErr result (IsPrefix out.old.items out.new.items) }
 {
@@ -509,10 +512,12 @@ fn pairs(
 ) -> Result<(), PartError>
     requires { 1 ≤ left }
     ensures ok { OnOk result (Appends
-        (pairs_within left table.now key.now value.now (length entries.now) entries.now)
+        (pairs (length entries.now) (part_within left table.now key.now)
+        (part_within left table.now value.now) entries.now)
         out.old.items out.new.items) }
     ensures err { IfErr result (Fails
-        (pairs_within left table.now key.now value.now (length entries.now) entries.now)
+        (pairs (length entries.now) (part_within left table.now key.now)
+        (part_within left table.now value.now) entries.now)
         steps.new.items) }
     ensures kept { OnErr result (IsPrefix out.old.items out.new.items) }
 {

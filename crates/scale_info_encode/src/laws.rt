@@ -1,6 +1,6 @@
 //! Laws of the values that are encoded by a table. A law does nothing when it runs: its contract is
 //! the law.
-ghost use Rattle.std.specs.Prelude.{◌≡◌, ◌↔◌, ◌++◌, IsTrue, List, ℕ, [], Some, map, slice_get};
+ghost use Rattle.std.specs.Prelude.{◌≡◌, ◌↔◌, ◌++◌, List, ℕ, [], Some, map, slice_get};
 ghost use Rattle.std.specs.List.{AllByRecursion};
 ghost use Rattle.scale_info_bytes.specs.Encodings.{HasPrefix, IsByte};
 ghost use Rattle.scale_info_numberings.specs.Tables.{IsTable};
@@ -8,9 +8,9 @@ ghost use Rattle.scale_info_tables.specs.TableSystems.{system_of};
 ghost use Rattle.scale_info_walk.specs.TypeSystems.{entry_of};
 ghost use Rattle.scale_info_tables.specs.declared.portable.PortableRegistry.{PortableRegistry};
 ghost use Rattle.scale_info_value.specs.declared.value.Dyn.{Dyn};
+ghost use Rattle.scale_info_value.specs.Equalities.{DecidesValues};
 ghost use Rattle.scale_info_value.specs.Outcomes.{decoded};
 ghost use Rattle.scale_info_value.specs.Readings.{reading};
-ghost use Rattle.scale_info_encode.specs.declared.error.EncodeValueError as errors;
 ghost use Rattle.scale_info_encode.specs.Writers.{Refusal, written, refused};
 ghost use Rattle.scale_info_encode.specs.Writings.{writing};
 
@@ -65,6 +65,5 @@ pub fn writes_alike()
 
 /// Errors of encoding values are equal exactly where they are one value.
 pub fn equal_encode_errors()
-    ensures { (a b : errors.EncodeValueError)
-        → IsTrue (⟦<EncodeValueError as PartialEq>⟧.eq a b) ↔ (a ≡ b) }
+    ensures { DecidesValues ⟦<EncodeValueError as PartialEq>⟧.eq }
 {}

@@ -1,5 +1,4 @@
 pub mod LastElement
 pub mod Ordered
 pub mod Orders
-pub mod Pushed
 pub mod Chunks

@@ -1,12 +1,11 @@
 //! Interners: lists of distinct values, each known by its index.
 ghost use Rattle.std.specs.Prelude.{◌≡◌, ◌≤◌, ◌<◌, ◌↔◌, ◌++◌, [], ◌∷◌, true, false, length, IfOk};
 ghost use Rattle.std.specs.Prelude.{IfErr, IfSome, IsTrue, IsOk, IsSome, OnErr, IsErrOf, slice_get};
-ghost use Rattle.std.specs.Prelude.{take, map, Some, ℕ, List, ◌≢◌, ◌-◌, OnOk};
-ghost use Rattle.std.specs.List.{All, concat};
+ghost use Rattle.std.specs.Prelude.{take, map, Some, ◌-◌, OnOk};
 ghost use Rattle.std.specs.Option.{option_copied};
 ghost use Rattle.std.specs.Cmp.Lexicographic.{pointwise, lists_equiv, lists_per};
 ghost use Rattle.scale_info_interner.specs.Interned.{IsIndexOf, IsKnown, IsNew, AreDistinctBy};
-ghost use Rattle.scale_info_interner.specs.ElementOrders.{IsElementOrder, before, after};
+ghost use Rattle.scale_info_interner.specs.ElementOrders.{IsElementOrder, IsGapFor};
 ghost use Rattle.scale_info_interner.specs.declared.interner.InternError.TheVariants as error;
 
 use crate::order::{Place, find, insert, locate, merge_small, remove, split_full};
@@ -257,10 +256,11 @@ impl<T: Ord + TryClone> Interner<T> {
     }
 }
 
-/// Puts a value at the end of the elements and its index at a place, and returns the index.
+/// Puts a value at the end of the elements and its index at the place that is found for it, and
+/// returns the index.
 ///
 /// Errors: `Memory`, if an allocation failed; then all is as before.
-fn push_new<T: TryClone>(
+fn push_new<T: Ord + TryClone>(
     elements: &mut Vec<T>,
     chunks: &mut Vec<Vec<u32>>,
     bounds: &mut Vec<T>,
@@ -268,18 +268,16 @@ fn push_new<T: TryClone>(
     place: Place,
     value: T,
 ) -> Result<UntrackedSymbol<T>, InternError>
-    requires place { (chunk : List ℕ)
-        → slice_get (map (λ v. v.items) chunks.old.items) place.chunk ≡ Some chunk
-        → place.at ≤ length chunk }
+    requires order { IsElementOrder T.cmp elements.old.items
+        (map (λ v. v.items) chunks.old.items) }
+    requires place { IsGapFor T.cmp elements.old.items (map (λ v. v.items) chunks.old.items)
+        value place.chunk place.at }
     requires room { length elements.old.items < 4294967295 }
     ensures ok { IfOk result (λ symbol. (symbol.id ≡ length elements.old.items)
         × (elements.new.items ≡ elements.old.items ++ value ∷ [])) }
-    ensures order { OnOk result (concat (map (λ v. v.items) chunks.new.items)
-        ≡ before (map (λ v. v.items) chunks.old.items) place.chunk place.at
-        ++ length elements.old.items
-        ∷ after (map (λ v. v.items) chunks.old.items) place.chunk place.at) }
-    ensures filled { OnOk result (All (λ c. c ≢ []) (map (λ v. v.items) chunks.old.items)
-        → All (λ c. c ≢ []) (map (λ v. v.items) chunks.new.items)) }
+    ensures order { OnOk result (IsElementOrder T.cmp elements.new.items
+        (map (λ v. v.items) chunks.new.items)) }
+    ensures few { OnOk result (length elements.new.items ≤ 4294967295) }
     ensures err { OnErr result (elements.new.items ≡ elements.old.items) }
     ensures err_order { OnErr result
         (map (λ v. v.items) chunks.new.items ≡ map (λ v. v.items) chunks.old.items) }

@@ -10,6 +10,7 @@ ghost use Rattle.std.specs.Prelude.{vec_capacity, vec_len};
 ghost use Rattle.std.specs.declared.cmp.Ordering.TheVariants.{Less, Equal, Greater};
 ghost use Rattle.scale_info_interner.specs.ElementOrders.{against, first_against, before, after};
 ghost use Rattle.scale_info_interner.specs.ElementOrders.{IsFoundAt, IsGapFor, IsElementOrder};
+ghost use Rattle.scale_info_interner.specs.Interned.{IsIndexOf, IsNew};
 
 use crate::bounds::{chunk_of, drop_bound, put_bound};
 use scale_info_collections::try_clone::TryClone;
@@ -177,10 +178,12 @@ pub fn locate<T: Ord>(
     value: &T,
 ) -> Result<u32, Place>
     requires { IsElementOrder T.cmp elements.now (map (λ v. v.items) chunks.now) }
-    ensures found { IfOk result
-        (λ index. against T.cmp elements.now value.now index ≡ Equal) }
+    ensures found { IfOk result (λ index. IsIndexOf T.eq elements.now value.now index) }
+    ensures one { (i : _) → IsIndexOf T.eq elements.now value.now i
+        → IfOk result (λ index. index ≡ i) }
     ensures absent { IfErr result (λ place. IsGapFor T.cmp elements.now
         (map (λ v. v.items) chunks.now) value.now place.chunk place.at) }
+    ensures new { OnErr result (IsNew T.eq elements.now value.now) }
 {
     match find(elements, chunks, bounds, value) {
         Ok(place) => Ok(chunks[place.chunk][place.at]),

@@ -42,62 +42,50 @@ pub trait ObjectWriter {
     fn write_null(&mut self, key: &str) -> Result<(), AllocError>
         ensures { OnOk result (state self.new ≡ step (key.now, Some null) (state self.old)) };
 
+    /// Writes a key and a list, and leaves both out where the list is empty.
+    ///
+    /// Errors: `AllocError`, if an allocation failed.
+    fn write_unless_empty<T: Json>(&mut self, key: &str, list: &Items<T>) -> Result<(), AllocError>
+        ensures ok { OnOk result (state self.new
+            ≡ step (key.now, unless_empty T.written list.now) (state self.old)) }
+        ensures means { OnOk result (MeansList T.meant (list_tree T.written list.now) list.now) }
+    {
+        if list.is_empty() {
+            return Ok(());
+        }
+        self.write_member(key, list)
+    }
+
+    /// Writes a key and a value, and leaves both out where there is no value.
+    ///
+    /// Errors: `AllocError`, if an allocation failed.
+    fn write_unless_none<T: Json>(&mut self, key: &str, value: &Option<T>) -> Result<(), AllocError>
+        ensures ok { OnOk result (state self.new
+            ≡ step (key.now, option_map T.written value.now) (state self.old)) }
+        ensures means { OnOk result (IfSome value.now (λ v. T.meant (T.written v) v)) }
+    {
+        match value {
+            None => Ok(()),
+            Some(value) => self.write_member(key, value),
+        }
+    }
+
+    /// Writes a key and a value, and null where there is no value.
+    ///
+    /// Errors: `AllocError`, if an allocation failed.
+    fn write_or_null<T: Json>(&mut self, key: &str, value: &Option<T>) -> Result<(), AllocError>
+        ensures ok { OnOk result (state self.new
+            ≡ step (key.now, Some (or_null T.written value.now)) (state self.old)) }
+        ensures means { OnOk result (IfSome value.now (λ v. T.meant (T.written v) v)) }
+    {
+        match value {
+            None => self.write_null(key),
+            Some(value) => self.write_member(key, value),
+        }
+    }
+
     /// A key that is left out changes nothing.
     ghost left_out: { (key : List ℕ) (s : State) → step (key, None) s ≡ s };
-}
-
-/// Writes a key and a list, and leaves both out where the list is empty.
-///
-/// Errors: `AllocError`, if an allocation failed.
-pub fn write_unless_empty<W: ObjectWriter, T: Json>(
-    out: &mut W,
-    key: &str,
-    values: &Items<T>,
-) -> Result<(), AllocError>
-    ensures ok { OnOk result (W.state out.new
-        ≡ W.step (key.now, unless_empty T.written values.now) (W.state out.old)) }
-    ensures means { OnOk result (MeansList T.meant (list_tree T.written values.now) values.now) }
-{
-    if values.is_empty() {
-        return Ok(());
-    }
-    out.write_member(key, values)
-}
-
-/// Writes a key and a value, and leaves both out where there is no value.
-///
-/// Errors: `AllocError`, if an allocation failed.
-pub fn write_unless_none<W: ObjectWriter, T: Json>(
-    out: &mut W,
-    key: &str,
-    value: &Option<T>,
-) -> Result<(), AllocError>
-    ensures ok { OnOk result (W.state out.new
-        ≡ W.step (key.now, option_map T.written value.now) (W.state out.old)) }
-    ensures means { OnOk result (IfSome value.now (λ v. T.meant (T.written v) v)) }
-{
-    match value {
-        None => Ok(()),
-        Some(value) => out.write_member(key, value),
-    }
-}
-
-/// Writes a key and a value, and null where there is no value.
-///
-/// Errors: `AllocError`, if an allocation failed.
-pub fn write_or_null<W: ObjectWriter, T: Json>(
-    out: &mut W,
-    key: &str,
-    value: &Option<T>,
-) -> Result<(), AllocError>
-    ensures ok { OnOk result (W.state out.new
-        ≡ W.step (key.now, Some (or_null T.written value.now)) (W.state out.old)) }
-    ensures means { OnOk result (IfSome value.now (λ v. T.meant (T.written v) v)) }
-{
-    match value {
-        None => out.write_null(key),
-        Some(value) => out.write_member(key, value),
-    }
 }
 
 /// An object that becomes a tree.

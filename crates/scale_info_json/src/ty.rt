@@ -25,7 +25,7 @@ ghost use Rattle.scale_info_json_trees.specs.DefinitionTrees.{type_def_rows, Has
 ghost use Rattle.scale_info_json_trees.specs.DefinitionTrees.{MeansTypeDef};
 
 use crate::error::JsonError;
-use crate::members::{Object, ObjectWriter, write_or_null, write_unless_empty, write_unless_none};
+use crate::members::{Object, ObjectWriter};
 use crate::read_members::{list_or_empty, require_object, required, value_or_none};
 use crate::tree::Json;
 use json::Writer;
@@ -72,9 +72,9 @@ impl Object for Description<PortableForm> {
 
     fn write_members<W: ObjectWriter>(&self, out: &mut W) -> Result<(), AllocError> {
         out.write_member("def", &self.type_def)?;
-        write_unless_empty(out, "docs", &self.docs)?;
-        write_unless_empty(out, "params", &self.type_params)?;
-        write_unless_empty(out, "path", &self.path.segments)
+        out.write_unless_empty("docs", &self.docs)?;
+        out.write_unless_empty("params", &self.type_params)?;
+        out.write_unless_empty("path", &self.path.segments)
     }
 
     fn read_members(alloc: Global, tree: &Value) -> Result<Description<PortableForm>, JsonError> {
@@ -103,7 +103,7 @@ impl Object for TypeParameter<PortableForm> {
 
     fn write_members<W: ObjectWriter>(&self, out: &mut W) -> Result<(), AllocError> {
         out.write_member("name", &self.name)?;
-        write_or_null(out, "type", &self.ty)
+        out.write_or_null("type", &self.ty)
     }
 
     fn read_members(alloc: Global, tree: &Value) -> Result<TypeParameter<PortableForm>, JsonError> {
@@ -124,7 +124,7 @@ impl Object for TypeDefComposite<PortableForm> {
     ghost meant = { MeansComposite };
 
     fn write_members<W: ObjectWriter>(&self, out: &mut W) -> Result<(), AllocError> {
-        write_unless_empty(out, "fields", &self.fields)
+        out.write_unless_empty("fields", &self.fields)
     }
 
     fn read_members(
@@ -147,7 +147,7 @@ impl Object for TypeDefVariant<PortableForm> {
     ghost meant = { MeansVariantType };
 
     fn write_members<W: ObjectWriter>(&self, out: &mut W) -> Result<(), AllocError> {
-        write_unless_empty(out, "variants", &self.variants)
+        out.write_unless_empty("variants", &self.variants)
     }
 
     fn read_members(
@@ -412,10 +412,10 @@ impl Object for Field<PortableForm> {
     ghost meant = { MeansField };
 
     fn write_members<W: ObjectWriter>(&self, out: &mut W) -> Result<(), AllocError> {
-        write_unless_empty(out, "docs", &self.docs)?;
-        write_unless_none(out, "name", &self.name)?;
+        out.write_unless_empty("docs", &self.docs)?;
+        out.write_unless_none("name", &self.name)?;
         out.write_member("type", &self.ty)?;
-        write_unless_none(out, "typeName", &self.type_name)
+        out.write_unless_none("typeName", &self.type_name)
     }
 
     fn read_members(alloc: Global, tree: &Value) -> Result<Field<PortableForm>, JsonError> {
@@ -443,8 +443,8 @@ impl Object for Variant<PortableForm> {
     ghost meant = { MeansVariant };
 
     fn write_members<W: ObjectWriter>(&self, out: &mut W) -> Result<(), AllocError> {
-        write_unless_empty(out, "docs", &self.docs)?;
-        write_unless_empty(out, "fields", &self.fields)?;
+        out.write_unless_empty("docs", &self.docs)?;
+        out.write_unless_empty("fields", &self.fields)?;
         out.write_member("index", &self.index)?;
         out.write_member("name", &self.name)
     }

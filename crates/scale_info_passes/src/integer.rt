@@ -5,37 +5,25 @@ ghost use Rattle.scale_info_bytes.specs.IntegerLaws.{u8_law, u32_law};
 ghost use Rattle.scale_info_bytes.specs.Integers.{EncodesCompact, EncodesU8, EncodesU32};
 ghost use Rattle.scale_info_bytes.specs.PartLaws.{through_law};
 
-use crate::pass::{Pass, Visitor, visit_verbatim};
+use crate::pass::{Pass, Verbatim, Visitor, visit_verbatim};
 use scale_info_bytes::integer::{decode_compact, decode_u8, decode_u32};
 use scale_info_type_ids::impls::Compact;
 
-impl Pass for u8 {
+impl Verbatim for u8 {
     ghost encodes = { EncodesU8 };
 
-    ghost references_of = { λ _. [] };
-
-    ghost map_references = { λ _ v. v };
-
-    fn pass<'a, V: Visitor>(input: &'a [u8], visitor: &mut V) -> Option<&'a [u8]> {
-        let (_, rest) = decode_u8(input)?;
-        visit_verbatim(input, rest, visitor);
-        Some(rest)
+    fn decode(input: &[u8]) -> Option<(u8, &[u8])> {
+        decode_u8(input)
     }
 
     ghost law = { u8_law };
 }
 
-impl Pass for u32 {
+impl Verbatim for u32 {
     ghost encodes = { EncodesU32 };
 
-    ghost references_of = { λ _. [] };
-
-    ghost map_references = { λ _ v. v };
-
-    fn pass<'a, V: Visitor>(input: &'a [u8], visitor: &mut V) -> Option<&'a [u8]> {
-        let (_, rest) = decode_u32(input)?;
-        visit_verbatim(input, rest, visitor);
-        Some(rest)
+    fn decode(input: &[u8]) -> Option<(u32, &[u8])> {
+        decode_u32(input)
     }
 
     ghost law = { u32_law };

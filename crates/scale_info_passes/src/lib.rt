@@ -13,5 +13,5 @@ mod option;
 mod pair;
 pub mod pass;
 mod text;
-mod ty;
+pub mod ty;
 pub mod visitors;

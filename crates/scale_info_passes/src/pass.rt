@@ -1,7 +1,7 @@
 //! The trait of a pass, and that of a visitor.
 ghost use Rattle.std.specs.Prelude.{◌≡◌, ◌∷◌, ◌++◌, [], List, ℕ, IfSome, IfNone};
 ghost use Rattle.scale_info_types.specs.Portable.{Id};
-ghost use Rattle.scale_info_bytes.specs.Encodings.{HasNoPrefix, IsEncoding};
+ghost use Rattle.scale_info_bytes.specs.Encodings.{HasNoPrefix, HasPrefix, IsEncoding};
 ghost use Rattle.scale_info_passes.specs.Pieces.{Piece, verbatim, reference, HasVisitedSome};
 
 use scale_info_identities::symbol::UntrackedSymbol;
@@ -66,4 +66,40 @@ pub(crate) fn visit_verbatim<V: Visitor>(input: &[u8], rest: &[u8], visitor: &mu
         → V.visited (verbatim bytes ∷ []) visitor.old visitor.new }
 {
     visitor.verbatim(&input[..input.len().saturating_sub(rest.len())])
+}
+
+/// A value that is decoded to be gone over, and that holds no reference.
+///
+/// An implementor states what encodes a value, and owes the contract of `decode` and a proof of
+/// `law`.
+pub trait Verbatim: Drop {
+    /// The whole list of bytes encodes the value.
+    ghost encodes: { Self → List ℕ → Type 0 };
+
+    /// The value at the start of the input, and the rest.
+    ///
+    /// None, if no prefix of the input encodes a value.
+    fn decode(input: &[u8]) -> Option<(Self, &[u8])>
+        ensures some { IfSome result (λ found. HasPrefix (encodes found.0) input.now found.1.now) }
+        ensures none { IfNone result (HasNoPrefix encodes input.now) };
+
+    /// A value has one encoding at most, no encoding is a proper prefix of another, and an encoding
+    /// is made of bytes.
+    ghost law: { IsEncoding encodes };
+}
+
+impl<T: Verbatim> Pass for T {
+    ghost encodes = { T.encodes };
+
+    ghost references_of = { λ _. [] };
+
+    ghost map_references = { λ _ v. v };
+
+    fn pass<'a, V: Visitor>(input: &'a [u8], visitor: &mut V) -> Option<&'a [u8]> {
+        let (_, rest) = T::decode(input)?;
+        visit_verbatim(input, rest, visitor);
+        Some(rest)
+    }
+
+    ghost law = { T.law };
 }

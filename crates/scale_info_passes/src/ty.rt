@@ -14,7 +14,7 @@ ghost use Rattle.scale_info_grammar.specs.TyLaws.{path_law, portable_type_law, p
 ghost use Rattle.scale_info_grammar.specs.TyLaws.{type_def_law, variant_law};
 ghost use Rattle.scale_info_passes.specs.Pieces.{HasVisitedSome};
 
-use crate::pass::{Pass, Visitor, visit_verbatim};
+use crate::pass::{Pass, Verbatim, Visitor, visit_verbatim};
 use scale_info_collections::items::Items;
 use scale_info_collections::text::Text;
 use scale_info_grammar::decode_primitive;
@@ -85,24 +85,18 @@ impl Pass for Variant<PortableForm> {
     ghost law = { variant_law };
 }
 
-impl Pass for TypeDefPrimitive {
+impl Verbatim for TypeDefPrimitive {
     ghost encodes = { EncodesPrimitive };
 
-    ghost references_of = { λ _. [] };
-
-    ghost map_references = { λ _ v. v };
-
-    fn pass<'a, V: Visitor>(input: &'a [u8], visitor: &mut V) -> Option<&'a [u8]> {
-        let (_, rest) = decode_primitive(input)?;
-        visit_verbatim(input, rest, visitor);
-        Some(rest)
+    fn decode(input: &[u8]) -> Option<(TypeDefPrimitive, &[u8])> {
+        decode_primitive(input)
     }
 
     ghost law = { primitive_law };
 }
 
 /// Goes over the parts of the definition with this index.
-#[tactic(auto, using(crate::proofs::Definitions::not_gone_over))]
+#[tactic(auto, using(crate::proofs::Definitions::gone_over))]
 fn pass_parts<'a, V: Visitor>(index: u8, input: &'a [u8], visitor: &mut V) -> Option<&'a [u8]>
     ensures some { IfSome result (λ rest.
         HasVisitedSome (EncodesTypeDefWithIndex index)
@@ -144,6 +138,15 @@ impl Pass for TypeDef<PortableForm> {
     ghost law = { type_def_law };
 }
 
+/// The parts of a description, in the order of its encoding.
+pub type DescriptionParts = (
+    Path<PortableForm>,
+    (
+        Items<TypeParameter<PortableForm>>,
+        (TypeDef<PortableForm>, Items<Text>),
+    ),
+);
+
 impl Pass for Description<PortableForm> {
     ghost encodes = { EncodesDescription };
 
@@ -152,13 +155,7 @@ impl Pass for Description<PortableForm> {
     ghost map_references = { λ f v. map_description f (λ s. s) v };
 
     fn pass<'a, V: Visitor>(input: &'a [u8], visitor: &mut V) -> Option<&'a [u8]> {
-        <(
-            Path<PortableForm>,
-            (
-                Items<TypeParameter<PortableForm>>,
-                (TypeDef<PortableForm>, Items<Text>),
-            ),
-        )>::pass(input, visitor)
+        DescriptionParts::pass(input, visitor)
     }
 
     ghost law = { description_law };

@@ -14,15 +14,15 @@ use std::alloc::Global;
 /// A table's bytes, and where its entries are in them.
 ///
 /// Pruning a table reads all of it first. Here that is done once; then each pruning takes time for
-/// what it keeps, and for four bytes of each entry, which [`append_pruned_again`] asks for once.
+/// what it keeps, and for four bytes of each entry, which [`append_pruned`] asks for once.
 ///
 /// ```text
 /// let mut table = IndexedTable::of(alloc, &bytes)?;
-/// table.append_pruned_again(alloc, &[0], &mut out)?;
-/// table.append_pruned_again(alloc, &[7, 9], &mut other)?;
+/// table.append_pruned(alloc, &[0], &mut out)?;
+/// table.append_pruned(alloc, &[7, 9], &mut other)?;
 /// ```
 ///
-/// [`append_pruned_again`]: IndexedTable::append_pruned_again
+/// [`append_pruned`]: IndexedTable::append_pruned
 #[derive(Drop)]
 pub struct IndexedTable<'a> {
     /// How many entries there are.
@@ -77,7 +77,8 @@ impl<'a> IndexedTable<'a> {
     }
 
     /// Prunes the table: appends the table of what the given ids reach, as [`append_pruned`] does
-    /// of the bytes.
+    /// of the bytes, in the room of the last such call. So each but the first takes time for what
+    /// is kept, now and by the last one, however many entries there are.
     ///
     /// Errors: `NoSuchType`, for the first given id that is no index; `Retain(Dangling)`, where an
     /// id is reached that is no index; `Memory`, where an allocation failed. On an Err the output
@@ -85,31 +86,6 @@ impl<'a> IndexedTable<'a> {
     ///
     /// [`append_pruned`]: crate::prune::append_pruned
     pub fn append_pruned(
-        &self,
-        alloc: Global,
-        ids: &[u32],
-        out: &mut Vec<u8>,
-    ) -> Result<(), PruneError>
-        requires { (input : List ℕ) × IsIndexed input self.now }
-        ensures ok { OnOk result ((input : List ℕ) → IsIndexed input self.now → (order : List ℕ)
-            × IsPrunedEncoding input ids.now order out.old.items out.new.items) }
-        ensures err { OnErr result (out.new.items ≡ out.old.items) }
-        ensures cause { IfErr result (λ error. (input : List ℕ) → IsIndexed input self.now
-            → IsPruneError input ids.now error) }
-    {
-        let found = self.number(alloc, ids, None)?;
-        append_kept(alloc, self.body, &self.index, &found, out)?;
-        Ok(())
-    }
-
-    /// Prunes the table as [`append_pruned`] does, in the room of the last such call: so each but
-    /// the first takes time for what is kept, now and by the last one, however many entries there
-    /// are.
-    ///
-    /// Errors: as those of [`append_pruned`].
-    ///
-    /// [`append_pruned`]: IndexedTable::append_pruned
-    pub fn append_pruned_again(
         &mut self,
         alloc: Global,
         ids: &[u32],

@@ -99,7 +99,7 @@ pub fn append_pruned(
     ensures err { OnErr result (out.new.items ≡ out.old.items) }
     ensures cause { IfErr result (IsPruneError input.now ids.now) }
 {
-    let table = IndexedTable::of(alloc, input)?;
+    let mut table = IndexedTable::of(alloc, input)?;
     table.append_pruned(alloc, ids, out)
 }
 

@@ -5,6 +5,7 @@ pub mod Decoded
 pub mod Errors
 pub mod InOrder
 pub mod Integers
+pub mod Ranks
 pub mod Steps
 pub mod Texts
 pub mod Unfolded

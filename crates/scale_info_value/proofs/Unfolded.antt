@@ -16,7 +16,7 @@ use Rattle.scale_info_walk.specs.TypeSystems.{entry_of}
 use Rattle.scale_info_tables.specs.declared.portable.PortableRegistry.{PortableRegistry}
 use Rattle.scale_info_value.specs.Outcomes.{failed, too_deep}
 use Rattle.scale_info_value.specs.ValueDefinitions.{value_by, compact_by}
-use Rattle.scale_info_value.specs.Readings.{by_type, missing, compact_within, value_within, reading}
+use Rattle.scale_info_value.specs.Readings.{by_type, missing, compact_at, value_at, compact_within, value_within, reading}
 use Rattle.scale_info_types.proofs.ShapeAndReferences.{shape_and_references}
 
 -- references that unfold alike are decoded alike, one by one
@@ -65,7 +65,7 @@ pub compact_unfolded :
     (left : ℕ) (table other : PortableRegistry) (m n : ℕ)
     → unfold_to left (system_of table) m ≡ unfold_to left (system_of other) n
     → compact_within left table m ≡ compact_within left other n
-unfolding compact_within
+unfolding compact_within compact_at
 compact_unfolded zero table other m n h = refl
 compact_unfolded (suc left) table other m n h =
     let e = same_definitions missing compact_by
@@ -112,7 +112,7 @@ pub value_unfolded :
     (left : ℕ) (table other : PortableRegistry) (m n : ℕ)
     → unfold_to (suc left) (system_of table) m ≡ unfold_to (suc left) (system_of other) n
     → value_within left table m ≡ value_within left other n
-unfolding value_within
+unfolding value_within value_at compact_within
 value_unfolded zero table other m n h = refl
 value_unfolded (suc zero) table other m n h =
     let e = same_definitions missing value_by
@@ -162,7 +162,7 @@ by_levels :
     (table other : PortableRegistry) (id index left more : ℕ) → ((k : ℕ) → left ≡ suc k → more ≡ suc (suc k))
     → unfold_to more (system_of table) id ≡ unfold_to more (system_of other) index
     → (input : List ℕ) → value_within left table id input ≡ value_within left other index input
-unfolding value_within
+unfolding value_within value_at
 by_levels table other id index zero more e h input = refl
 by_levels table other id index (suc k) more e h input =
     let same = value_unfolded (suc k) table other id index (subst (λ n. unfold_to n (system_of table) id

@@ -6,3 +6,4 @@ pub mod Outcomes
 pub mod PrimitiveValues
 pub mod Readings
 pub mod BuiltValues
+pub mod Equalities

@@ -2,7 +2,7 @@
 use Rattle.std.specs.Prelude.{ℕ, List, [], ◌∷◌, codes, map}
 use Rattle.scale_info_types.specs.TypeExamples.{id, plain}
 use Rattle.scale_info_types.specs.TypeExamples.{example_field, example_tuple_field, example_variant}
-use Rattle.scale_info_types.specs.Portable.{TypeDef}
+use Rattle.scale_info_types.specs.Portable.{TypeDef, Variant}
 use Rattle.scale_info_types.specs.declared.ty.TypeDef.TheVariants as def
 use Rattle.scale_info_primitives.specs.declared.primitive.TypeDefPrimitive.{TypeDefPrimitive}
 use Rattle.scale_info_primitives.specs.declared.primitive.TypeDefPrimitive.TheVariants as kind
@@ -11,6 +11,10 @@ use Rattle.scale_info_tables.specs.declared.portable.PortableRegistry.{PortableR
 -- the table of these definitions; its `id` fields are all 0, since nothing goes by them
 abbrev pub table_of : List TypeDef → PortableRegistry
 table_of ds = record { types = map (λ d. record { id = 0; ty = plain d }) ds }
+
+-- an enum of these variants, and the definitions of their fields
+abbrev pub enum_of : List Variant → List TypeDef → PortableRegistry
+enum_of variants ds = table_of (def.Variant (record { variants = variants }) ∷ ds)
 
 -- a list of `u32`, and `u32`
 abbrev pub list_of_u32 : PortableRegistry
@@ -34,14 +38,11 @@ named_fields =
 -- and `bool`
 abbrev pub equal_indices : PortableRegistry
 equal_indices =
-    table_of
-    (def.Variant (record {
-      variants =
-          example_variant (codes "A") 3 []
-          ∷ example_variant (codes "B") 3 (example_tuple_field 1 ∷ [])
-          ∷ [];
-    })
-    ∷ def.Primitive kind.Bool ∷ [])
+    enum_of
+    (example_variant (codes "A") 3 []
+    ∷ example_variant (codes "B") 3 (example_tuple_field 1 ∷ [])
+    ∷ [])
+    (def.Primitive kind.Bool ∷ [])
 
 -- a compact integer of a primitive
 abbrev pub compact_of : TypeDefPrimitive → PortableRegistry

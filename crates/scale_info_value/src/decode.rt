@@ -446,10 +446,7 @@ fn list_of_two(alloc: Global, key: Dyn, value: Dyn) -> Result<Dyn, ValueError>
     ensures ok { IfOk result (λ pair. pair ≡ dyn.List (key ∷ value ∷ [])) }
     ensures err { IfErr result (λ e. e ≡ error.Memory) }
 {
-    let mut pair = Items::with_capacity(alloc, 2)?;
-    pair.push(key)?;
-    pair.push(value)?;
-    Ok(Dyn::List(pair))
+    Ok(Dyn::list(vec![in alloc; key, value]?))
 }
 
 /// A key and a value, and the rest.

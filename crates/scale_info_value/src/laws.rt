@@ -1,6 +1,6 @@
 //! Laws of the values that are decoded by a table. A law does nothing when it runs: its contract is
 //! the law.
-ghost use Rattle.std.specs.Prelude.{◌≡◌, ◌↔◌, ◌-◌, ◌++◌, IsTrue, Some, List, ℕ, map, slice_get};
+ghost use Rattle.std.specs.Prelude.{◌≡◌, ◌-◌, ◌++◌, IsTrue, Some, List, ℕ, map, slice_get};
 ghost use Rattle.std.specs.List.{AllByRecursion};
 ghost use Rattle.scale_info_bytes.specs.Encodings.{HasPrefix, IsByte};
 ghost use Rattle.scale_info_bytes.specs.Integers.{EncodesCompact};
@@ -10,10 +10,8 @@ ghost use Rattle.scale_info_numberings.specs.Unfoldings.{unfold_to};
 ghost use Rattle.scale_info_tables.specs.TableSystems.{system_of};
 ghost use Rattle.scale_info_walk.specs.TypeSystems.{entry_of};
 ghost use Rattle.scale_info_tables.specs.declared.portable.PortableRegistry.{PortableRegistry};
-ghost use Rattle.scale_info_value.specs.declared.value.Dyn as dyns;
 ghost use Rattle.scale_info_value.specs.declared.value.Dyn.TheVariants as dyn;
-ghost use Rattle.scale_info_value.specs.declared.value.Failure as failures;
-ghost use Rattle.scale_info_value.specs.declared.value.ValueError as value_errors;
+ghost use Rattle.scale_info_value.specs.Equalities.{DecidesValues};
 ghost use Rattle.scale_info_value.specs.ValueDefinitions.{text};
 ghost use Rattle.scale_info_value.specs.IntegerDecoders.{count};
 ghost use Rattle.scale_info_value.specs.Outcomes.{decoded};
@@ -74,7 +72,7 @@ pub fn texts_as_in_tables()
 
 /// Decoded values are equal exactly where they are one value.
 pub fn equal_values()
-    ensures { (a b : dyns.Dyn) → IsTrue (⟦<Dyn as PartialEq>⟧.eq a b) ↔ (a ≡ b) }
+    ensures { DecidesValues ⟦<Dyn as PartialEq>⟧.eq }
 {
     equals_itself::<Dyn>()
 }
@@ -86,12 +84,10 @@ fn equals_itself<T: Eq>()
 
 /// Errors of decoding values are equal exactly where they are one value.
 pub fn equal_value_errors()
-    ensures { (a b : value_errors.ValueError)
-        → IsTrue (⟦<ValueError as PartialEq>⟧.eq a b) ↔ (a ≡ b) }
+    ensures { DecidesValues ⟦<ValueError as PartialEq>⟧.eq }
 {}
 
 /// Failures of decoding values are equal exactly where they are one value.
 pub fn equal_failures()
-    ensures { (a b : failures.Failure)
-        → IsTrue (⟦<Failure as PartialEq>⟧.eq a b) ↔ (a ≡ b) }
+    ensures { DecidesValues ⟦<Failure as PartialEq>⟧.eq }
 {}

@@ -1,7 +1,6 @@
 pub mod Numbers
 pub mod Trees
 pub mod SoFar
-pub mod Steps
 pub mod OneLevel
 pub mod Shown
 pub mod ShownSingle

@@ -17,15 +17,15 @@ use Rattle.scale_info_primitives.specs.declared.primitive.TypeDefPrimitive.TheVa
 use Rattle.scale_info_tables.specs.declared.portable.PortableRegistry.{PortableRegistry}
 use Rattle.scale_info_value.specs.declared.value.Dyn.{Dyn}
 use Rattle.scale_info_value.specs.declared.value.Dyn.TheVariants as dyn
-use Rattle.scale_info_value.specs.Readings.{type_at}
+use Rattle.scale_info_value.specs.Readings.{type_at, value_at}
 use Rattle.scale_info_visit.specs.Events.{definition_at, is_byte, names}
 use Rattle.scale_info_value_json.specs.Takers.{taken, refused, mismatch, too_deep, taken_map, if_found}
 use Rattle.scale_info_value_json.specs.TreeParts.{bytes_in, list_in, items_in, is_object_of, without_prefix}
 use Rattle.scale_info_value_json.specs.DefinitionTakers.{Takers, value_by, each, counted}
-use Rattle.scale_info_value_json.specs.Takings.{value_within, part_within, items_within, is_count_of}
+use Rattle.scale_info_value_json.specs.Takings.{takings, part_within, items_within, is_count_of}
 use Rattle.scale_info_value_json.specs.Takings.{fields_within, object_fields_within, array_fields_within}
+use Rattle.scale_info_value.proofs.Steps.{levels_end, levels_known, both_at}
 use Rattle.scale_info_value_json.proofs.SoFar.{then_more}
-use Rattle.scale_info_value_json.proofs.Steps.{nothing_left, type_known}
 
 -- ---- bytes
 
@@ -41,15 +41,16 @@ byte_by part _ n is h = cc
 -- by a type
 pub byte_taken :
     (left : ℕ) (table : PortableRegistry) (id n : ℕ) → 1 ≤ left → is_byte (definition_at table id) ≡ true → n < 256
-    → value_within left table id (number (unsigned n)) ≡ taken (dyn.Unsigned n)
+    → value_at takings left table id (number (unsigned n)) ≡ taken (dyn.Unsigned n)
 byte_taken left table id n level is h = by_type (type_at table id) refl is
   where
     by_type :
         (o : Option Description) → type_at table id ≡ o → is_byte (option_map (λ d. d.type_def) o) ≡ true
-        → value_within left table id (number (unsigned n)) ≡ taken (dyn.Unsigned n)
+        → value_at takings left table id (number (unsigned n)) ≡ taken (dyn.Unsigned n)
     by_type None e f = cc
     by_type (Some d) e f =
-        (type_known left table id (number (unsigned n)) d level e).0 ∙ byte_by (part_within left table) d.type_def n f h
+        (both_at (levels_known takings left table id d.type_def level (ap (option_map (λ t. t.type_def)) e)) (number (unsigned n))).0
+        ∙ byte_by (part_within left table) d.type_def n f h
 
 -- bytes that a text writes are bytes
 written_bytes : (t bytes : List ℕ) → bytes_in t ≡ Some bytes → IsBytes bytes
@@ -65,10 +66,10 @@ written_bytes t bytes e = by_result (decode_of (without_prefix t)) refl e
 each_byte :
     (left : ℕ) (table : PortableRegistry) (id : ℕ) (bytes : List ℕ) → 1 ≤ left → is_byte (definition_at table id) ≡ true
     → IsBytes bytes
-    → each (value_within left table id) (map (λ n. number (unsigned n)) bytes) ≡ taken (map dyn.Unsigned bytes)
+    → each (value_at takings left table id) (map (λ n. number (unsigned n)) bytes) ≡ taken (map dyn.Unsigned bytes)
 each_byte left table id [] level is all = refl
 each_byte left table id (n ∷ bytes) level is all =
-    ap (λ o. then_more o (each (value_within left table id) (map (λ n. number (unsigned n)) bytes)))
+    ap (λ o. then_more o (each (value_at takings left table id) (map (λ n. number (unsigned n)) bytes)))
     (byte_taken left table id n level is (all 0))
     ∙ ap (taken_map (λ vs. dyn.Unsigned n ∷ vs)) (each_byte left table id bytes level is (λ i. all (suc i)))
 
@@ -78,30 +79,30 @@ module _ (left : ℕ) (table : PortableRegistry) (ty : Id) (count : Option ℕ) 
   pub bytes_are :
       (bytes : List ℕ) → bytes_in text ≡ Some bytes
       → items_within left table ty count (string text)
-      ≡ taken_map dyn.List (counted (is_count_of count) (value_within (left - 1) table ty.id) (map (λ n. number (unsigned n)) bytes))
+      ≡ taken_map dyn.List (counted (is_count_of count) (value_at takings (left - 1) table ty.id) (map (λ n. number (unsigned n)) bytes))
   bytes_are bytes e =
-      ap (λ t. taken_map dyn.List (if_found (list_in t (string text)) (counted (is_count_of count) (value_within (left - 1) table ty.id))))
+      ap (λ t. taken_map dyn.List (if_found (list_in t (string text)) (counted (is_count_of count) (value_at takings (left - 1) table ty.id))))
       of_bytes
       ∙ ap (λ o. taken_map dyn.List (if_found (option_map (map (λ n. number (unsigned n))) o)
-      (counted (is_count_of count) (value_within (left - 1) table ty.id)))) e
+      (counted (is_count_of count) (value_at takings (left - 1) table ty.id)))) e
 
   -- by the test of how many there are
   bytes_tested :
       (bytes : List ℕ) (test : Bool) → bytes_in text ≡ Some bytes → is_count_of count (length bytes) ≡ test
       → items_within left table ty count (string text)
       ≡ taken_map dyn.List
-      (if test then each (value_within (left - 1) table ty.id) (map (λ n. number (unsigned n)) bytes) else refused mismatch)
+      (if test then each (value_at takings (left - 1) table ty.id) (map (λ n. number (unsigned n)) bytes) else refused mismatch)
   bytes_tested bytes test e is =
       bytes_are bytes e
       ∙ ap (λ (t : Bool). taken_map dyn.List
-      (if t then each (value_within (left - 1) table ty.id) (map (λ n. number (unsigned n)) bytes) else refused mismatch))
+      (if t then each (value_at takings (left - 1) table ty.id) (map (λ n. number (unsigned n)) bytes) else refused mismatch))
       (ap (is_count_of count) (length-map bytes (λ n. number (unsigned n))) ∙ is)
 
   -- as many as there are to be
   pub bytes_counted :
       (bytes : List ℕ) → bytes_in text ≡ Some bytes → is_count_of count (length bytes) ≡ true
       → items_within left table ty count (string text)
-      ≡ taken_map dyn.List (each (value_within (left - 1) table ty.id) (map (λ n. number (unsigned n)) bytes))
+      ≡ taken_map dyn.List (each (value_at takings (left - 1) table ty.id) (map (λ n. number (unsigned n)) bytes))
   bytes_counted bytes e fits = bytes_tested bytes true e fits
 
   -- another number of bytes is none of the type
@@ -117,8 +118,8 @@ module _ (left : ℕ) (table : PortableRegistry) (ty : Id) (count : Option ℕ) 
   bytes_too_deep [] e fits last some = absurd (omega arith)
   bytes_too_deep (n ∷ bytes) e fits last some =
       bytes_counted (n ∷ bytes) e fits
-      ∙ ap (λ o. taken_map dyn.List (then_more o (each (value_within (left - 1) table ty.id) (map (λ n. number (unsigned n)) bytes))))
-      (nothing_left (left - 1) table ty.id (number (unsigned n)) (omega arith)).0
+      ∙ ap (λ o. taken_map dyn.List (then_more o (each (value_at takings (left - 1) table ty.id) (map (λ n. number (unsigned n)) bytes))))
+      (both_at (levels_end takings (left - 1) table ty.id (omega arith)) (number (unsigned n))).0
 
   -- else they are taken
   pub bytes_taken :

@@ -28,19 +28,19 @@ pub record IsShown {A : Type 0} (ts : List Token) (take : Taker A) (value : A) :
   pub reads : of_json json ≡ Some tree
   pub is : take tree ≡ taken value
 
+-- the tokens of this JSON, which reads as this tree
+pub shown_as :
+    {A : Type 0} (ts : List Token) (take : Taker A) (value : A) (j : Json) (d : Data)
+    → ts ≡ json_tokens j → HasNumbers j → of_json j ≡ Some d → take d ≡ taken value → IsShown ts take value
+shown_as ts take value j d prints numbers reads is =
+    record { json = j; tree = d; prints = prints; numbers = numbers; reads = reads; is = is }
+
 -- the tokens of what is taken alike
 pub shown_alike :
     {A : Type 0} (ts us : List Token) (take other : Taker A) (value : A) → us ≡ ts → ((tree : Data) → other tree ≡ take tree)
     → IsShown ts take value → IsShown us other value
 shown_alike ts us take other value e same s =
-    record {
-      json = s.json;
-      tree = s.tree;
-      prints = e ∙ s.prints;
-      numbers = s.numbers;
-      reads = s.reads;
-      is = same s.tree ∙ s.is;
-    }
+    shown_as us other value s.json s.tree (e ∙ s.prints) s.numbers s.reads (same s.tree ∙ s.is)
 
 -- the tokens are those of the items of an array, from which the values are taken
 pub record AreShown {A : Type 0} (ts : List Token) (take : List Data → Taken (List A)) (values : List A) : Type 0 where
@@ -85,14 +85,8 @@ pub array_shown :
     → whole (array trees) ≡ taken value)
     → AreShown ts take values → IsShown (begin_array ∷ (ts ++ end_array ∷ [])) whole value
 array_shown ts take values whole value by s =
-    record {
-      json = json.array s.items;
-      tree = array s.trees;
-      prints = ap (λ us. begin_array ∷ us) s.prints;
-      numbers = s.numbers;
-      reads = ap (option_map array) s.reads;
-      is = by s.trees s.is s.count;
-    }
+    shown_as _ whole value (json.array s.items) (array s.trees) (ap (λ us. begin_array ∷ us) s.prints) s.numbers
+    (ap (option_map array) s.reads) (by s.trees s.is s.count)
 
 -- ---- members
 
@@ -207,11 +201,5 @@ pub object_shown :
     → whole (object all) ≡ taken value)
     → AreMembersShown ts no_members fields values → IsShown (begin_object ∷ (ts ++ end_object ∷ [])) whole value
 object_shown ts fields values whole value by s =
-    record {
-      json = json.object s.members;
-      tree = object s.all;
-      prints = ap (λ us. begin_object ∷ us) s.prints;
-      numbers = s.numbers;
-      reads = ap (option_map object) s.reads;
-      is = by s.all s.is (s.count (λ q h. refl) ∙ omega arith);
-    }
+    shown_as _ whole value (json.object s.members) (object s.all) (ap (λ us. begin_object ∷ us) s.prints) s.numbers
+    (ap (option_map object) s.reads) (by s.all s.is (s.count (λ q h. refl) ∙ omega arith))

@@ -8,7 +8,7 @@ use Rattle.scale_info_types.specs.TypeExamples.{example_field, example_variant}
 use Rattle.scale_info_types.specs.declared.ty.TypeDef.TheVariants as def
 use Rattle.scale_info_primitives.specs.declared.primitive.TypeDefPrimitive.TheVariants as kind
 use Rattle.scale_info_tables.specs.declared.portable.PortableRegistry.{PortableRegistry}
-use Rattle.scale_info_value.specs.ValueExamples.{table_of}
+use Rattle.scale_info_value.specs.ValueExamples.{table_of, enum_of}
 
 -- a list of `u8`, and `u8`
 abbrev pub list_of_u8 : PortableRegistry
@@ -19,14 +19,11 @@ list_of_u8 =
 -- `bool`; and `bool`
 abbrev pub shared_names : PortableRegistry
 shared_names =
-    table_of
-    (def.Variant (record {
-      variants =
-          example_variant (codes "A") 3 []
-          ∷ example_variant (codes "A") 4 (example_field (codes "n") 1 ∷ [])
-          ∷ [];
-    })
-    ∷ def.Primitive kind.Bool ∷ [])
+    enum_of
+    (example_variant (codes "A") 3 []
+    ∷ example_variant (codes "A") 4 (example_field (codes "n") 1 ∷ [])
+    ∷ [])
+    (def.Primitive kind.Bool ∷ [])
 
 -- a struct of two fields `a`, which are `u8`, and `u8`
 abbrev pub one_name_twice : PortableRegistry

@@ -1,9 +1,10 @@
 //! Compact integers, by the type that they are compact forms of.
 ghost use Rattle.std.specs.Prelude.{◌≡◌, ◌≤◌, IfOk, IfErr};
 ghost use Rattle.serde_json.specs.View.{view};
+ghost use Rattle.scale_info_value.specs.Readings.{compact_at, compact_defined_at};
 ghost use Rattle.scale_info_value_json.specs.Takers.{IsErrorOf, taken};
 ghost use Rattle.scale_info_value_json.specs.DefinitionTakers.{compact_primitive};
-ghost use Rattle.scale_info_value_json.specs.Takings.{compact_within, compact_definition_within};
+ghost use Rattle.scale_info_value_json.specs.Takings.{takings};
 
 use crate::definition::definition_of;
 use crate::error::ValueJsonError;
@@ -38,8 +39,8 @@ pub fn compact_within(
     tree: &Value,
 ) -> Result<Dyn, ValueJsonError>
     ensures ok { IfOk result
-        (λ value. compact_within left table.now id (view tree.now) ≡ taken value) }
-    ensures err { IfErr result (IsErrorOf (compact_within left table.now id (view tree.now))) }
+        (λ value. compact_at takings left table.now id (view tree.now) ≡ taken value) }
+    ensures err { IfErr result (IsErrorOf (compact_at takings left table.now id (view tree.now))) }
 {
     let definition = definition_of(table, id, left)?;
     compact_by(table, definition, left, tree)
@@ -55,9 +56,9 @@ fn compact_by(
 ) -> Result<Dyn, ValueJsonError>
     requires { 1 ≤ left }
     ensures ok { IfOk result (λ value.
-        compact_definition_within left table.now definition.now (view tree.now) ≡ taken value) }
+        compact_defined_at takings left table.now definition.now (view tree.now) ≡ taken value) }
     ensures err { IfErr result
-        (IsErrorOf (compact_definition_within left table.now definition.now (view tree.now))) }
+        (IsErrorOf (compact_defined_at takings left table.now definition.now (view tree.now))) }
 {
     match definition {
         TypeDef::Composite(composite) => match composite.fields.as_slice() {

@@ -2,9 +2,10 @@
 ghost use Rattle.std.specs.Prelude.{◌≡◌, ◌≤◌, IfOk, IfErr};
 ghost use Rattle.serde_json.specs.Data.{Data};
 ghost use Rattle.scale_info_visit.specs.Events.{definition_at, is_byte};
+ghost use Rattle.scale_info_value.specs.Readings.{value_at, defined_at};
+ghost use Rattle.scale_info_value.specs.Readings.{compact_at, compact_defined_at};
 ghost use Rattle.scale_info_value_json.specs.Takers.{refused};
-ghost use Rattle.scale_info_value_json.specs.Takings.{value_within, compact_within};
-ghost use Rattle.scale_info_value_json.specs.Takings.{definition_within, compact_definition_within};
+ghost use Rattle.scale_info_value_json.specs.Takings.{takings};
 
 use crate::error::TreeRefusal;
 use scale_info_tables::portable::PortableRegistry;
@@ -22,13 +23,13 @@ pub fn definition_of(
 ) -> Result<&TypeDef<PortableForm>, TreeRefusal>
     ensures level { IfOk result (λ _. 1 ≤ left) }
     ensures known { IfOk result (λ found. (tree : Data)
-        → (value_within left table.now id tree
-        ≡ definition_within left table.now found.now tree)
-        × (compact_within left table.now id tree
-        ≡ compact_definition_within left table.now found.now tree)) }
+        → (value_at takings left table.now id tree
+        ≡ defined_at takings left table.now found.now tree)
+        × (compact_at takings left table.now id tree
+        ≡ compact_defined_at takings left table.now found.now tree)) }
     ensures unknown { IfErr result (λ why. (tree : Data)
-        → (value_within left table.now id tree ≡ refused why)
-        × (compact_within left table.now id tree ≡ refused why)) }
+        → (value_at takings left table.now id tree ≡ refused why)
+        × (compact_at takings left table.now id tree ≡ refused why)) }
 {
     if left == 0 {
         return Err(TreeRefusal::TooDeep);

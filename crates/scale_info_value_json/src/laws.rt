@@ -1,6 +1,6 @@
 //! Laws of the values that are taken from trees. A law does nothing when it runs: its contract is
 //! the law.
-ghost use Rattle.std.specs.Prelude.{◌≡◌, ◌↔◌, ◌≤◌, ◌++◌, IsTrue, List, ℕ, Some, true};
+ghost use Rattle.std.specs.Prelude.{◌≡◌, ◌≤◌, ◌++◌, List, ℕ, Some, true};
 ghost use Rattle.std.specs.List.{AllByRecursion};
 ghost use Rattle.json.specs.Tree.{depth};
 ghost use Rattle.serde_json.specs.Data.{Data};
@@ -8,12 +8,11 @@ ghost use Rattle.serde_json.specs.Read.{read, max_depth};
 ghost use Rattle.scale_info_bytes.specs.Encodings.{IsByte, HasPrefix};
 ghost use Rattle.scale_info_tables.specs.declared.portable.PortableRegistry.{PortableRegistry};
 ghost use Rattle.scale_info_value.specs.declared.value.Dyn.{Dyn};
+ghost use Rattle.scale_info_value.specs.Equalities.{DecidesValues};
 ghost use Rattle.scale_info_value.specs.Outcomes.{decoded};
 ghost use Rattle.scale_info_value.specs.Readings.{reading};
 ghost use Rattle.scale_info_encode.specs.Writers.{written};
 ghost use Rattle.scale_info_encode.specs.Writings.{writing};
-ghost use Rattle.scale_info_value_json.specs.declared.error.ValueJsonError as errors;
-ghost use Rattle.scale_info_value_json.specs.declared.error.TreeRefusal as refusals;
 ghost use Rattle.scale_info_value_json.specs.Takers.{taken};
 ghost use Rattle.scale_info_value_json.specs.Takings.{taking};
 ghost use Rattle.scale_info_value_json.specs.TreesOfTexts.{IsTakenFrom, has_own_names};
@@ -77,12 +76,10 @@ pub fn taken_is_encoded()
 
 /// Errors of taking values are equal exactly where they are one value.
 pub fn equal_value_json_errors()
-    ensures { (a b : errors.ValueJsonError)
-        → IsTrue (⟦<ValueJsonError as PartialEq>⟧.eq a b) ↔ (a ≡ b) }
+    ensures { DecidesValues ⟦<ValueJsonError as PartialEq>⟧.eq }
 {}
 
 /// Refusals of trees are equal exactly where they are one value.
 pub fn equal_tree_refusals()
-    ensures { (a b : refusals.TreeRefusal)
-        → IsTrue (⟦<TreeRefusal as PartialEq>⟧.eq a b) ↔ (a ≡ b) }
+    ensures { DecidesValues ⟦<TreeRefusal as PartialEq>⟧.eq }
 {}

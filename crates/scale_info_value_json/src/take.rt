@@ -3,10 +3,11 @@ ghost use Rattle.std.specs.Prelude.{◌≡◌, ◌≤◌, ◌-◌, ◌∷◌, []
 ghost use Rattle.serde_json.specs.View.{view};
 ghost use Rattle.scale_info_types.specs.declared.ty.TypeDef.TheVariants as def;
 ghost use Rattle.scale_info_value.specs.declared.value.Dyn.TheVariants as dyn;
+ghost use Rattle.scale_info_value.specs.Readings.{value_at, defined_at};
 ghost use Rattle.scale_info_value_json.specs.declared.error.ValueJsonError.TheVariants as error;
 ghost use Rattle.scale_info_value_json.specs.Takers.{IsErrorOf, taken, in_turn};
 ghost use Rattle.scale_info_value_json.specs.DefinitionTakers.{each};
-ghost use Rattle.scale_info_value_json.specs.Takings.{value_within, definition_within, taking};
+ghost use Rattle.scale_info_value_json.specs.Takings.{takings, taking};
 ghost use Rattle.scale_info_value_json.specs.Takings.{seen};
 ghost use Rattle.scale_info_value_json.specs.Takings.{items_within, fields_within, takers_within};
 ghost use Rattle.scale_info_value_json.specs.Takings.{object_fields_within, array_fields_within};
@@ -89,8 +90,8 @@ fn value_within(
     tree: &Value,
 ) -> Result<Dyn, ValueJsonError>
     ensures ok { IfOk result
-        (λ value. value_within left table.now id (view tree.now) ≡ taken value) }
-    ensures err { IfErr result (IsErrorOf (value_within left table.now id (view tree.now))) }
+        (λ value. value_at takings left table.now id (view tree.now) ≡ taken value) }
+    ensures err { IfErr result (IsErrorOf (value_at takings left table.now id (view tree.now))) }
 {
     let definition = definition_of(table, id, left)?;
     value_by(alloc, table, definition, left, tree)
@@ -111,9 +112,9 @@ fn value_by(
 ) -> Result<Dyn, ValueJsonError>
     requires { 1 ≤ left }
     ensures ok { IfOk result (λ value.
-        definition_within left table.now definition.now (view tree.now) ≡ taken value) }
+        defined_at takings left table.now definition.now (view tree.now) ≡ taken value) }
     ensures err { IfErr result
-        (IsErrorOf (definition_within left table.now definition.now (view tree.now))) }
+        (IsErrorOf (defined_at takings left table.now definition.now (view tree.now))) }
 {
     match definition {
         TypeDef::Composite(composite) => composite_value(alloc, table, composite, left, tree),
@@ -142,10 +143,10 @@ fn composite_value(
 ) -> Result<Dyn, ValueJsonError>
     requires { 1 ≤ left }
     ensures ok { IfOk result (λ value.
-        definition_within left table.now (def.Composite composite.now) (view tree.now)
+        defined_at takings left table.now (def.Composite composite.now) (view tree.now)
         ≡ taken value) }
     ensures err { IfErr result (IsErrorOf
-        (definition_within left table.now (def.Composite composite.now) (view tree.now))) }
+        (defined_at takings left table.now (def.Composite composite.now) (view tree.now))) }
 {
     let values = fields(alloc, table, composite.fields.as_slice(), left, tree)?;
     Ok(Dyn::Record(values))
@@ -163,10 +164,10 @@ fn variant_value(
 ) -> Result<Dyn, ValueJsonError>
     requires { 1 ≤ left }
     ensures ok { IfOk result (λ value.
-        definition_within left table.now (def.Variant choice.now) (view tree.now)
+        defined_at takings left table.now (def.Variant choice.now) (view tree.now)
         ≡ taken value) }
     ensures err { IfErr result (IsErrorOf
-        (definition_within left table.now (def.Variant choice.now) (view tree.now))) }
+        (defined_at takings left table.now (def.Variant choice.now) (view tree.now))) }
 {
     let Some((name, content)) = variant_parts(tree) else {
         return Err(ValueJsonError::Mismatch);
@@ -349,9 +350,10 @@ fn items(
 ) -> Result<Items<Dyn>, ValueJsonError>
     requires { 1 ≤ left }
     ensures ok { IfOk result (λ values.
-        each (value_within (left - 1) table.now ty.now.id) (map view trees.now) ≡ taken values) }
+        each (value_at takings (left - 1) table.now ty.now.id) (map view trees.now)
+        ≡ taken values) }
     ensures err { IfErr result (IsErrorOf
-        (each (value_within (left - 1) table.now ty.now.id) (map view trees.now))) }
+        (each (value_at takings (left - 1) table.now ty.now.id) (map view trees.now))) }
 {
     let mut values = Items::new(alloc);
     for tree in trees {
@@ -373,9 +375,9 @@ fn tuple_value(
 ) -> Result<Dyn, ValueJsonError>
     requires { 1 ≤ left }
     ensures ok { IfOk result (λ value.
-        definition_within left table.now (def.Tuple tuple.now) (view tree.now) ≡ taken value) }
+        defined_at takings left table.now (def.Tuple tuple.now) (view tree.now) ≡ taken value) }
     ensures err { IfErr result
-        (IsErrorOf (definition_within left table.now (def.Tuple tuple.now) (view tree.now))) }
+        (IsErrorOf (defined_at takings left table.now (def.Tuple tuple.now) (view tree.now))) }
 {
     match items_of(tree) {
         Some(trees) => {
@@ -430,9 +432,9 @@ fn map_value(
 ) -> Result<Dyn, ValueJsonError>
     requires { 1 ≤ left }
     ensures ok { IfOk result (λ value.
-        definition_within left table.now (def.Map map.now) (view tree.now) ≡ taken value) }
+        defined_at takings left table.now (def.Map map.now) (view tree.now) ≡ taken value) }
     ensures err { IfErr result
-        (IsErrorOf (definition_within left table.now (def.Map map.now) (view tree.now))) }
+        (IsErrorOf (defined_at takings left table.now (def.Map map.now) (view tree.now))) }
 {
     match items_of(tree) {
         Some(trees) if is_count_of(None, trees.len()) => {
@@ -507,8 +509,5 @@ fn list_of_two(alloc: Global, key: Dyn, value: Dyn) -> Result<Dyn, ValueJsonErro
     ensures ok { IfOk result (λ pair. pair ≡ dyn.List (key ∷ value ∷ [])) }
     ensures err { IfErr result (λ e. e ≡ error.Memory) }
 {
-    let mut pair = Items::with_capacity(alloc, 2)?;
-    pair.push(key)?;
-    pair.push(value)?;
-    Ok(Dyn::List(pair))
+    Ok(Dyn::list(vec![in alloc; key, value]?))
 }

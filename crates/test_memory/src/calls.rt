@@ -201,10 +201,7 @@ fn call_of_conversions(rt: &HostRuntime, name: &str, input: &str) -> Result<Outc
         "MetaType::into_portable" => conversions::meta_type(rt, input),
         "Type::into_portable" => conversions::description(rt, input),
         "TypeDef::into_portable" => conversions::definition(rt, input),
-        _ => match name.strip_prefix("PortableRegistryBuilder::") {
-            Some(name) => builders::call(rt, name, input),
-            None => call_of_bytes(rt, name, input),
-        },
+        _ => call_of_bytes(rt, name, input),
     }
 }
 
@@ -259,10 +256,7 @@ fn call_of_values(rt: &HostRuntime, name: &str, input: &str) -> Result<Outcome, 
         "LoadedTypes::load" => loads::load(rt, input),
         "decode_lent_loaded" => loads::decode(rt, input),
         "decode_as" | "encode_as" => typed::call(rt, name, input),
-        _ => match name.strip_prefix("Dyn::") {
-            Some(name) => built::build(rt, name, input),
-            None => call_of_people(rt, name, input),
-        },
+        _ => call_of_people(rt, name, input),
     }
 }
 
@@ -278,14 +272,17 @@ fn call_of_people(rt: &HostRuntime, name: &str, input: &str) -> Result<Outcome, 
         "append_without_docs" => people::strip(rt, input),
         "same_types" => people::compare(rt, input),
         "append_graph" => graphs::append(rt, input),
-        "changes" | "changes_with_docs" => changes::list(rt, name, input),
-        "first_difference" | "first_declared_change" => changes::find(rt, name, input),
+        "changes"
+        | "changes_with_docs"
+        | "first_difference"
+        | "first_declared_change"
+        | "declared_change_of" => changes::call(rt, name, input),
         _ => call_of_passes(rt, name, input),
     }
 }
 
-/// Makes the call of this name: a pass, a run of the program `type_table`, or one on a view or on
-/// what is lent.
+/// Makes the call of this name: a pass, a run of the program `type_table`, or one of those that are
+/// named after a type: on a builder of tables, a value, a view or what is lent.
 fn call_of_passes(rt: &HostRuntime, name: &str, input: &str) -> Result<Outcome, Fail> {
     match name {
         "pass" => passes::pass(rt, input),
@@ -294,6 +291,8 @@ fn call_of_passes(rt: &HostRuntime, name: &str, input: &str) -> Result<Outcome, 
         "decode_type" => lent_tables::decode_description(rt, input),
         "owned_type" => lent_tables::copy(rt, input),
         _ => match name.split_once("::") {
+            Some(("PortableRegistryBuilder", name)) => builders::call(rt, name, input),
+            Some(("Dyn", name)) => built::build(rt, name, input),
             Some(("TableView", name)) => call_of_views(rt, name, input),
             Some(("LentTable", name)) => lent_tables::call(rt, name, input),
             _ => Err(Fail::new("no call has this name")),

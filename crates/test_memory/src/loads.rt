@@ -10,10 +10,10 @@ use std::alloc::{AllocError, Global};
 use std::test::Fail;
 use test_common::held::Held;
 use test_common::rows::{numbers, row_bytes};
-use test_memory_common::answers::{digits, done, failed};
+use test_memory_common::answers::{digits, done};
 use test_memory_common::inputs::bytes_of;
-use test_memory_common::marked;
 use test_memory_common::outcomes::Outcome;
+use test_memory_common::{answered, marked};
 
 /// The definition of each id in hexadecimal, in order.
 fn definitions(alloc: Global, types: &LoadedTypes) -> Result<String, AllocError> {
@@ -34,12 +34,11 @@ fn definitions(alloc: Global, types: &LoadedTypes) -> Result<String, AllocError>
 pub fn load(rt: &HostRuntime, row: &str) -> Result<Outcome, Fail> {
     let (ids, bytes) = ids_and_bytes(rt.alloc(), row)?;
     let view = TableView::new(rt.alloc(), &bytes)?;
-    let returned = marked!(rt; LoadedTypes::load(rt.alloc(), &view, &ids));
-    let answer = match returned {
-        Ok(types) => done(definitions(rt.alloc(), &types)),
-        Err(error) => failed(rt.alloc(), &error),
-    };
-    Outcome::of(answer)
+    answered!(
+        rt;
+        LoadedTypes::load(rt.alloc(), &view, &ids);
+        types => done(definitions(rt.alloc(), &types))
+    )
 }
 
 /// The id of the type of a value, and those of the types that are loaded: the ones after ` by `, or

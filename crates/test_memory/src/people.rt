@@ -7,9 +7,9 @@ use std::test::Fail;
 use test_common::held::Held;
 use test_common::rows::{numbers, parted};
 use test_memory_common::answers::shown;
-use test_memory_common::inputs::{bytes_of, output, table_of};
-use test_memory_common::marked;
+use test_memory_common::inputs::{bytes_of, table_of};
 use test_memory_common::outcomes::Outcome;
+use test_memory_common::{appended, marked};
 
 /// The words before the semicolon of a row, and the table after it.
 fn read(alloc: Global, row: &str) -> Result<(&str, Held<PortableRegistry>), Fail> {
@@ -70,11 +70,7 @@ pub fn find_table(rt: &HostRuntime, row: &str) -> Result<Outcome, Fail> {
 /// Appends a table without docs to one byte.
 pub fn strip(rt: &HostRuntime, row: &str) -> Result<Outcome, Fail> {
     let input = bytes_of(rt.alloc(), row)?;
-    let mut out = output(rt.alloc())?;
-    let before = hex::encode(rt.alloc(), out.as_slice());
-    let returned = marked!(rt; append_without_docs(&input, &mut out));
-    let after = hex::encode(rt.alloc(), out.as_slice());
-    Outcome::lending(before, after, shown(rt.alloc(), returned))
+    appended!(rt; out => append_without_docs(&input, &mut out))
 }
 
 /// Whether types of two tables are the same. A row has ids and a table, and others.

@@ -4,10 +4,10 @@ use scale_info::typed::{DecodeAs, EncodeAs, decode_as, encode_as};
 use std::test::Fail;
 use test_common::held::Held;
 use test_common::rows::{parted, row_bytes};
-use test_memory_common::answers::{done, failed, shown};
-use test_memory_common::inputs::{output, table_of};
-use test_memory_common::marked;
+use test_memory_common::answers::{done, failed};
+use test_memory_common::inputs::table_of;
 use test_memory_common::outcomes::Outcome;
+use test_memory_common::{appended, marked};
 use test_memory_tables::bytes::with_rest;
 
 /// Decodes the value of a row: its encoding by the type of the table, and what is left.
@@ -33,11 +33,7 @@ fn encoded<T: DecodeAs + EncodeAs>(rt: &HostRuntime, row: &str) -> Result<Outcom
     let table = Held(table_of(rt.alloc(), table)?);
     let (value, _) = decode_as::<T>(rt.alloc(), &table.0, id, &row_bytes(rt.alloc(), input)?)?;
     let value = Held(value);
-    let mut out = output(rt.alloc())?;
-    let before = hex::encode(rt.alloc(), out.as_slice());
-    let returned = marked!(rt; encode_as(rt.alloc(), &table.0, other, &value.0, &mut out));
-    let after = hex::encode(rt.alloc(), out.as_slice());
-    Outcome::lending(before, after, shown(rt.alloc(), returned))
+    appended!(rt; out => encode_as(rt.alloc(), &table.0, other, &value.0, &mut out))
 }
 
 /// Makes the call of this name with a value of the type `T`.

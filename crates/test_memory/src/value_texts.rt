@@ -9,8 +9,8 @@ use std::test::Fail;
 use test_common::held::Held;
 use test_memory_common::answers::{done, failed, shown};
 use test_memory_common::inputs::{output, table_of};
-use test_memory_common::marked;
 use test_memory_common::outcomes::Outcome;
+use test_memory_common::{answered, marked};
 use test_memory_tables::json::appended;
 
 /// Appends the text of the value of a row to one byte.
@@ -56,10 +56,9 @@ pub fn take(rt: &HostRuntime, row: &str) -> Result<Outcome, Fail> {
     let id: u32 = id.parse()?;
     let table = Held(table_of(rt.alloc(), table)?);
     let tree = Held(Value::from_str(rt.alloc(), text)?);
-    let returned = marked!(rt; from_json(rt.alloc(), &table.0, id, &tree.0));
-    let answer = match returned {
-        Ok(value) => done(digits(rt.alloc(), &table.0, id, &value)),
-        Err(error) => failed(rt.alloc(), &error),
-    };
-    Outcome::of(answer)
+    answered!(
+        rt;
+        from_json(rt.alloc(), &table.0, id, &tree.0);
+        value => done(digits(rt.alloc(), &table.0, id, &value))
+    )
 }

@@ -9,9 +9,9 @@ use std::test::Fail;
 use test_common::held::Held;
 use test_common::rows::{parted, row_bytes};
 use test_memory_common::answers::{Answer, done, failed, shown};
-use test_memory_common::inputs::{output, table_of};
-use test_memory_common::marked;
+use test_memory_common::inputs::table_of;
 use test_memory_common::outcomes::Outcome;
+use test_memory_common::{appended, marked};
 
 /// The ids, the table and the input of a row: after a name and a colon they stand in this order,
 /// with semicolons between them.
@@ -135,11 +135,7 @@ pub fn encode(rt: &HostRuntime, row: &str) -> Result<Outcome, Fail> {
     let table = Held(table_of(rt.alloc(), table)?);
     let (value, _) = decode_value(rt.alloc(), &table.0, id, &row_bytes(rt.alloc(), input)?)?;
     let value = Held(value);
-    let mut out = output(rt.alloc())?;
-    let before = hex::encode(rt.alloc(), out.as_slice());
-    let returned = marked!(rt; encode_value(&table.0, other, &value.0, &mut out));
-    let after = hex::encode(rt.alloc(), out.as_slice());
-    Outcome::lending(before, after, shown(rt.alloc(), returned))
+    appended!(rt; out => encode_value(&table.0, other, &value.0, &mut out))
 }
 
 /// Goes past the value of a row: what is left.

@@ -8,9 +8,9 @@ use test_common::held::Held;
 use test_common::rows::{numbers, parted};
 use test_memory_common::answers::{Answer, digits, done, encoded, failed, shown};
 use test_memory_common::inputs::bytes_of;
-use test_memory_common::marked;
 use test_memory_common::marks::{begin, end};
 use test_memory_common::outcomes::Outcome;
+use test_memory_common::{answered, marked};
 use test_memory_lent::lent_tables::indexed;
 use test_memory_tables::bytes::with_rest;
 use test_memory_tables::prunings::walked;
@@ -18,21 +18,21 @@ use test_memory_tables::prunings::walked;
 /// Makes the view of a table, and leaves out what comes after it.
 pub fn new(rt: &HostRuntime, row: &str) -> Result<Outcome, Fail> {
     let bytes = bytes_of(rt.alloc(), row)?;
-    let answer = match marked!(rt; TableView::new(rt.alloc(), &bytes)) {
-        Ok(view) => done(hex::encode(rt.alloc(), view.as_bytes())),
-        Err(error) => failed(rt.alloc(), &error),
-    };
-    Outcome::of(answer)
+    answered!(
+        rt;
+        TableView::new(rt.alloc(), &bytes);
+        view => done(hex::encode(rt.alloc(), view.as_bytes()))
+    )
 }
 
 /// Makes the view of a table, and returns what comes after it.
 pub fn decode(rt: &HostRuntime, row: &str) -> Result<Outcome, Fail> {
     let bytes = bytes_of(rt.alloc(), row)?;
-    let answer = match marked!(rt; TableView::decode(rt.alloc(), &bytes)) {
-        Ok((view, rest)) => done(with_rest(hex::encode(rt.alloc(), view.as_bytes()), rest)),
-        Err(error) => failed(rt.alloc(), &error),
-    };
-    Outcome::of(answer)
+    answered!(
+        rt;
+        TableView::decode(rt.alloc(), &bytes);
+        (view, rest) => done(with_rest(hex::encode(rt.alloc(), view.as_bytes()), rest))
+    )
 }
 
 /// Makes the table of a view.

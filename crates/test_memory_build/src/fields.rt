@@ -48,28 +48,29 @@ fn unnamed_of_u8(alloc: Global) -> Result<FieldsBuilder<MetaForm, UnnamedFields>
     Fields::unnamed::<MetaForm>(alloc).field(alloc, |f| f.ty::<u8>(alloc))
 }
 
+/// Adds the field that a closure makes to these fields: the struct of them.
+macro_rules! added {
+    ($rt:expr, $alloc:ident; $fields:expr, $field:expr) => {{
+        let $alloc = $rt.alloc();
+        let fields = $fields?;
+        let returned = marked!($rt; fields.field($alloc, $field));
+        struct_of($rt, returned)
+    }};
+}
+
 /// Adds the field `m` of a type; the builder gets the name before the type.
 fn named<T: HasIdentity>(rt: &HostRuntime) -> Result<Outcome, Fail> {
-    let alloc = rt.alloc();
-    let fields = named_of_u8(alloc)?;
-    let returned = marked!(rt; fields.field(alloc, |f| f.name("m").ty::<T>(alloc)));
-    struct_of(rt, returned)
+    added!(rt, alloc; named_of_u8(alloc), |f| f.name("m").ty::<T>(alloc))
 }
 
 /// Adds the field `m` of a type; the builder gets the type before the name.
 fn typed<T: HasIdentity>(rt: &HostRuntime) -> Result<Outcome, Fail> {
-    let alloc = rt.alloc();
-    let fields = named_of_u8(alloc)?;
-    let returned = marked!(rt; fields.field(alloc, |f| Ok(f.ty::<T>(alloc)?.name("m"))));
-    struct_of(rt, returned)
+    added!(rt, alloc; named_of_u8(alloc), |f| Ok(f.ty::<T>(alloc)?.name("m")))
 }
 
 /// Adds a field without a name, whose type has a name.
 fn unnamed<T: HasIdentity>(rt: &HostRuntime) -> Result<Outcome, Fail> {
-    let alloc = rt.alloc();
-    let fields = unnamed_of_u8(alloc)?;
-    let returned = marked!(rt; fields.field(alloc, |f| f.type_name("Vec<T>").ty::<T>(alloc)));
-    struct_of(rt, returned)
+    added!(rt, alloc; unnamed_of_u8(alloc), |f| f.type_name("Vec<T>").ty::<T>(alloc))
 }
 
 /// Makes a field by its own builder, and the struct of it.

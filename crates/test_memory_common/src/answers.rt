@@ -46,11 +46,16 @@ pub fn printed<E: Debug + Drop>(
     }
 }
 
+/// Bytes in hexadecimal.
+pub fn hexadecimal(alloc: Global, bytes: &[u8]) -> Result<String, AllocError> {
+    hex::encode(alloc, bytes)
+}
+
 /// The encoding of a value in hexadecimal; of a value without an encoding the error.
 pub fn digits<T: Scale>(alloc: Global, value: &T) -> Result<String, AllocError> {
     let mut bytes = Vec::new(alloc);
     match value.encode_to(&mut bytes) {
-        Ok(()) => hex::encode(alloc, bytes.as_slice()),
+        Ok(()) => hexadecimal(alloc, bytes.as_slice()),
         Err(error) => format!(in alloc; "{error:?}"),
     }
 }

@@ -1,4 +1,4 @@
-//! Calls that are made for a type by its name: a type more is an arm here.
+//! Calls that are made for a type by its name: a type more is an entry here.
 use crate::own::{
     A as OwnA, B as OwnB, Bits, C as OwnC, Choice, D as OwnD, Documented, EnumOfItself, Fielded,
     I256, Mapping, Missing, P as OwnP, Recursive, References, Referring, U256, Wide,
@@ -91,6 +91,16 @@ pub fn found<T>(made: Option<Result<T, Fail>>) -> Result<T, Fail> {
     }
 }
 
+/// Makes a call for the type that stands beside the name, and what is said last for another name.
+macro_rules! of_name {
+    ($call:expr, $name:expr; $($text:literal => $ty:ty),*; $other:expr) => {
+        match $name {
+            $($text => Some($call.of::<$ty>()),)*
+            _ => $other,
+        }
+    };
+}
+
 /// Makes a call for the type with a description that has this name; None if there is none.
 pub fn for_type<V: Described>(call: V, name: &str) -> Option<V::Returned> {
     for_primitive(call, name)
@@ -98,172 +108,119 @@ pub fn for_type<V: Described>(call: V, name: &str) -> Option<V::Returned> {
 
 /// Makes a call for a built-in type.
 fn for_primitive<V: Described>(call: V, name: &str) -> Option<V::Returned> {
-    match name {
-        "bool" => Some(call.of::<bool>()),
-        "char" => Some(call.of::<char>()),
-        "u8" => Some(call.of::<u8>()),
-        "u16" => Some(call.of::<u16>()),
-        "u32" => Some(call.of::<u32>()),
-        "u64" => Some(call.of::<u64>()),
-        "u128" => Some(call.of::<u128>()),
-        "i8" => Some(call.of::<i8>()),
-        "i16" => Some(call.of::<i16>()),
-        "i32" => Some(call.of::<i32>()),
-        "i64" => Some(call.of::<i64>()),
-        "i128" => Some(call.of::<i128>()),
-        _ => for_value(call, name),
-    }
+    of_name!(call, name;
+        "bool" => bool, "char" => char, "u8" => u8, "u16" => u16, "u32" => u32, "u64" => u64,
+        "u128" => u128, "i8" => i8, "i16" => i16, "i32" => i32, "i64" => i64, "i128" => i128;
+        for_value(call, name)
+    )
 }
 
 /// Makes a call for a number that is not zero, or a length of time.
 fn for_value<V: Described>(call: V, name: &str) -> Option<V::Returned> {
-    match name {
-        "NonZeroU8" => Some(call.of::<NonZeroU8>()),
-        "NonZeroU16" => Some(call.of::<NonZeroU16>()),
-        "NonZeroU32" => Some(call.of::<NonZeroU32>()),
-        "NonZeroU64" => Some(call.of::<NonZeroU64>()),
-        "NonZeroU128" => Some(call.of::<NonZeroU128>()),
-        "NonZeroI8" => Some(call.of::<NonZeroI8>()),
-        "NonZeroI16" => Some(call.of::<NonZeroI16>()),
-        "NonZeroI32" => Some(call.of::<NonZeroI32>()),
-        "NonZeroI64" => Some(call.of::<NonZeroI64>()),
-        "NonZeroI128" => Some(call.of::<NonZeroI128>()),
-        "Duration" => Some(call.of::<Duration>()),
-        _ => for_list(call, name),
-    }
+    of_name!(call, name;
+        "NonZeroU8" => NonZeroU8, "NonZeroU16" => NonZeroU16, "NonZeroU32" => NonZeroU32,
+        "NonZeroU64" => NonZeroU64, "NonZeroU128" => NonZeroU128, "NonZeroI8" => NonZeroI8,
+        "NonZeroI16" => NonZeroI16, "NonZeroI32" => NonZeroI32, "NonZeroI64" => NonZeroI64,
+        "NonZeroI128" => NonZeroI128, "Duration" => Duration;
+        for_list(call, name)
+    )
 }
 
 /// Makes a call for a text, a list or an array.
 fn for_list<V: Described>(call: V, name: &str) -> Option<V::Returned> {
-    match name {
-        "StrType" => Some(call.of::<StrType>()),
-        "String" => Some(call.of::<String>()),
-        "&str" => Some(call.of::<&str>()),
-        "SliceOf<u8>" => Some(call.of::<SliceOf<u8>>()),
-        "SliceOf<bool>" => Some(call.of::<SliceOf<bool>>()),
-        "&[u8]" => Some(call.of::<&[u8]>()),
-        "Vec<u8>" => Some(call.of::<Vec<u8>>()),
-        "Vec<u32>" => Some(call.of::<Vec<u32>>()),
-        "Vec<Box<u8>>" => Some(call.of::<Vec<Box<u8>>>()),
-        "VecDeque<u8>" => Some(call.of::<VecDeque<u8>>()),
-        "VecDeque<String>" => Some(call.of::<VecDeque<String>>()),
-        _ => for_array(call, name),
-    }
+    of_name!(call, name;
+        "StrType" => StrType, "String" => String, "&str" => &str, "SliceOf<u8>" => SliceOf<u8>,
+        "SliceOf<bool>" => SliceOf<bool>, "&[u8]" => &[u8], "Vec<u8>" => Vec<u8>,
+        "Vec<u32>" => Vec<u32>, "Vec<Box<u8>>" => Vec<Box<u8>>, "VecDeque<u8>" => VecDeque<u8>,
+        "VecDeque<String>" => VecDeque<String>;
+        for_array(call, name)
+    )
 }
 
 /// Makes a call for an array or a compact integer.
 fn for_array<V: Described>(call: V, name: &str) -> Option<V::Returned> {
-    match name {
-        "[u8; 4]" => Some(call.of::<[u8; 4]>()),
-        "[u8; 32]" => Some(call.of::<[u8; 32]>()),
-        "[u32; 16]" => Some(call.of::<[u32; 16]>()),
-        "[[i32; 5]; 5]" => Some(call.of::<[[i32; 5]; 5]>()),
-        "[u8; 4294967295]" => Some(call.of::<[u8; 4294967295]>()),
-        "[u8; 4294967296]" => Some(call.of::<TooLong>()),
-        "Compact<u8>" => Some(call.of::<Compact<u8>>()),
-        "Compact<u32>" => Some(call.of::<Compact<u32>>()),
-        "Compact<i32>" => Some(call.of::<Compact<i32>>()),
-        _ => for_pointer(call, name),
-    }
+    of_name!(call, name;
+        "[u8; 4]" => [u8; 4], "[u8; 32]" => [u8; 32], "[u32; 16]" => [u32; 16],
+        "[[i32; 5]; 5]" => [[i32; 5]; 5], "[u8; 4294967295]" => [u8; 4294967295],
+        "[u8; 4294967296]" => TooLong, "Compact<u8>" => Compact<u8>, "Compact<u32>" => Compact<u32>,
+        "Compact<i32>" => Compact<i32>;
+        for_pointer(call, name)
+    )
 }
 
 /// Makes a call for a pointer, or the program's tree.
 fn for_pointer<V: Described>(call: V, name: &str) -> Option<V::Returned> {
-    match name {
-        "Box<u8>" => Some(call.of::<Box<u8>>()),
-        "Box<char>" => Some(call.of::<Box<char>>()),
-        "Box<Box<u8>>" => Some(call.of::<Boxes>()),
-        "Rc<u8>" => Some(call.of::<Rc<u8>>()),
-        "&u8" => Some(call.of::<&u8>()),
-        "&mut u8" => Some(call.of::<&mut u8>()),
-        "Cow<'static, u128>" => Some(call.of::<Cow<'static, u128>>()),
-        "Tree" => Some(call.of::<Tree>()),
-        "Box<Tree>" => Some(call.of::<Box<Tree>>()),
-        _ => for_generic(call, name),
-    }
+    of_name!(call, name;
+        "Box<u8>" => Box<u8>, "Box<char>" => Box<char>, "Box<Box<u8>>" => Boxes, "Rc<u8>" => Rc<u8>,
+        "&u8" => &u8, "&mut u8" => &mut u8, "Cow<'static, u128>" => Cow<'static, u128>,
+        "Tree" => Tree, "Box<Tree>" => Box<Tree>;
+        for_generic(call, name)
+    )
 }
 
 /// Makes a call for a standard type with arguments.
 fn for_generic<V: Described>(call: V, name: &str) -> Option<V::Returned> {
-    match name {
-        "Option<u8>" => Some(call.of::<Option<u8>>()),
-        "Option<u128>" => Some(call.of::<Option<u128>>()),
-        "Option<Vec<u32>>" => Some(call.of::<Option<Vec<u32>>>()),
-        "Option<Box<u8>>" => Some(call.of::<Option<Box<u8>>>()),
-        "Option<(u32, bool)>" => Some(call.of::<Option<Pair>>()),
-        "Result<bool, String>" => Some(call.of::<Result<bool, String>>()),
-        "Range<u8>" => Some(call.of::<Range<u8>>()),
-        "RangeInclusive<u8>" => Some(call.of::<RangeInclusive<u8>>()),
-        "BTreeMap<String, u32>" => Some(call.of::<BTreeMap<String, u32>>()),
-        "BTreeSet<String>" => Some(call.of::<BTreeSet<String>>()),
-        "BTreeSet<Box<u8>>" => Some(call.of::<BTreeSet<Box<u8>>>()),
-        "BinaryHeap<String>" => Some(call.of::<BinaryHeap<String>>()),
-        _ => for_phantom(call, name),
-    }
+    of_name!(call, name;
+        "Option<u8>" => Option<u8>, "Option<u128>" => Option<u128>,
+        "Option<Vec<u32>>" => Option<Vec<u32>>, "Option<Box<u8>>" => Option<Box<u8>>,
+        "Option<(u32, bool)>" => Option<Pair>, "Result<bool, String>" => Result<bool, String>,
+        "Range<u8>" => Range<u8>, "RangeInclusive<u8>" => RangeInclusive<u8>,
+        "BTreeMap<String, u32>" => BTreeMap<String, u32>, "BTreeSet<String>" => BTreeSet<String>,
+        "BTreeSet<Box<u8>>" => BTreeSet<Box<u8>>, "BinaryHeap<String>" => BinaryHeap<String>;
+        for_phantom(call, name)
+    )
 }
 
 /// Makes a call for `PhantomData`, or a type with a part of it.
 fn for_phantom<V: Described>(call: V, name: &str) -> Option<V::Returned> {
-    match name {
-        "PhantomData<i32>" => Some(call.of::<PhantomData<i32>>()),
-        "Option<PhantomData<u8>>" => Some(call.of::<Option<PhantomData<u8>>>()),
-        "Result<PhantomData<u8>, u8>" => Some(call.of::<Result<PhantomData<u8>, u8>>()),
-        "Range<PhantomData<u8>>" => Some(call.of::<Range<PhantomData<u8>>>()),
-        "(u64, PhantomData<u8>)" => Some(call.of::<Marked>()),
-        "(u64, Box<PhantomData<()>>)" => Some(call.of::<(u64, Box<PhantomData<()>>)>()),
-        "(u64, Box<PhantomData<u8>>)" => Some(call.of::<(u64, Box<PhantomData<u8>>)>()),
-        "(PhantomData<u8>,)" => Some(call.of::<(PhantomData<u8>,)>()),
-        _ => for_tuple(call, name),
-    }
+    of_name!(call, name;
+        "PhantomData<i32>" => PhantomData<i32>,
+        "Option<PhantomData<u8>>" => Option<PhantomData<u8>>,
+        "Result<PhantomData<u8>, u8>" => Result<PhantomData<u8>, u8>,
+        "Range<PhantomData<u8>>" => Range<PhantomData<u8>>, "(u64, PhantomData<u8>)" => Marked,
+        "(u64, Box<PhantomData<()>>)" => (u64, Box<PhantomData<()>>),
+        "(u64, Box<PhantomData<u8>>)" => (u64, Box<PhantomData<u8>>),
+        "(PhantomData<u8>,)" => (PhantomData<u8>,);
+        for_tuple(call, name)
+    )
 }
 
 /// Makes a call for a tuple.
 fn for_tuple<V: Described>(call: V, name: &str) -> Option<V::Returned> {
-    match name {
-        "(u32, bool)" => Some(call.of::<Pair>()),
-        "(u32, [u8; 32], bool)" => Some(call.of::<Triple>()),
-        "((i8, i16), (u32, u64))" => Some(call.of::<((i8, i16), (u32, u64))>()),
-        "(bool,)" => Some(call.of::<(bool,)>()),
-        "Many" => Some(call.of::<Many>()),
-        _ => for_short_tuple(call, name),
-    }
+    of_name!(call, name;
+        "(u32, bool)" => Pair, "(u32, [u8; 32], bool)" => Triple,
+        "((i8, i16), (u32, u64))" => ((i8, i16), (u32, u64)), "(bool,)" => (bool,), "Many" => Many;
+        for_short_tuple(call, name)
+    )
 }
 
 /// Makes a call for a tuple of so many members, none to ten.
 fn for_short_tuple<V: Described>(call: V, name: &str) -> Option<V::Returned> {
-    match name {
-        "tuple of 0" => Some(call.of::<()>()),
-        "tuple of 1" => Some(call.of::<(A,)>()),
-        "tuple of 2" => Some(call.of::<(A, B)>()),
-        "tuple of 3" => Some(call.of::<(A, B, C)>()),
-        "tuple of 4" => Some(call.of::<(A, B, C, D)>()),
-        "tuple of 5" => Some(call.of::<(A, B, C, D, E)>()),
-        "tuple of 6" => Some(call.of::<(A, B, C, D, E, F)>()),
-        "tuple of 7" => Some(call.of::<(A, B, C, D, E, F, G)>()),
-        "tuple of 8" => Some(call.of::<(A, B, C, D, E, F, G, H)>()),
-        "tuple of 9" => Some(call.of::<(A, B, C, D, E, F, G, H, I)>()),
-        "tuple of 10" => Some(call.of::<(A, B, C, D, E, F, G, H, I, J)>()),
-        _ => for_long_tuple(call, name),
-    }
+    of_name!(call, name;
+        "tuple of 0" => (), "tuple of 1" => (A,), "tuple of 2" => (A, B), "tuple of 3" => (A, B, C),
+        "tuple of 4" => (A, B, C, D), "tuple of 5" => (A, B, C, D, E),
+        "tuple of 6" => (A, B, C, D, E, F), "tuple of 7" => (A, B, C, D, E, F, G),
+        "tuple of 8" => (A, B, C, D, E, F, G, H), "tuple of 9" => (A, B, C, D, E, F, G, H, I),
+        "tuple of 10" => (A, B, C, D, E, F, G, H, I, J);
+        for_long_tuple(call, name)
+    )
 }
 
 /// Makes a call for a tuple of so many members, eleven to twenty.
 fn for_long_tuple<V: Described>(call: V, name: &str) -> Option<V::Returned> {
-    match name {
-        "tuple of 11" => Some(call.of::<(A, B, C, D, E, F, G, H, I, J, K)>()),
-        "tuple of 12" => Some(call.of::<(A, B, C, D, E, F, G, H, I, J, K, L)>()),
-        "tuple of 13" => Some(call.of::<(A, B, C, D, E, F, G, H, I, J, K, L, M)>()),
-        "tuple of 14" => Some(call.of::<(A, B, C, D, E, F, G, H, I, J, K, L, M, N)>()),
-        "tuple of 15" => Some(call.of::<(A, B, C, D, E, F, G, H, I, J, K, L, M, N, O)>()),
-        "tuple of 16" => Some(call.of::<(A, B, C, D, E, F, G, H, I, J, K, L, M, N, O, P)>()),
-        "tuple of 17" => Some(call.of::<(A, B, C, D, E, F, G, H, I, J, K, L, M, N, O, P, Q)>()),
-        "tuple of 18" => Some(call.of::<(A, B, C, D, E, F, G, H, I, J, K, L, M, N, O, P, Q, R)>()),
-        "tuple of 19" => Some(call.of::<
-            (A, B, C, D, E, F, G, H, I, J, K, L, M, N, O, P, Q, R, S),
-        >()),
-        "tuple of 20" => Some(call.of::<Twenty>()),
-        _ => None,
-    }
+    of_name!(call, name;
+        "tuple of 11" => (A, B, C, D, E, F, G, H, I, J, K),
+        "tuple of 12" => (A, B, C, D, E, F, G, H, I, J, K, L),
+        "tuple of 13" => (A, B, C, D, E, F, G, H, I, J, K, L, M),
+        "tuple of 14" => (A, B, C, D, E, F, G, H, I, J, K, L, M, N),
+        "tuple of 15" => (A, B, C, D, E, F, G, H, I, J, K, L, M, N, O),
+        "tuple of 16" => (A, B, C, D, E, F, G, H, I, J, K, L, M, N, O, P),
+        "tuple of 17" => (A, B, C, D, E, F, G, H, I, J, K, L, M, N, O, P, Q),
+        "tuple of 18" => (A, B, C, D, E, F, G, H, I, J, K, L, M, N, O, P, Q, R),
+        "tuple of 19" => (A, B, C, D, E, F, G, H, I, J, K, L, M, N, O, P, Q, R, S),
+        "tuple of 20" => Twenty;
+        None
+    )
 }
 
 /// A call that needs an identity alone, made for types with a description.
@@ -282,38 +239,22 @@ impl<V: Known> Described for ByIdentity<V> {
 
 /// Makes a call for the type with an identity that has this name; None if there is none.
 pub fn for_known_type<V: Known>(call: V, name: &str) -> Option<V::Returned> {
-    match name {
-        "Recursive" => Some(call.of::<Recursive>()),
-        "Bits" => Some(call.of::<Bits>()),
-        "Mapping" => Some(call.of::<Mapping>()),
-        "Missing" => Some(call.of::<Missing>()),
-        "Referring" => Some(call.of::<Referring>()),
-        "Wide" => Some(call.of::<Wide>()),
-        "EnumOfItself" => Some(call.of::<EnumOfItself>()),
-        "References" => Some(call.of::<References>()),
-        "Documented" => Some(call.of::<Documented>()),
-        "Fielded" => Some(call.of::<Fielded>()),
-        "Choice" => Some(call.of::<Choice>()),
-        "U256" => Some(call.of::<U256>()),
-        "I256" => Some(call.of::<I256>()),
-        _ => for_composite(call, name),
-    }
+    of_name!(call, name;
+        "Recursive" => Recursive, "Bits" => Bits, "Mapping" => Mapping, "Missing" => Missing,
+        "Referring" => Referring, "Wide" => Wide, "EnumOfItself" => EnumOfItself,
+        "References" => References, "Documented" => Documented, "Fielded" => Fielded,
+        "Choice" => Choice, "U256" => U256, "I256" => I256;
+        for_composite(call, name)
+    )
 }
 
 /// Makes a call for a composite or a generic type of the program's own.
 fn for_composite<V: Known>(call: V, name: &str) -> Option<V::Returned> {
-    match name {
-        "A" => Some(call.of::<OwnA>()),
-        "B" => Some(call.of::<OwnB>()),
-        "C" => Some(call.of::<OwnC>()),
-        "D" => Some(call.of::<OwnD>()),
-        "P" => Some(call.of::<OwnP>()),
-        "Phantom<u8>" => Some(call.of::<Phantom<u8>>()),
-        "Box<Phantom<()>>" => Some(call.of::<Box<Phantom<Nothing>>>()),
-        "Box<Phantom<u8>>" => Some(call.of::<Box<Phantom<u8>>>()),
-        "Phantom<Phantom<()>>" => Some(call.of::<Phantom<Phantom<Nothing>>>()),
-        "MyStruct<bool>" => Some(call.of::<MyStruct<bool>>()),
-        "Box<MyStruct<bool>>" => Some(call.of::<Box<MyStruct<bool>>>()),
-        _ => for_type(ByIdentity { call }, name),
-    }
+    of_name!(call, name;
+        "A" => OwnA, "B" => OwnB, "C" => OwnC, "D" => OwnD, "P" => OwnP,
+        "Phantom<u8>" => Phantom<u8>, "Box<Phantom<()>>" => Box<Phantom<Nothing>>,
+        "Box<Phantom<u8>>" => Box<Phantom<u8>>, "Phantom<Phantom<()>>" => Phantom<Phantom<Nothing>>,
+        "MyStruct<bool>" => MyStruct<bool>, "Box<MyStruct<bool>>" => Box<MyStruct<bool>>;
+        for_type(ByIdentity { call }, name)
+    )
 }

@@ -1,7 +1,9 @@
 //! What changed between two tables.
 use scale_info_diff::changes::{changes, changes_with_docs};
-use scale_info_diff::declarations::first_declared_change;
+use scale_info_diff::declarations::{declared_change_of, first_declared_change};
 use scale_info_diff::difference::first_difference;
+use scale_info_prune::indexed::IndexedTable;
+use std::alloc::Global;
 use std::test::Fail;
 use test_common::rows::{numbers, parted};
 use test_memory_common::answers::shown;
@@ -11,7 +13,7 @@ use test_memory_common::outcomes::Outcome;
 
 /// Lists what changed between two tables, with a semicolon between them; also by docs, where the
 /// call is named so.
-pub fn list(rt: &HostRuntime, name: &str, row: &str) -> Result<Outcome, Fail> {
+fn list(rt: &HostRuntime, name: &str, row: &str) -> Result<Outcome, Fail> {
     let (old, new) = parted(row, ';')?;
     let (old, new) = (bytes_of(rt.alloc(), old)?, bytes_of(rt.alloc(), new)?);
     let returned = match name {
@@ -21,19 +23,61 @@ pub fn list(rt: &HostRuntime, name: &str, row: &str) -> Result<Outcome, Fail> {
     Outcome::of(shown(rt.alloc(), returned))
 }
 
-/// Where types of two tables differ first; also in words, where the call is named so. A row has ids
-/// and a table, and others.
-pub fn find(rt: &HostRuntime, name: &str, row: &str) -> Result<Outcome, Fail> {
-    let alloc = rt.alloc();
+/// Ids of types, and the bytes of the table that has them.
+#[derive(Drop)]
+struct Chosen {
+    ids: Vec<u32>,
+    table: Vec<u8>,
+}
+
+/// The two parts of a row, each of which has ids and a table.
+fn both_chosen(alloc: Global, row: &str) -> Result<(Chosen, Chosen), Fail> {
     let (ids, row) = parted(row, ';')?;
     let (table, row) = parted(row, ';')?;
     let (others, other) = parted(row, ';')?;
-    let (ids, others) = (numbers(alloc, ids)?, numbers(alloc, others)?);
-    let (old, new) = (bytes_of(alloc, table)?, bytes_of(alloc, other)?);
+    let old = Chosen {
+        ids: numbers(alloc, ids)?,
+        table: bytes_of(alloc, table)?,
+    };
+    let new = Chosen {
+        ids: numbers(alloc, others)?,
+        table: bytes_of(alloc, other)?,
+    };
+    Ok((old, new))
+}
+
+/// Where types of two tables differ first; also in words, where the call is named so.
+fn find(rt: &HostRuntime, name: &str, row: &str) -> Result<Outcome, Fail> {
+    let alloc = rt.alloc();
+    let (old, new) = both_chosen(alloc, row)?;
     if name == "first_difference" {
-        let returned = marked!(rt; first_difference(alloc, &old, &ids, &new, &others));
+        let returned =
+            marked!(rt; first_difference(alloc, &old.table, &old.ids, &new.table, &new.ids));
         return Outcome::of(shown(alloc, returned));
     }
-    let returned = marked!(rt; first_declared_change(alloc, &old, &ids, &new, &others));
+    let returned =
+        marked!(rt; first_declared_change(alloc, &old.table, &old.ids, &new.table, &new.ids));
     Outcome::of(shown(alloc, returned))
+}
+
+/// Where types of two tables differ first in words, of tables that were read and asked before: each
+/// is pruned in the room of the call before.
+fn find_again(rt: &HostRuntime, row: &str) -> Result<Outcome, Fail> {
+    let alloc = rt.alloc();
+    let (old, new) = both_chosen(alloc, row)?;
+    let mut read = IndexedTable::of(alloc, &old.table)?;
+    let mut other = IndexedTable::of(alloc, &new.table)?;
+    declared_change_of(alloc, &mut read, &old.ids, &mut other, &new.ids)?;
+    let returned =
+        marked!(rt; declared_change_of(alloc, &mut read, &old.ids, &mut other, &new.ids));
+    Outcome::of(shown(alloc, returned))
+}
+
+/// Makes the call of this name on two tables.
+pub fn call(rt: &HostRuntime, name: &str, row: &str) -> Result<Outcome, Fail> {
+    match name {
+        "changes" | "changes_with_docs" => list(rt, name, row),
+        "declared_change_of" => find_again(rt, row),
+        _ => find(rt, name, row),
+    }
 }

@@ -7,8 +7,8 @@ use std::test::Fail;
 use test_common::rows::parted;
 use test_memory_common::answers::{Answer, digits, done, encoded, failed};
 use test_memory_common::inputs::bytes_of;
-use test_memory_common::marked;
 use test_memory_common::outcomes::Outcome;
+use test_memory_common::{answered, marked};
 use test_memory_tables::bytes::with_rest;
 
 /// The index and the bytes of a row, with a colon between them.
@@ -20,11 +20,11 @@ pub fn indexed(alloc: Global, row: &str) -> Result<(u32, Vec<u8>), Fail> {
 /// Makes the lent table of bytes, and leaves out what comes after it.
 pub fn new(rt: &HostRuntime, row: &str) -> Result<Outcome, Fail> {
     let bytes = bytes_of(rt.alloc(), row)?;
-    let answer = match marked!(rt; LentTable::new(rt.alloc(), &bytes)) {
-        Ok(table) => encoded(rt.alloc(), table.try_to_owned(rt.alloc())),
-        Err(error) => failed(rt.alloc(), &error),
-    };
-    Outcome::of(answer)
+    answered!(
+        rt;
+        LentTable::new(rt.alloc(), &bytes);
+        table => encoded(rt.alloc(), table.try_to_owned(rt.alloc()))
+    )
 }
 
 /// Makes the entries of a lent table that own their strings.

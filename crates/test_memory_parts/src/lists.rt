@@ -6,8 +6,8 @@ use std::test::Fail;
 use test_common::parts::text;
 use test_common::rows::{numbers, parted};
 use test_memory_common::answers::{Answer, done, failed};
-use test_memory_common::marked;
 use test_memory_common::outcomes::Outcome;
+use test_memory_common::{answered, marked};
 
 /// Pushes numbers.
 fn pushed(alloc: Global, numbers: &[u32]) -> Result<Items<u32>, AllocError> {
@@ -38,11 +38,11 @@ fn text_of(alloc: Global, items: Items<u32>) -> Result<String, AllocError> {
 /// Pushes the numbers of a row.
 pub fn push(rt: &HostRuntime, row: &str) -> Result<Outcome, Fail> {
     let numbers = numbers(rt.alloc(), row)?;
-    let returned = marked!(rt; pushed(rt.alloc(), &numbers));
-    Outcome::of(match returned {
-        Ok(items) => done(text_of(rt.alloc(), items)),
-        Err(error) => failed(rt.alloc(), &error),
-    })
+    answered!(
+        rt;
+        pushed(rt.alloc(), &numbers);
+        items => done(text_of(rt.alloc(), items))
+    )
 }
 
 /// The list of a value so often, grown towards a count that is announced.

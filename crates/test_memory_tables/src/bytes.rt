@@ -4,10 +4,10 @@ use scale_info::{DecodeError, PortableRegistry, Scale, TryClone};
 use std::alloc::{AllocError, Global};
 use std::test::Fail;
 use test_common::held::Held;
-use test_memory_common::answers::{Answer, digits, done, encoded, failed, shown};
-use test_memory_common::inputs::{bytes_of, output, table_of};
-use test_memory_common::marked;
+use test_memory_common::answers::{Answer, digits, done, encoded, failed};
+use test_memory_common::inputs::{bytes_of, table_of};
 use test_memory_common::outcomes::Outcome;
+use test_memory_common::{appended, marked};
 
 /// Digits, and after a `+` those of the bytes that are left.
 pub fn with_rest(digits: Result<String, AllocError>, rest: &[u8]) -> Result<String, AllocError> {
@@ -50,11 +50,7 @@ pub fn decode_compact(rt: &HostRuntime, row: &str) -> Result<Outcome, Fail> {
 /// Encodes a table.
 pub fn encode(rt: &HostRuntime, row: &str) -> Result<Outcome, Fail> {
     let table = Held(table_of(rt.alloc(), row)?);
-    let mut out = output(rt.alloc())?;
-    let before = hex::encode(rt.alloc(), out.as_slice());
-    let returned = marked!(rt; table.0.encode(&mut out));
-    let after = hex::encode(rt.alloc(), out.as_slice());
-    Outcome::lending(before, after, shown(rt.alloc(), returned))
+    appended!(rt; out => table.0.encode(&mut out))
 }
 
 /// Copies a table.

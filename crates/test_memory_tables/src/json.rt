@@ -7,18 +7,17 @@ use std::test::Fail;
 use test_common::held::Held;
 use test_memory_common::answers::{done, encoded, failed};
 use test_memory_common::inputs::{bytes_of, output, table_of};
-use test_memory_common::marked;
 use test_memory_common::outcomes::Outcome;
+use test_memory_common::{answered, marked};
 
 /// The tree of a table.
 pub fn tree_of(rt: &HostRuntime, row: &str) -> Result<Outcome, Fail> {
     let table = Held(table_of(rt.alloc(), row)?);
-    let returned = marked!(rt; to_json(rt.alloc(), &table.0));
-    let answer = match returned {
-        Ok(tree) => done(tree.to_string(rt.alloc())),
-        Err(error) => failed(rt.alloc(), &error),
-    };
-    Outcome::of(answer)
+    answered!(
+        rt;
+        to_json(rt.alloc(), &table.0);
+        tree => done(tree.to_string(rt.alloc()))
+    )
 }
 
 /// The tree of a text that comes after the word "text", or else of the table of this name.

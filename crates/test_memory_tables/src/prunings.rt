@@ -6,9 +6,9 @@ use std::test::Fail;
 use test_common::held::Held;
 use test_common::rows::{numbers, parted};
 use test_memory_common::answers::{digits, done, failed, shown};
-use test_memory_common::inputs::{bytes_of, is_malformed, output, table_of};
-use test_memory_common::marked;
+use test_memory_common::inputs::{bytes_of, is_malformed, table_of};
 use test_memory_common::outcomes::Outcome;
+use test_memory_common::{answered, appended, marked};
 
 /// Calls of `prune` that are refused: a row is a name, a colon, the ids, a semicolon and the name
 /// of the bytes.
@@ -76,21 +76,13 @@ fn pruned(alloc: Global, row: &str) -> Result<(Vec<u8>, Vec<u32>), Fail> {
 /// Appends the table of what the given ids reach, with the new ids.
 pub fn prune_bytes(rt: &HostRuntime, row: &str) -> Result<Outcome, Fail> {
     let (bytes, ids) = pruned(rt.alloc(), row)?;
-    let mut out = output(rt.alloc())?;
-    let before = hex::encode(rt.alloc(), out.as_slice());
-    let returned = marked!(rt; prune(rt.alloc(), &bytes, &ids, &mut out));
-    let after = hex::encode(rt.alloc(), out.as_slice());
-    Outcome::lending(before, after, shown(rt.alloc(), returned))
+    appended!(rt; out => prune(rt.alloc(), &bytes, &ids, &mut out))
 }
 
 /// Appends the table of what the given ids reach.
 pub fn append_pruned_bytes(rt: &HostRuntime, row: &str) -> Result<Outcome, Fail> {
     let (bytes, ids) = pruned(rt.alloc(), row)?;
-    let mut out = output(rt.alloc())?;
-    let before = hex::encode(rt.alloc(), out.as_slice());
-    let returned = marked!(rt; append_pruned(rt.alloc(), &bytes, &ids, &mut out));
-    let after = hex::encode(rt.alloc(), out.as_slice());
-    Outcome::lending(before, after, shown(rt.alloc(), returned))
+    appended!(rt; out => append_pruned(rt.alloc(), &bytes, &ids, &mut out))
 }
 
 /// The outcome of a walk.
@@ -146,12 +138,11 @@ pub fn refs_of(rt: &HostRuntime, row: &str) -> Result<Outcome, Fail> {
     let Some(ty) = table.0.resolve(0) else {
         return Err(Fail::new("the table is empty"));
     };
-    let returned = marked!(rt; Refs::of(rt.alloc(), ty));
-    let answer = match returned {
-        Ok(refs) => done(listed(rt.alloc(), refs)),
-        Err(error) => failed(rt.alloc(), &error),
-    };
-    Outcome::of(answer)
+    answered!(
+        rt;
+        Refs::of(rt.alloc(), ty);
+        refs => done(listed(rt.alloc(), refs))
+    )
 }
 
 /// Puts the references of the entry at index 0 before one that is left.

@@ -21,14 +21,22 @@ fn begun(alloc: Global) -> Result<(Held<Catalogue>, Held<Registry>), Fail> {
     Ok((known, registry))
 }
 
+/// Makes a call between the marks on the registry of `u8` under the catalogue of all types, and
+/// shows the encoding of what it returned.
+macro_rules! registered {
+    ($rt:expr; $registry:ident, $known:ident => $call:expr $(, $list:ident)?) => {{
+        let ($known, mut $registry) = begun($rt.alloc())?;
+        let before = state($rt.alloc(), &$registry.0, &$known.0);
+        let returned = marked!($rt; $call);
+        let after = state($rt.alloc(), &$registry.0, &$known.0);
+        Outcome::lending(before, after, encoded($rt.alloc(), $($list)?(returned)))
+    }};
+}
+
 /// Registers a type.
 pub fn register_type(rt: &HostRuntime, name: &str) -> Result<Outcome, Fail> {
-    let (known, mut registry) = begun(rt.alloc())?;
     let ty = Held(type_named(rt.alloc(), name)?);
-    let before = state(rt.alloc(), &registry.0, &known.0);
-    let returned = marked!(rt; registry.0.register_type(&ty.0, &known.0));
-    let after = state(rt.alloc(), &registry.0, &known.0);
-    Outcome::lending(before, after, encoded(rt.alloc(), returned))
+    registered!(rt; registry, known => registry.0.register_type(&ty.0, &known.0))
 }
 
 /// Registers a type that the registry has, under a catalogue without descriptions.
@@ -51,22 +59,17 @@ pub fn three(alloc: Global, name: &str) -> Result<Vec<MetaType>, Fail> {
 
 /// Registers three types.
 pub fn register_types(rt: &HostRuntime, name: &str) -> Result<Outcome, Fail> {
-    let (known, mut registry) = begun(rt.alloc())?;
     let types = Held(three(rt.alloc(), name)?);
-    let before = state(rt.alloc(), &registry.0, &known.0);
-    let returned = marked!(rt; registry.0.register_types(types.into_inner(), &known.0));
-    let after = state(rt.alloc(), &registry.0, &known.0);
-    Outcome::lending(before, after, encoded(rt.alloc(), listed(returned)))
+    registered!(
+        rt;
+        registry, known => registry.0.register_types(types.into_inner(), &known.0), listed
+    )
 }
 
 /// Registers three types that stay where they are.
 pub fn register_all(rt: &HostRuntime, name: &str) -> Result<Outcome, Fail> {
-    let (known, mut registry) = begun(rt.alloc())?;
     let types = Held(three(rt.alloc(), name)?);
-    let before = state(rt.alloc(), &registry.0, &known.0);
-    let returned = marked!(rt; registry.0.register_all(&types.0, &known.0));
-    let after = state(rt.alloc(), &registry.0, &known.0);
-    Outcome::lending(before, after, encoded(rt.alloc(), listed(returned)))
+    registered!(rt; registry, known => registry.0.register_all(&types.0, &known.0), listed)
 }
 
 /// Two fields, of which the second is one of a type that is not described where the name says so.
@@ -81,11 +84,10 @@ fn two_fields(alloc: Global, name: &str) -> Result<Vec<Field>, AllocError> {
 /// Converts two fields.
 pub fn map_into_portable(rt: &HostRuntime, name: &str) -> Result<Outcome, Fail> {
     let fields = Held(two_fields(rt.alloc(), name)?);
-    let (known, mut registry) = begun(rt.alloc())?;
-    let before = state(rt.alloc(), &registry.0, &known.0);
-    let returned = marked!(rt; registry.0.map_into_portable(fields.into_inner(), &known.0));
-    let after = state(rt.alloc(), &registry.0, &known.0);
-    Outcome::lending(before, after, encoded(rt.alloc(), listed(returned)))
+    registered!(
+        rt;
+        registry, known => registry.0.map_into_portable(fields.into_inner(), &known.0), listed
+    )
 }
 
 /// Converts a value by a catalogue.
@@ -97,11 +99,7 @@ pub fn into_portable<T: IntoPortable + Drop>(
 where
     T::Output: Scale,
 {
-    let (described, mut registry) = begun(rt.alloc())?;
-    let before = state(rt.alloc(), &registry.0, &described.0);
-    let returned = marked!(rt; value.into_portable(rt.alloc(), &mut registry.0, known));
-    let after = state(rt.alloc(), &registry.0, &described.0);
-    Outcome::lending(before, after, encoded(rt.alloc(), returned))
+    registered!(rt; registry, described => value.into_portable(rt.alloc(), &mut registry.0, known))
 }
 
 /// Makes the table of a registry.

@@ -82,44 +82,41 @@ fn listed(
     }
 }
 
+/// The outcome of the id of a type.
+fn single(
+    alloc: Global,
+    returned: Result<UntrackedSymbol<TypeId>, RegisterError>,
+) -> Result<Answer, AllocError> {
+    match returned {
+        Ok(symbol) => printed(alloc, ids(alloc, &[symbol])),
+        Err(error) => failed(alloc, &error),
+    }
+}
+
+/// Makes a call between the marks on a registry under a catalogue, and shows what it returned.
+macro_rules! registered {
+    ($rt:expr, $given:expr; $registry:ident, $known:ident => $call:expr, $shown:ident) => {{
+        let (mut $registry, $known) = $given;
+        let before = state($rt.alloc(), &$registry.0);
+        let returned = marked!($rt; $call);
+        let after = state($rt.alloc(), &$registry.0);
+        Outcome::lending(before, after, $shown($rt.alloc(), returned))
+    }};
+}
+
 /// Registers types, which are handed over.
-fn register_types(
-    rt: &HostRuntime,
-    (mut registry, known): Given,
-    types: Vec<MetaType>,
-) -> Result<Outcome, Fail> {
-    let before = state(rt.alloc(), &registry.0);
-    let returned = marked!(rt; registry.0.register_types(types, &known.0));
-    let after = state(rt.alloc(), &registry.0);
-    Outcome::lending(before, after, listed(rt.alloc(), returned))
+fn register_types(rt: &HostRuntime, given: Given, types: Vec<MetaType>) -> Result<Outcome, Fail> {
+    registered!(rt, given; registry, known => registry.0.register_types(types, &known.0), listed)
 }
 
 /// Registers types, which stay where they are.
-fn register_all(
-    rt: &HostRuntime,
-    (mut registry, known): Given,
-    types: &[MetaType],
-) -> Result<Outcome, Fail> {
-    let before = state(rt.alloc(), &registry.0);
-    let returned = marked!(rt; registry.0.register_all(types, &known.0));
-    let after = state(rt.alloc(), &registry.0);
-    Outcome::lending(before, after, listed(rt.alloc(), returned))
+fn register_all(rt: &HostRuntime, given: Given, types: &[MetaType]) -> Result<Outcome, Fail> {
+    registered!(rt, given; registry, known => registry.0.register_all(types, &known.0), listed)
 }
 
 /// Registers a type.
-fn register_type(
-    rt: &HostRuntime,
-    (mut registry, known): Given,
-    ty: &MetaType,
-) -> Result<Outcome, Fail> {
-    let before = state(rt.alloc(), &registry.0);
-    let returned = marked!(rt; registry.0.register_type(ty, &known.0));
-    let after = state(rt.alloc(), &registry.0);
-    let answer = match returned {
-        Ok(symbol) => printed(rt.alloc(), ids(rt.alloc(), &[symbol])),
-        Err(error) => failed(rt.alloc(), &error),
-    };
-    Outcome::lending(before, after, answer)
+fn register_type(rt: &HostRuntime, given: Given, ty: &MetaType) -> Result<Outcome, Fail> {
+    registered!(rt, given; registry, known => registry.0.register_type(ty, &known.0), single)
 }
 
 /// Registers the types of a row by the call of this name.

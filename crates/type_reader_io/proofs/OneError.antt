@@ -16,7 +16,8 @@ use Rattle.type_reader_io.specs.declared.error.ValueFault.{ValueFault}
 use Rattle.type_reader_io.specs.declared.error.ValueFault.TheVariants as faults
 use Rattle.type_reader_io.specs.Inputs.{IsWithoutFeed}
 use Rattle.type_reader_io.specs.Lines.{HasSmallNumber, IsPathStart, IsReportedAs, fault_text}
-use Rattle.type_reader_io.specs.Lines.{line_of, line_with}
+use Rattle.type_reader_io.specs.Lines.{line_of}
+use Rattle.type_table_io.specs.Lines.{line_with}
 
 -- an error without what it holds
 abbrev kind_of : ReaderError → ReaderError

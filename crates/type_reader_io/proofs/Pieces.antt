@@ -8,7 +8,7 @@ use Rattle.type_reader_io.proofs.OneError.{named, no_line, same_error, small_let
 use Rattle.type_reader_io.specs.declared.error.ReaderError.{ReaderError}
 use Rattle.type_reader_io.specs.declared.error.ValueFault.{ValueFault}
 use Rattle.type_reader_io.specs.Lines.{HasSmallNumber, IsReportedAs, bad_line, fault_text, line_of}
-use Rattle.type_reader_io.specs.Lines.{line_with}
+use Rattle.type_table_io.specs.Lines.{line_with}
 use Rattle.type_reader_io.specs.Reports.{ReportsEach}
 use Rattle.type_table_io.specs.Reports.{AppendsPrefix, Reported}
 

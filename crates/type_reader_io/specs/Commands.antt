@@ -10,37 +10,23 @@ use Rattle.type_reader_io.specs.declared.command.Docs.{Docs}
 use Rattle.type_reader_io.specs.declared.command.Docs.TheVariants as docs
 use Rattle.type_reader_io.specs.declared.command.Request.{Request}
 use Rattle.type_reader_io.specs.declared.command.Request.TheVariants as requests
-use Rattle.type_reader_io.specs.declared.command.Word.{Word}
-use Rattle.type_reader_io.specs.declared.command.Word.TheVariants as words
-
--- the first argument of a command
-abbrev pub word_of : Word → List ℕ
-word_of words.Table = codes "table"
-word_of words.Strip = codes "strip"
-word_of words.List = codes "list"
-word_of words.Find = codes "find"
-word_of words.Prune = codes "prune"
-word_of words.Graph = codes "graph"
-word_of words.Diff = codes "diff"
-word_of words.Value = codes "value"
-word_of words.Encode = codes "encode"
 
 -- the word of a conversion
-abbrev pub conversion_word : Conversion → Word
-conversion_word conversions.Decode = words.Value
-conversion_word conversions.Encode = words.Encode
+abbrev pub conversion_word : Conversion → List ℕ
+conversion_word conversions.Decode = codes "value"
+conversion_word conversions.Encode = codes "encode"
 
 -- the request has this word, and these arguments after the table: there is one type at least to
 -- prune to, or to write as a graph
-abbrev pub IsRequest : Word → List (List ℕ) → Request → Type 0
-IsRequest word more requests.Table = (word ≡ words.Table) × (more ≡ [])
-IsRequest word more requests.Strip = (word ≡ words.Strip) × (more ≡ [])
-IsRequest word more (requests.List texts) = (word ≡ words.List) × (more ≡ texts.now)
-IsRequest word more (requests.Find pattern) = (word ≡ words.Find) × (more ≡ pattern.now ∷ [])
+abbrev pub IsRequest : (word : List ℕ) → List (List ℕ) → Request → Type 0
+IsRequest word more requests.Table = (word ≡ codes "table") × (more ≡ [])
+IsRequest word more requests.Strip = (word ≡ codes "strip") × (more ≡ [])
+IsRequest word more (requests.List texts) = (word ≡ codes "list") × (more ≡ texts.now)
+IsRequest word more (requests.Find pattern) = (word ≡ codes "find") × (more ≡ pattern.now ∷ [])
 IsRequest word more (requests.Prune texts) =
-    (word ≡ words.Prune) × (more ≡ texts.now) × (texts.now ≢ [])
+    (word ≡ codes "prune") × (more ≡ texts.now) × (texts.now ≢ [])
 IsRequest word more (requests.Graph texts) =
-    (word ≡ words.Graph) × (more ≡ texts.now) × (texts.now ≢ [])
+    (word ≡ codes "graph") × (more ≡ texts.now) × (texts.now ≢ [])
 IsRequest word more (requests.Convert conversion ty value) =
     (word ≡ conversion_word conversion) × (more ≡ ty.now ∷ value.now ∷ [])
 
@@ -68,19 +54,19 @@ pub record IsComparison (first : List ℕ) (more : List (List ℕ)) (comparison 
 -- the command has this word, this table and these arguments after it; where the standard input is
 -- read line by line, the table is not read from it; where tables are compared, what stands in the
 -- place of the table may be `--docs`
-abbrev pub IsOfWord : Word → (table : List ℕ) → List (List ℕ) → Command → Type 0
+abbrev pub IsOfWord : (word table : List ℕ) → List (List ℕ) → Command → Type 0
 IsOfWord word table more (commands.Once request) = IsRequest word more request
 IsOfWord word table more (commands.Lines conversion ty) =
     (word ≡ conversion_word conversion) × (more ≡ ty.now ∷ []) × (table ≢ codes "-")
 IsOfWord word table more (commands.Diff comparison) =
-    (word ≡ words.Diff) × IsComparison table more comparison
+    (word ≡ codes "diff") × IsComparison table more comparison
 
 -- the arguments name the command: its word, a table, and the arguments after it
 pub record Names (arguments : List (List ℕ)) (command : Command) : Type 0 where
-  pub word : Word
+  pub word : List ℕ
   pub table : List ℕ
   pub more : List (List ℕ)
-  pub parts : arguments ≡ word_of word ∷ table ∷ more
+  pub parts : arguments ≡ word ∷ table ∷ more
   pub is_of_word : IsOfWord word table more command
 
 -- the arguments name a command, and the fact holds of it

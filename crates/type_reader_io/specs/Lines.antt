@@ -1,6 +1,6 @@
 -- The lines for errors.
-use Rattle.std.specs.Prelude.{◌≡◌, ◌≤◌, ℕ, List, [], ◌++◌, codes, None, Some, decimal}
-use Rattle.std.specs.declared.option.Option.{Option}
+use Rattle.std.specs.Prelude.{◌≡◌, ◌≤◌, ℕ, List, ◌++◌, codes, decimal}
+use Rattle.type_table_io.specs.Lines.{line_with}
 use Rattle.type_reader_io.specs.declared.error.ReaderError.{ReaderError}
 use Rattle.type_reader_io.specs.declared.error.ReaderError.TheVariants as errors
 use Rattle.type_reader_io.specs.declared.error.ValueFault.{ValueFault}
@@ -13,10 +13,6 @@ abbrev pub usage_line : List ℕ
 usage_line =
     codes
     "usage: type_reader table TABLE | strip TABLE | list TABLE [TYPE ..] | find TABLE PATTERN | prune TABLE TYPE .. | graph TABLE TYPE .. | diff [--docs] OLD NEW [PATH ..] | value TABLE TYPE [HEX] | encode TABLE TYPE [JSON]\n"
-
--- a line that ends with a text
-abbrev pub line_with : List ℕ → List ℕ → List ℕ
-line_with text end = text ++ (end ++ codes "\n")
 
 -- why a text gives no value, in words
 abbrev pub fault_text : ValueFault → List ℕ
@@ -78,8 +74,3 @@ message_text messages.Usage = usage_line
 message_text (messages.Refused error) = line_of error
 message_text (messages.Notes notes) = notes.items
 message_text (messages.BadLine number fault) = bad_line number fault
-
--- the text of a message that was kept; nothing, where there was none
-abbrev pub kept_text : Option Message → List ℕ
-kept_text None = []
-kept_text (Some message) = message_text message

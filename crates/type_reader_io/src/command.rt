@@ -1,12 +1,11 @@
 //! Commands, and the arguments that name them.
 ghost use Rattle.std.specs.Prelude.{◌≡◌, ◌∷◌, [], IfSome, IfNone};
 ghost use Rattle.type_reader_io.specs.Commands.{AreOperands, IsCommand, IsComparison, IsOfWord};
-ghost use Rattle.type_reader_io.specs.Commands.{IsRequest, Names, conversion_word, word_of};
+ghost use Rattle.type_reader_io.specs.Commands.{IsRequest, Names, conversion_word};
 ghost use Rattle.type_reader_io.specs.declared.command.Command.{Command as CommandValue};
 ghost use Rattle.type_reader_io.specs.declared.command.Comparison.{Comparison as ComparisonValue};
 ghost use Rattle.type_reader_io.specs.declared.command.Conversion.{Conversion as ConversionValue};
 ghost use Rattle.type_reader_io.specs.declared.command.Request.{Request as RequestValue};
-ghost use Rattle.type_reader_io.specs.declared.command.Word.{Word as WordValue};
 
 use scale_info_collections::text::Text;
 
@@ -73,77 +72,36 @@ pub enum Request<'a> {
     Convert(Conversion, &'a Text, &'a Text),
 }
 
-/// The first argument of a command.
-#[derive(Clone, Copy, Drop)]
-enum Word {
-    /// `table`
-    Table,
-    /// `strip`
-    Strip,
-    /// `list`
-    List,
-    /// `find`
-    Find,
-    /// `prune`
-    Prune,
-    /// `graph`
-    Graph,
-    /// `diff`
-    Diff,
-    /// `value`
-    Value,
-    /// `encode`
-    Encode,
-}
-
-/// The word that the text is; None where it is none.
-fn word_of(text: &str) -> Option<Word>
-    ensures some { IfSome result (λ word. text.now ≡ word_of word) }
-    ensures none { IfNone result ((word : WordValue) → text.now ≡ word_of word → ⊥) }
-{
-    match text {
-        "table" => Some(Word::Table),
-        "strip" => Some(Word::Strip),
-        "list" => Some(Word::List),
-        "find" => Some(Word::Find),
-        "prune" => Some(Word::Prune),
-        "graph" => Some(Word::Graph),
-        "diff" => Some(Word::Diff),
-        "value" => Some(Word::Value),
-        "encode" => Some(Word::Encode),
-        _ => None,
-    }
-}
-
 /// The request that has this word, and these arguments after the table; None where there is none.
-fn request_by(word: Word, more: &[Text]) -> Option<Request<'_>>
-    ensures some { IfSome result (IsRequest word more.now) }
-    ensures none { IfNone result ((request : RequestValue) → IsRequest word more.now request → ⊥) }
+fn request_by<'a>(word: &str, more: &'a [Text]) -> Option<Request<'a>>
+    ensures some { IfSome result (IsRequest word.now more.now) }
+    ensures none { IfNone result
+        ((request : RequestValue) → IsRequest word.now more.now request → ⊥) }
 {
     match (word, more) {
-        (Word::Table, []) => Some(Request::Table),
-        (Word::Strip, []) => Some(Request::Strip),
-        (Word::List, _) => Some(Request::List(more)),
-        (Word::Find, [pattern]) => Some(Request::Find(pattern)),
-        (Word::Prune, [_, ..]) => Some(Request::Prune(more)),
-        (Word::Graph, [_, ..]) => Some(Request::Graph(more)),
-        (Word::Value, [ty, digits]) => Some(Request::Convert(Conversion::Decode, ty, digits)),
-        (Word::Encode, [ty, json]) => Some(Request::Convert(Conversion::Encode, ty, json)),
+        ("table", []) => Some(Request::Table),
+        ("strip", []) => Some(Request::Strip),
+        ("list", _) => Some(Request::List(more)),
+        ("find", [pattern]) => Some(Request::Find(pattern)),
+        ("prune", [_, ..]) => Some(Request::Prune(more)),
+        ("graph", [_, ..]) => Some(Request::Graph(more)),
+        ("value", [ty, digits]) => Some(Request::Convert(Conversion::Decode, ty, digits)),
+        ("encode", [ty, json]) => Some(Request::Convert(Conversion::Encode, ty, json)),
         _ => None,
     }
 }
 
 /// The conversion that has this word, and the type that is the one argument after the table; None
 /// where there is none.
-fn lines_by(word: Word, more: &[Text]) -> Option<(Conversion, &Text)>
+fn lines_by<'a>(word: &str, more: &'a [Text]) -> Option<(Conversion, &'a Text)>
     ensures some { IfSome result (λ found.
-        (word ≡ conversion_word found.0) × (more.now ≡ found.1.now ∷ [])) }
+        (word.now ≡ conversion_word found.0) × (more.now ≡ found.1.now ∷ [])) }
     ensures none { IfNone result ((conversion : ConversionValue) → (ty : _)
-        → word ≡ conversion_word conversion → more.now ≡ ty ∷ [] → ⊥) }
+        → word.now ≡ conversion_word conversion → more.now ≡ ty ∷ [] → ⊥) }
 {
     match (word, more) {
-        (Word::Value, [ty]) => Some((Conversion::Decode, ty)),
-        (Word::Encode, [ty]) => Some((Conversion::Encode, ty)),
+        ("value", [ty]) => Some((Conversion::Decode, ty)),
+        ("encode", [ty]) => Some((Conversion::Encode, ty)),
         _ => None,
     }
 }
@@ -193,12 +151,12 @@ fn comparison_by<'a>(first: &'a Text, more: &'a [Text]) -> Option<Comparison<'a>
 
 /// The command that has this word, this argument after it and these further ones; None where there
 /// is none.
-fn command_by<'a>(word: Word, table: &'a Text, more: &'a [Text]) -> Option<Command<'a>>
-    ensures some { IfSome result (IsOfWord word table.now more.now) }
+fn command_by<'a>(word: &str, table: &'a Text, more: &'a [Text]) -> Option<Command<'a>>
+    ensures some { IfSome result (IsOfWord word.now table.now more.now) }
     ensures none { IfNone result
-        ((command : CommandValue) → IsOfWord word table.now more.now command → ⊥) }
+        ((command : CommandValue) → IsOfWord word.now table.now more.now command → ⊥) }
 {
-    if matches!(word, Word::Diff) {
+    if word == "diff" {
         return match comparison_by(table, more) {
             Some(comparison) => Some(Command::Diff(comparison)),
             None => None,
@@ -227,10 +185,7 @@ pub fn command_of(arguments: &[Text]) -> Option<Command<'_>>
     ensures none { IfNone result (IsCommand arguments.now → ⊥) }
 {
     match arguments {
-        [word, table, more @ ..] => match word_of(word.as_str()) {
-            Some(word) => command_by(word, table, more),
-            None => None,
-        },
+        [word, table, more @ ..] => command_by(word.as_str(), table, more),
         _ => None,
     }
 }

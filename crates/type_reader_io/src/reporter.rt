@@ -1,37 +1,3 @@
 //! Reporters: what takes the messages of a run.
-ghost use Rattle.std.specs.Prelude.{◌≡◌, ℕ, List};
-ghost use Rattle.type_reader_io.specs.Lines.{kept_text, message_text};
 
-use crate::message::Message;
-
-/// What takes the messages of a run.
-///
-/// `reported` says what a reporter is after it was given a text, by what it was before. Where a
-/// reporter takes all that it is given, `reported` says so, and a run ends with it.
-///
-/// For example, [`Kept`] keeps the message.
-pub trait Reporter {
-    ghost reported: { Self → Self → List ℕ → Type 0 };
-
-    /// Takes the message, or its text.
-    fn report(&mut self, message: Message)
-        ensures { reported self.old self.new (message_text message) };
-}
-
-/// A reporter that keeps the message, and so takes all that it is given. Does not allocate.
-///
-/// For example, after a run without arguments, which returns 2, with `Kept { message: None }` as
-/// the reporter, `message` is `Some(Message::Usage)`.
-#[derive(Drop, Debug)]
-pub struct Kept {
-    /// The last message that was given, if there was one.
-    pub message: Option<Message>,
-}
-
-impl Reporter for Kept {
-    ghost reported = { λ old new text. kept_text new.message ≡ text };
-
-    fn report(&mut self, message: Message) {
-        self.message = Some(message);
-    }
-}
+pub use type_table_io::reporter::{Kept, Reporter};

@@ -49,7 +49,7 @@ fn compare<R: Read, S: Read, W: Write>(
 }
 
 /// Writes what changed between the tables of the two inputs, and returns the status.
-pub fn run_diff<R: Read, S: Read, W: Write, T: Reporter>(
+pub fn run_diff<R: Read, S: Read, W: Write, T: Reporter<Message>>(
     alloc: Global,
     comparison: &Comparison<'_>,
     reader: &mut R,

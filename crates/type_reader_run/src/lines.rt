@@ -83,7 +83,7 @@ fn write_beyond<W: Write>(
 ///
 /// Errors: `Memory`, if an allocation failed; `Output`, if a write or a flush fails; `Input`, if
 /// the line has no number.
-fn convert_line<W: Write, T: Reporter>(
+fn convert_line<W: Write, T: Reporter<Message>>(
     alloc: Global,
     converter: &Converter,
     line: &[u8],
@@ -119,7 +119,7 @@ fn convert_line<W: Write, T: Reporter>(
 /// Converts the next line, of which these bytes stand before its line feed.
 ///
 /// Errors: as [`convert_line`].
-fn end_line<W: Write, T: Reporter>(
+fn end_line<W: Write, T: Reporter<Message>>(
     alloc: Global,
     converter: &Converter,
     end: &[u8],
@@ -163,7 +163,7 @@ fn end_line<W: Write, T: Reporter>(
 /// of the next line.
 ///
 /// Errors: as [`convert_line`].
-fn convert_piece<W: Write, T: Reporter>(
+fn convert_piece<W: Write, T: Reporter<Message>>(
     alloc: Global,
     converter: &Converter,
     piece: &[u8],
@@ -203,7 +203,7 @@ fn read_error(error: &io::Error) -> ReaderError
 /// the input.
 ///
 /// Errors: as [`convert_line`]; `Input`, if a read fails.
-fn convert_buffered<S: BufRead, W: Write, T: Reporter>(
+fn convert_buffered<S: BufRead, W: Write, T: Reporter<Message>>(
     alloc: Global,
     converter: &Converter,
     second: &mut S,
@@ -241,7 +241,7 @@ fn convert_buffered<S: BufRead, W: Write, T: Reporter>(
 /// Converts the last line, of which no line feed stands at the end, if there is one.
 ///
 /// Errors: as [`convert_line`].
-fn end_input<W: Write, T: Reporter>(
+fn end_input<W: Write, T: Reporter<Message>>(
     alloc: Global,
     converter: &Converter,
     progress: &mut Progress,
@@ -267,7 +267,7 @@ fn end_input<W: Write, T: Reporter>(
 /// before the input is read on, and not at the end.
 ///
 /// Errors: as [`convert_buffered`]; `Input`, if the input does not end.
-fn convert_input<S: BufRead, W: Write, T: Reporter>(
+fn convert_input<S: BufRead, W: Write, T: Reporter<Message>>(
     alloc: Global,
     converter: &Converter,
     second: &mut S,
@@ -298,7 +298,7 @@ fn convert_input<S: BufRead, W: Write, T: Reporter>(
 ///
 /// Errors: `Memory`, if an allocation failed; `Input`, if a read fails; `Output`, if a write or a
 /// flush fails. The lines before that were converted.
-pub fn convert_lines<S: BufRead, W: Write, T: Reporter>(
+pub fn convert_lines<S: BufRead, W: Write, T: Reporter<Message>>(
     alloc: Global,
     converter: &Converter,
     second: &mut S,

@@ -54,7 +54,7 @@ fn perform<R: Read, W: Write>(
 }
 
 /// Does what a request asks, and returns the status.
-fn run_once<R: Read, W: Write, T: Reporter>(
+fn run_once<R: Read, W: Write, T: Reporter<Message>>(
     alloc: Global,
     request: &Request,
     reader: &mut R,
@@ -125,7 +125,7 @@ fn read_converter<R: Read>(
 
 /// Converts the lines of the second input, which are values of the type that the text gives of the
 /// table of the first, and returns the status.
-fn run_lines<R: Read, S: BufRead, W: Write, T: Reporter>(
+fn run_lines<R: Read, S: BufRead, W: Write, T: Reporter<Message>>(
     alloc: Global,
     conversion: Conversion,
     text: &Text,
@@ -169,7 +169,7 @@ fn run_lines<R: Read, S: BufRead, W: Write, T: Reporter>(
 /// status 0 the notes, if there are any. At status 1 it is given [`Message::BadLine`] for each bad
 /// line, and then the error, if there is one; where tables were compared and something changed, it
 /// is given nothing.
-pub fn run_with<R: Read, S: BufRead, W: Write, T: Reporter>(
+pub fn run_with<R: Read, S: BufRead, W: Write, T: Reporter<Message>>(
     alloc: Global,
     arguments: &[Text],
     reader: &mut R,

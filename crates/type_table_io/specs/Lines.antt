@@ -1,7 +1,8 @@
 -- The lines for errors.
-use Rattle.std.specs.Prelude.{ℕ, ◌≤◌, List, [], ◌++◌, codes, None, Some}
+use Rattle.std.specs.Prelude.{ℕ, ◌≤◌, List, ◌++◌, codes}
 use Rattle.std.specs.declared.option.Option.{Option}
 use Rattle.std.specs.Fmt.{decimal}
+use Rattle.type_table_io.specs.Reports.{kept_text}
 use Rattle.type_table_io.specs.declared.error.RunError.{RunError}
 use Rattle.type_table_io.specs.declared.error.RunError.TheVariants.{Malformed, TrailingBytes}
 use Rattle.type_table_io.specs.declared.error.RunError.TheVariants.{NoSuchType, Dangling}
@@ -13,9 +14,13 @@ use Rattle.type_table_io.specs.declared.message.Message.TheVariants.{Usage, Refu
 abbrev pub usage_line : List ℕ
 usage_line = codes "usage: type_table check | prune ID .. | json\n"
 
+-- a line that ends with a text
+abbrev pub line_with : List ℕ → List ℕ → List ℕ
+line_with text end = text ++ (end ++ codes "\n")
+
 -- a line that ends with an id, in decimal digits
 abbrev pub id_line : List ℕ → ℕ → List ℕ
-id_line text id = text ++ (decimal id ++ codes "\n")
+id_line text id = line_with text (decimal id)
 
 -- the line that reports an error
 abbrev pub line_of : RunError → List ℕ
@@ -34,8 +39,7 @@ message_line (Refused error) = line_of error
 
 -- the line of a message that was kept; nothing, where there was none
 abbrev pub kept_line : Option Message → List ℕ
-kept_line None = []
-kept_line (Some message) = message_line message
+kept_line = kept_text message_line
 
 -- the id of an error, if it has one, is at most 4294967295
 abbrev pub HasSmallId : RunError → Type 0

@@ -1,111 +1,113 @@
 //! Lines on the writer for errors.
 ghost use Rattle.std.specs.Io.KnownBytes.{Appends};
-ghost use Rattle.std.specs.Prelude.{◌≡◌, ◌++◌, codes, OnOk};
-ghost use Rattle.type_table_io.specs.Lines.{id_line, line_of, message_line};
+ghost use Rattle.std.specs.Prelude.{◌≡◌, OnOk, decimal};
+ghost use Rattle.type_table_io.specs.Lines.{line_of, line_with, message_line};
 ghost use Rattle.type_table_io.specs.Reports.{AppendsPrefix};
 
 use crate::error::RunError;
 use crate::message::Message;
 use crate::reporter::Reporter;
-use crate::writing::write_all;
+use crate::told::Told;
+use crate::writing::{write_all, write_line};
 use itoa::Buffer;
 use std::io;
 use std::io::Write;
 
-const USAGE: &str = "usage: type_table check | prune ID .. | json\n";
-
-/// The writer for errors as a reporter: the line of a message is written to it.
+/// The writer for errors as a reporter: the text of a message is written to it.
 #[derive(Drop)]
 pub struct ErrorWriter<'a, F> {
     /// The writer.
     pub errors: &'a mut F,
 }
 
-impl<F: Write> Reporter for ErrorWriter<'_, F> {
-    ghost reported = { λ old new line. (new.errors.ghost_name ≡ old.errors.ghost_name)
-        × AppendsPrefix (F.contents old.errors.now) (F.contents new.errors.now) line };
+impl<F: Write, M: Told> Reporter<M> for ErrorWriter<'_, F> {
+    ghost reported = { λ old new text. (new.errors.ghost_name ≡ old.errors.ghost_name)
+        × AppendsPrefix (F.contents old.errors.now) (F.contents new.errors.now) text };
 
-    /// A line that can't be written is left out, or a prefix of it is written.
-    fn report(&mut self, message: Message) {
+    /// A text that can't be written is left out, or a prefix of it is written.
+    fn report(&mut self, message: M) {
         let _ = report_message(self.errors, &message);
     }
 }
 
-/// Writes the line of a message to a writer for errors. An Ok has written the whole line. Does not
+/// Writes the text of a message to a writer for errors. An Ok has written all of it. Does not
 /// allocate.
 ///
 /// For example, that of `Message::Usage` is `usage: type_table check | prune ID .. | json`, with a
 /// line feed.
 ///
 /// Errors: that of a write or a flush that fails; then a prefix was written.
-pub fn report_message<F: Write>(errors: &mut F, message: &Message) -> io::Result<()>
+pub fn report_message<F: Write, M: Told>(errors: &mut F, message: &M) -> io::Result<()>
     ensures line { AppendsPrefix (F.contents errors.old) (F.contents errors.new)
-        (message_line message.now) }
+        (M.text message.now) }
     ensures whole { OnOk result (Appends (F.contents errors.old) (F.contents errors.new)
-        (message_line message.now)) }
+        (M.text message.now)) }
 {
-    match message {
-        Message::Usage => report(errors, USAGE),
-        Message::Refused(error) => report_error(errors, error),
+    message.tell(errors)
+}
+
+impl Told for Message {
+    ghost text = { message_line };
+
+    fn tell<F: Write>(&self, errors: &mut F) -> io::Result<()> {
+        match self {
+            Message::Usage => report(errors, b"usage: type_table check | prune ID .. | json\n"),
+            Message::Refused(error) => error.tell(errors),
+        }
     }
 }
 
-/// Writes a line to the writer for errors. An Ok has written the whole line.
+impl Told for RunError {
+    ghost text = { line_of };
+
+    fn tell<F: Write>(&self, errors: &mut F) -> io::Result<()> {
+        match self {
+            RunError::Malformed => report(errors, b"type_table: malformed\n"),
+            RunError::TrailingBytes => report(errors, b"type_table: trailing bytes\n"),
+            RunError::NoSuchType(id) => report_number(errors, "type_table: no such type ", *id),
+            RunError::Dangling(id) => report_number(errors, "type_table: dangling id ", *id),
+            RunError::Memory => report(errors, b"type_table: out of memory\n"),
+            RunError::Input => report(errors, b"type_table: input failed\n"),
+            RunError::Output => report(errors, b"type_table: output failed\n"),
+        }
+    }
+}
+
+/// Writes bytes to the writer for errors. An Ok has written all of them. Does not allocate.
 ///
-/// Errors: that of a write or a flush that fails; then a prefix was written.
-fn report<F: Write>(errors: &mut F, line: &str) -> io::Result<()>
-    ensures line { AppendsPrefix (F.contents errors.old) (F.contents errors.new) line.now }
-    ensures whole { OnOk result (Appends (F.contents errors.old) (F.contents errors.new) line.now) }
+/// Errors: as those of [`report_message`].
+pub fn report<F: Write>(errors: &mut F, text: &[u8]) -> io::Result<()>
+    ensures line { AppendsPrefix (F.contents errors.old) (F.contents errors.new) text.now }
+    ensures whole { OnOk result (Appends (F.contents errors.old) (F.contents errors.new) text.now) }
 {
-    write_all(errors, line.as_bytes())?;
+    write_all(errors, text)?;
     errors.flush()
 }
 
-/// Writes the line of an error to the writer for errors. An Ok has written the whole line. Does not
+/// Writes a text, a number and a line feed to the writer for errors. An Ok has written all of it.
+/// Does not allocate.
+///
+/// Errors: as those of [`report_message`].
+pub fn report_number<F: Write>(errors: &mut F, text: &str, number: u32) -> io::Result<()>
+    ensures line { AppendsPrefix (F.contents errors.old) (F.contents errors.new)
+        (line_with text.now (decimal number)) }
+    ensures whole { OnOk result (Appends (F.contents errors.old) (F.contents errors.new)
+        (line_with text.now (decimal number))) }
+{
+    let mut buffer = Buffer::new();
+    report_line(errors, text, buffer.format(number))
+}
+
+/// Writes two texts and a line feed to the writer for errors. An Ok has written all of it. Does not
 /// allocate.
 ///
 /// Errors: as those of [`report_message`].
-fn report_error<F: Write>(errors: &mut F, error: &RunError) -> io::Result<()>
+pub fn report_line<F: Write>(errors: &mut F, text: &str, end: &str) -> io::Result<()>
     ensures line { AppendsPrefix (F.contents errors.old) (F.contents errors.new)
-        (line_of error.now) }
+        (line_with text.now end.now) }
     ensures whole { OnOk result (Appends (F.contents errors.old) (F.contents errors.new)
-        (line_of error.now)) }
+        (line_with text.now end.now)) }
 {
-    match error {
-        RunError::Malformed => report(errors, "type_table: malformed\n"),
-        RunError::TrailingBytes => report(errors, "type_table: trailing bytes\n"),
-        RunError::NoSuchType(id) => report_id(errors, "type_table: no such type ", *id),
-        RunError::Dangling(id) => report_id(errors, "type_table: dangling id ", *id),
-        RunError::Memory => report(errors, "type_table: out of memory\n"),
-        RunError::Input => report(errors, "type_table: input failed\n"),
-        RunError::Output => report(errors, "type_table: output failed\n"),
-    }
-}
-
-/// Writes a text, an id and a line feed to the writer for errors. An Ok has written all of it.
-///
-/// Errors: as those of [`report_message`].
-fn report_id<F: Write>(errors: &mut F, text: &str, id: u32) -> io::Result<()>
-    ensures line { AppendsPrefix (F.contents errors.old) (F.contents errors.new)
-        (id_line text.now id) }
-    ensures whole { OnOk result (Appends (F.contents errors.old) (F.contents errors.new)
-        (id_line text.now id)) }
-{
-    write_id_line(errors, text, id)?;
+    write_line(errors, text, end)?;
     errors.flush()
-}
-
-/// Writes a text, an id and a line feed. An Ok has written all of it.
-///
-/// Errors: that of a write that fails; then a prefix was written.
-fn write_id_line<W: Write>(writer: &mut W, text: &str, id: u32) -> io::Result<()>
-    ensures line { AppendsPrefix (W.contents writer.old) (W.contents writer.new)
-        (id_line text.now id) }
-    ensures whole { OnOk result (Appends (W.contents writer.old) (W.contents writer.new)
-        (id_line text.now id)) }
-{
-    write_all(writer, text.as_bytes())?;
-    let mut buffer = Buffer::new();
-    write_all(writer, buffer.format(id).as_bytes())?;
-    write_all(writer, b"\n")
 }

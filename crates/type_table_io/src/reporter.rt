@@ -1,37 +1,37 @@
-//! Reporters: what takes the message of a run.
+//! Reporters: what takes the messages of a run.
 ghost use Rattle.std.specs.Prelude.{◌≡◌, ℕ, List};
-ghost use Rattle.type_table_io.specs.Lines.{kept_line, message_line};
+ghost use Rattle.type_table_io.specs.Reports.{kept_text};
 
-use crate::message::Message;
+use crate::told::Told;
 
-/// What takes the message of a run.
+/// What takes the messages of a run.
 ///
-/// `reported` says what a reporter is after it was given a line, by what it was before. Where a
-/// reporter takes all that it is given, `reported` says so, and `run_with` ends with it.
+/// `reported` says what a reporter is after it was given a text, by what it was before. Where a
+/// reporter takes all that it is given, `reported` says so, and a run ends with it.
 ///
 /// For example, [`Kept`] keeps the message.
-pub trait Reporter {
+pub trait Reporter<M: Told> {
     ghost reported: { Self → Self → List ℕ → Type 0 };
 
-    /// Takes the message, or its line.
-    fn report(&mut self, message: Message)
-        ensures { reported self.old self.new (message_line message) };
+    /// Takes the message, or its text.
+    fn report(&mut self, message: M)
+        ensures { reported self.old self.new (M.text message) };
 }
 
 /// A reporter that keeps the message, and so takes all that it is given. Does not allocate.
 ///
-/// For example, after a call of `run_with` without arguments, which returns 2, with
-/// `Kept { message: None }` as the reporter, `message` is `Some(Message::Usage)`.
+/// For example, after a run without arguments, which returns 2, with `Kept { message: None }` as
+/// the reporter, `message` is `Some(Message::Usage)`.
 #[derive(Drop, Debug)]
-pub struct Kept {
+pub struct Kept<M> {
     /// The last message that was given, if there was one.
-    pub message: Option<Message>,
+    pub message: Option<M>,
 }
 
-impl Reporter for Kept {
-    ghost reported = { λ old new line. kept_line new.message ≡ line };
+impl<M: Told> Reporter<M> for Kept<M> {
+    ghost reported = { λ old new text. kept_text M.text new.message ≡ text };
 
-    fn report(&mut self, message: Message) {
+    fn report(&mut self, message: M) {
         self.message = Some(message);
     }
 }

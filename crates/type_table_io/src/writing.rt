@@ -1,6 +1,7 @@
 //! Writing whole.
 ghost use Rattle.std.specs.Prelude.{OnOk};
 ghost use Rattle.std.specs.Io.KnownBytes.{Appends};
+ghost use Rattle.type_table_io.specs.Lines.{line_with};
 ghost use Rattle.type_table_io.specs.Reports.{AppendsPrefix};
 
 use std::io;
@@ -35,4 +36,18 @@ pub fn write_all<W: Write>(writer: &mut W, bytes: &[u8]) -> io::Result<()>
         }
     }
     Err(io::Error::from(ErrorKind::TimedOut))
+}
+
+/// Writes two texts and a line feed. An Ok has written all of it. Does not allocate.
+///
+/// Errors: that of a write that fails; then a prefix was written.
+pub fn write_line<W: Write>(writer: &mut W, text: &str, end: &str) -> io::Result<()>
+    ensures line { AppendsPrefix (W.contents writer.old) (W.contents writer.new)
+        (line_with text.now end.now) }
+    ensures whole { OnOk result (Appends (W.contents writer.old) (W.contents writer.new)
+        (line_with text.now end.now)) }
+{
+    write_all(writer, text.as_bytes())?;
+    write_all(writer, end.as_bytes())?;
+    write_all(writer, b"\n")
 }

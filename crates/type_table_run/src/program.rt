@@ -57,7 +57,7 @@ fn perform<R: Read, W: Write>(
 /// The status is that of [`run`]. The reporter is given one message in one call:
 /// [`Message::Usage`] at status 2, and the error at status 1. At status 0 it is given none. So a
 /// reporter that takes all that it is given has the whole line: [`Kept`] is one.
-pub fn run_with<R: Read, W: Write, T: Reporter>(
+pub fn run_with<R: Read, W: Write, T: Reporter<Message>>(
     alloc: Global,
     arguments: &[Text],
     reader: &mut R,

@@ -9,12 +9,12 @@ pub returns-clause-ok : goal.returns-clause-ok
 returns-clause-ok c =
     IfOk-weaker c.table_of.result _ _
     (λ kept encodes input x.
-    let made = c.in_ok-append_pruned_again.ensures.ok input x in (
+    let made = c.in_ok-append_pruned.ensures.ok input x in (
       made.0,
       record {
-        bytes = c.append_pruned_again.new.out.items;
+        bytes = c.append_pruned.new.out.items;
         pruned =
-            subst (λ old. IsPrunedEncoding input c.args.ids.now made.0 old c.append_pruned_again.new.out.items)
+            subst (λ old. IsPrunedEncoding input c.args.ids.now made.0 old c.append_pruned.new.out.items)
             c.new-bytes.ensures.items made.1;
         encodes = subst (EncodesTypes kept.types) c.deref.ensures.value encodes;
       },
@@ -25,10 +25,10 @@ pub returns-clause-cause : goal.returns-clause-cause
 returns-clause-cause c =
     IfErr-weaker c.table_of.result _ _
     (λ error why input x.
-    let made = c.in_ok-append_pruned_again.ensures.ok input x in
+    let made = c.in_ok-append_pruned.ensures.ok input x in
     only_memory made.1.kept c.deref.result.now input c.args.ids.now
     (subst (EncodesTypes made.1.kept) (sym c.deref.ensures.value)
-    (kept_encoding input c.args.ids.now made.0 c.new-bytes.result.items c.append_pruned_again.new.out.items
+    (kept_encoding input c.args.ids.now made.0 c.new-bytes.result.items c.append_pruned.new.out.items
     c.new-bytes.ensures.items made.1))
     error why)
     c.table_of.ensures.cause

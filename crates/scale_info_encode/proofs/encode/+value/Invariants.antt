@@ -1,62 +1,64 @@
-use Rattle.std.proofs.Common.{◌-◌, ◌*◌, drop, length, replicate}
+use Rattle.std.proofs.Common.{◌-◌, drop, length, map, replicate}
+use Rattle.scale_info_value.proofs.Ranks.{calls_left}
+use Rattle.scale_info_value.specs.Readings.{defined_at}
 use Rattle.scale_info_encode.specs.Writers.{item, in_turn}
-use Rattle.scale_info_encode.specs.Writings.{definition_within, members_within, fields_within}
-use Rattle.scale_info_encode.specs.Writings.{pairs_within, pair_within}
+use Rattle.scale_info_encode.specs.DefinitionWriters.{members, pairs}
+use Rattle.scale_info_encode.specs.Writings.{writings, part_within, fields_within, pair_within}
 use Rattle.scale_info_encode.proofs.InTurn.{members_from, fields_from}
 use Rattle.scale_info_encode.proofs.SoFar.{SoFar}
 use Rattle.scale_info_encode.proofs.encode.+value.Given as goal
 
 abbrev pub decreases-value_within : goal.decreases-value_within
-decreases-value_within l = 5 * l.left
+decreases-value_within l = calls_left 5 0 l.left
 
 abbrev pub decreases-value_by : goal.decreases-value_by
-decreases-value_by l = 5 * l.left - 1
+decreases-value_by l = calls_left 5 1 l.left
 
 abbrev pub decreases-composite_value : goal.decreases-composite_value
-decreases-composite_value l = 5 * l.left - 2
+decreases-composite_value l = calls_left 5 2 l.left
 
 abbrev pub decreases-sequence_value : goal.decreases-sequence_value
-decreases-sequence_value l = 5 * l.left - 2
+decreases-sequence_value l = calls_left 5 2 l.left
 
 abbrev pub decreases-array_value : goal.decreases-array_value
-decreases-array_value l = 5 * l.left - 2
+decreases-array_value l = calls_left 5 2 l.left
 
 abbrev pub decreases-tuple_value : goal.decreases-tuple_value
-decreases-tuple_value l = 5 * l.left - 2
+decreases-tuple_value l = calls_left 5 2 l.left
 
 abbrev pub decreases-map_value : goal.decreases-map_value
-decreases-map_value l = 5 * l.left - 2
+decreases-map_value l = calls_left 5 2 l.left
 
 abbrev pub decreases-variant_value : goal.decreases-variant_value
-decreases-variant_value l = 5 * l.left - 2
+decreases-variant_value l = calls_left 5 2 l.left
 
 abbrev pub decreases-items : goal.decreases-items
-decreases-items l = 5 * l.left - 3
+decreases-items l = calls_left 5 3 l.left
 
 abbrev pub decreases-items_by : goal.decreases-items_by
-decreases-items_by l = 5 * l.left
+decreases-items_by l = calls_left 5 0 l.left
 
 abbrev pub decreases-members : goal.decreases-members
-decreases-members l = 5 * l.left - 3
+decreases-members l = calls_left 5 3 l.left
 
 abbrev pub decreases-fields : goal.decreases-fields
-decreases-fields l = 5 * l.left - 3
+decreases-fields l = calls_left 5 3 l.left
 
 abbrev pub decreases-pairs : goal.decreases-pairs
-decreases-pairs l = 5 * l.left - 3
+decreases-pairs l = calls_left 5 3 l.left
 
 abbrev pub decreases-pair : goal.decreases-pair
-decreases-pair l = 5 * l.left - 4
+decreases-pair l = calls_left 5 4 l.left
 
 abbrev pub invariant-items_by-loop-place : goal.invariant-items_by-loop-place
 invariant-items_by-loop-place l =
-    let write = item (definition_within l.left l.table l.definition) in
+    let write = item (defined_at writings l.left l.table l.definition) in
     SoFar (in_turn 0 (replicate l.count write) l.values) (in_turn l.place (replicate (l.count - l.place) write) l.rest)
     l.fn.out.items l.out.items
 
 abbrev pub invariant-members-loop-place : goal.invariant-members-loop-place
 invariant-members-loop-place l =
-    SoFar (members_within l.left l.table l.types l.values)
+    SoFar (members (map (part_within l.left l.table) l.types) l.values)
     (members_from l.place l.left l.table (drop l.place l.types) l.rest) l.fn.out.items l.out.items
 
 abbrev pub invariant-fields-loop-place : goal.invariant-fields-loop-place
@@ -67,6 +69,6 @@ invariant-fields-loop-place l =
 abbrev pub invariant-pairs-loop-place : goal.invariant-pairs-loop-place
 invariant-pairs-loop-place l =
     let write = item (pair_within l.left l.table l.key l.value) in
-    SoFar (pairs_within l.left l.table l.key l.value (length l.entries) l.entries)
+    SoFar (pairs (length l.entries) (part_within l.left l.table l.key) (part_within l.left l.table l.value) l.entries)
     (in_turn l.place (replicate (length (drop l.place l.entries)) write) (drop l.place l.entries))
     l.fn.out.items l.out.items

@@ -1,54 +1,55 @@
-use Rattle.std.proofs.Common.{◌≡◌, ◌+◌, ◌-◌, ◌*◌, drop, map}
+use Rattle.std.proofs.Common.{◌≡◌, drop, map}
 use Rattle.scale_info_value.specs.Readings.{definition_within, members_within, fields_within}
 use Rattle.scale_info_value.specs.Readings.{pair_within}
 use Rattle.scale_info_value.proofs.InOrder.{preceded, Done}
+use Rattle.scale_info_value.proofs.Ranks.{calls_left}
 use Rattle.scale_info_lent.specs.LentValues.{dyn_of, field_of}
 use Rattle.scale_info_lent.proofs.decode.+value.Given as goal
 
 abbrev pub decreases-value_within : goal.decreases-value_within
-decreases-value_within g l = 5 * l.left
+decreases-value_within g l = calls_left 6 1 l.left
 
 abbrev pub decreases-value_by : goal.decreases-value_by
-decreases-value_by g l = 5 * l.left - 1
+decreases-value_by g l = calls_left 6 2 l.left
 
 abbrev pub decreases-composite_value : goal.decreases-composite_value
-decreases-composite_value g l = 5 * l.left - 2
+decreases-composite_value g l = calls_left 6 3 l.left
 
 abbrev pub decreases-sequence_value : goal.decreases-sequence_value
-decreases-sequence_value g l = 5 * l.left - 2
+decreases-sequence_value g l = calls_left 6 3 l.left
 
 abbrev pub decreases-array_value : goal.decreases-array_value
-decreases-array_value g l = 5 * l.left - 2
+decreases-array_value g l = calls_left 6 3 l.left
 
 abbrev pub decreases-tuple_value : goal.decreases-tuple_value
-decreases-tuple_value g l = 5 * l.left - 2
+decreases-tuple_value g l = calls_left 6 3 l.left
 
 abbrev pub decreases-map_value : goal.decreases-map_value
-decreases-map_value g l = 5 * l.left - 2
+decreases-map_value g l = calls_left 6 3 l.left
 
 abbrev pub decreases-variant_value : goal.decreases-variant_value
-decreases-variant_value g l = 5 * l.left - 2
+decreases-variant_value g l = calls_left 6 3 l.left
 
 abbrev pub decreases-list : goal.decreases-list
-decreases-list g l = 5 * l.left - 3
+decreases-list g l = calls_left 6 4 l.left
 
 abbrev pub decreases-list_by : goal.decreases-list_by
-decreases-list_by g l = 5 * l.left + 1
+decreases-list_by g l = calls_left 6 0 l.left
 
 abbrev pub decreases-items : goal.decreases-items
-decreases-items g l = 5 * l.left
+decreases-items g l = calls_left 6 1 l.left
 
 abbrev pub decreases-members : goal.decreases-members
-decreases-members g l = 5 * l.left - 3
+decreases-members g l = calls_left 6 4 l.left
 
 abbrev pub decreases-fields : goal.decreases-fields
-decreases-fields g l = 5 * l.left - 3
+decreases-fields g l = calls_left 6 4 l.left
 
 abbrev pub decreases-pairs : goal.decreases-pairs
-decreases-pairs g l = 5 * l.left - 3
+decreases-pairs g l = calls_left 6 4 l.left
 
 abbrev pub decreases-pair : goal.decreases-pair
-decreases-pair g l = 5 * l.left - 4
+decreases-pair g l = calls_left 6 5 l.left
 
 abbrev pub invariant-items-loop : goal.invariant-items-loop
 invariant-items-loop g l =

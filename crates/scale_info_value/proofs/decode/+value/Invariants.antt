@@ -1,50 +1,51 @@
-use Rattle.std.proofs.Common.{◌≡◌, ◌-◌, ◌*◌, drop}
+use Rattle.std.proofs.Common.{◌≡◌, drop}
 use Rattle.scale_info_value.specs.Readings.{definition_within, members_within, fields_within}
 use Rattle.scale_info_value.specs.Readings.{pair_within}
 use Rattle.scale_info_value.proofs.InOrder.{preceded, Done}
+use Rattle.scale_info_value.proofs.Ranks.{calls_left}
 use Rattle.scale_info_value.proofs.decode.+value.Given as goal
 
 abbrev pub decreases-value_within : goal.decreases-value_within
-decreases-value_within g l = 5 * l.left
+decreases-value_within g l = calls_left 5 0 l.left
 
 abbrev pub decreases-value_by : goal.decreases-value_by
-decreases-value_by g l = 5 * l.left - 1
+decreases-value_by g l = calls_left 5 1 l.left
 
 abbrev pub decreases-composite_value : goal.decreases-composite_value
-decreases-composite_value g l = 5 * l.left - 2
+decreases-composite_value g l = calls_left 5 2 l.left
 
 abbrev pub decreases-sequence_value : goal.decreases-sequence_value
-decreases-sequence_value g l = 5 * l.left - 2
+decreases-sequence_value g l = calls_left 5 2 l.left
 
 abbrev pub decreases-array_value : goal.decreases-array_value
-decreases-array_value g l = 5 * l.left - 2
+decreases-array_value g l = calls_left 5 2 l.left
 
 abbrev pub decreases-tuple_value : goal.decreases-tuple_value
-decreases-tuple_value g l = 5 * l.left - 2
+decreases-tuple_value g l = calls_left 5 2 l.left
 
 abbrev pub decreases-map_value : goal.decreases-map_value
-decreases-map_value g l = 5 * l.left - 2
+decreases-map_value g l = calls_left 5 2 l.left
 
 abbrev pub decreases-variant_value : goal.decreases-variant_value
-decreases-variant_value g l = 5 * l.left - 2
+decreases-variant_value g l = calls_left 5 2 l.left
 
 abbrev pub decreases-items : goal.decreases-items
-decreases-items g l = 5 * l.left - 3
+decreases-items g l = calls_left 5 3 l.left
 
 abbrev pub decreases-items_by : goal.decreases-items_by
-decreases-items_by g l = 5 * l.left
+decreases-items_by g l = calls_left 5 0 l.left
 
 abbrev pub decreases-members : goal.decreases-members
-decreases-members g l = 5 * l.left - 3
+decreases-members g l = calls_left 5 3 l.left
 
 abbrev pub decreases-fields : goal.decreases-fields
-decreases-fields g l = 5 * l.left - 3
+decreases-fields g l = calls_left 5 3 l.left
 
 abbrev pub decreases-pairs : goal.decreases-pairs
-decreases-pairs g l = 5 * l.left - 3
+decreases-pairs g l = calls_left 5 3 l.left
 
 abbrev pub decreases-pair : goal.decreases-pair
-decreases-pair g l = 5 * l.left - 4
+decreases-pair g l = calls_left 5 4 l.left
 
 abbrev pub invariant-items_by-loop : goal.invariant-items_by-loop
 invariant-items_by-loop g l =

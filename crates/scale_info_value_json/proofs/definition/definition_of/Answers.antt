@@ -1,19 +1,23 @@
-use Rattle.std.proofs.Common.{◌≡◌, None, Some, arith}
+use Rattle.std.proofs.Common.{◌≡◌, None, Some, ap, option_map, arith}
 use Rattle.std.proofs.lemmas.Grind.{common_steps}
 use Rattle.scale_info_value.specs.Readings.{type_at}
-use Rattle.scale_info_value_json.proofs.Steps.{nothing_left, no_type, type_known}
+use Rattle.scale_info_value.proofs.Steps.{levels_end, levels_missing, levels_known, both_at}
+use Rattle.scale_info_value_json.specs.Takings.{takings}
 use Rattle.scale_info_value_json.proofs.definition.definition_of.Goals as goal
 
 pub returns-then-left-eq0-clause-unknown : goal.returns-then-left-eq0-clause-unknown
 returns-then-left-eq0-clause-unknown c =
-    λ tree. nothing_left c.args.left c.args.table.now c.args.id tree (omega arith)
+    both_at (levels_end takings c.args.left c.args.table.now c.args.id (omega arith))
 
 pub returns-in-None-clause-unknown : goal.returns-in-None-clause-unknown
 returns-in-None-clause-unknown c =
     let none : type_at c.args.table.now c.args.id ≡ None = grind (arith, common_steps) in
-    λ tree. no_type c.args.left c.args.table.now c.args.id tree (omega arith) none
+    both_at
+    (levels_missing takings c.args.left c.args.table.now c.args.id (omega arith) (ap (option_map (λ t. t.type_def)) none))
 
 pub returns-in-Some-clause-known : goal.returns-in-Some-clause-known
 returns-in-Some-clause-known c =
     let some : type_at c.args.table.now c.args.id ≡ Some c.in-Some.ty.now = grind (arith, common_steps) in
-    λ tree. type_known c.args.left c.args.table.now c.args.id tree c.in-Some.ty.now (omega arith) some
+    both_at
+    (levels_known takings c.args.left c.args.table.now c.args.id c.in-Some.ty.now.type_def (omega arith)
+    (ap (option_map (λ t. t.type_def)) some))

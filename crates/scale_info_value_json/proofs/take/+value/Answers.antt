@@ -3,9 +3,10 @@ use Rattle.std.specs.Str.{bytes_eq}
 use Rattle.scale_info_value.specs.declared.value.Dyn.TheVariants as dyn
 use Rattle.std.specs.Prelude.{IfOk, IfErr}
 use Rattle.serde_json.specs.View.{view}
-use Rattle.scale_info_value_json.specs.Takers.{taken, taken_map, IsErrorOf}
+use Rattle.std.proofs.lemmas.Result.{IfOk-weaker}
+use Rattle.scale_info_value_json.specs.Takers.{taken, taken_map, if_found, in_turn, IsErrorOf}
 use Rattle.scale_info_value_json.specs.DefinitionTakers.{chosen}
-use Rattle.scale_info_value_json.specs.Takings.{part_within, seen, variant_fields_within}
+use Rattle.scale_info_value_json.specs.Takings.{part_within, seen, fields_within, takers_within, variant_fields_within}
 use Rattle.scale_info_value_json.proofs.ShownVariants.{variant_unmeant, variant_missing, variant_misnamed, variant_named}
 use Rattle.scale_info_value_json.proofs.SoFar.{passed, passes}
 use Rattle.scale_info_value_json.proofs.OneLevel.{object_is, array_items_are, no_array}
@@ -93,3 +94,30 @@ variant_value-returns-clause-ok t c =
     (ap (λ fs. variant_fields_within c.args.left c.args.table.now fs (seen c.in-Some-chosen.content)) (sym c.as_slice-all.ensures)
     ∙ c.in_ok-fields.ensures.ok)
     ∙ ap (λ n. taken (dyn.Variant n c.in-Some-chosen.index c.in_ok-fields.fields)) (sym c.in_ok-name.ensures)
+
+pub value_within-returns-clause-ok : goal.value_within-returns-clause-ok
+value_within-returns-clause-ok t c =
+    IfOk-weaker c.value_by.result _ _ (λ value e. (c.in_ok-definition.ensures.known (view c.args.tree.now)).0 ∙ e)
+    c.value_by.ensures.ok
+
+pub value_within-returns-clause-err : goal.value_within-returns-clause-err
+value_within-returns-clause-err t c =
+    subst (λ w. IfErr c.value_by.result (IsErrorOf w)) (sym (c.in_ok-definition.ensures.known (view c.args.tree.now)).0)
+    c.value_by.ensures.err
+
+pub composite_value-returns-clause-ok : goal.composite_value-returns-clause-ok
+composite_value-returns-clause-ok t c =
+    ap (λ fs. taken_map dyn.Record (fields_within c.args.left c.args.table.now fs (view c.args.tree.now))) (sym c.as_slice.ensures)
+    ∙ ap (taken_map dyn.Record) c.in_ok-values.ensures.ok
+
+pub tuple_value-returns-in_err-members-in-Some-clause-err : goal.tuple_value-returns-in_err-members-in-Some-clause-err
+tuple_value-returns-in_err-members-in-Some-clause-err t c =
+    let takers = takers_within c.args.left c.args.table.now c.args.tuple.now.fields in
+    let part = in_turn takers (map view c.in-Some.trees.now) in
+    let of_part : IsErrorOf part c.in_err-members-in-Some.field-0.0 =
+    subst (λ types. IsErrorOf (in_turn (takers_within c.args.left c.args.table.now types) (map view c.in-Some.trees.now))
+    c.in_err-members-in-Some.field-0.0) c.as_slice-types.ensures c.in_err-members-in-Some.ensures.err in
+    passed c.from_residual.result c.in_err-members-in-Some.field-0.0 _ c.from_residual.ensures.1
+    (passes part _ c.in_err-members-in-Some.field-0.0
+    (λ why r. ap (λ found. taken_map dyn.List (if_found found (in_turn takers))) (sym c.in-Some.ensures) ∙ ap (taken_map dyn.List) r)
+    of_part)

@@ -1,6 +1,7 @@
 use Rattle.std.proofs.Common.{◌∙◌, ◌++◌, codes, decimal, refl}
 use Rattle.type_table_io.proofs.LineParts.{part_of_first, first_and_part, first_and_rest}
-use Rattle.type_reader_io.specs.Lines.{fault_text, line_with}
+use Rattle.type_table_io.specs.Lines.{line_with}
+use Rattle.type_reader_io.specs.Lines.{fault_text}
 use Rattle.type_reader_io.proofs.report.write_bad_line.Goals as goal
 
 pub returns-in_err-write_all-clause-line : goal.returns-in_err-write_all-clause-line

@@ -1,7 +1,7 @@
 use Rattle.scale_info_bytes.proofs.Lists.{no_count, no_items_after}
 use Rattle.scale_info_docs.proofs.Changes.{whole_list}
 use Rattle.scale_info_bytes.proofs.Results.{ok_on, malformed_in}
-use Rattle.scale_info_docs.proofs.list.append_list.Goals as goal
+use Rattle.scale_info_docs.proofs.list.ItemsWithoutDocs.append.Goals as goal
 
 pub returns-in_ok-encode_compact-in-Some-clause-ok :
     goal.returns-in_ok-encode_compact-in-Some-clause-ok

@@ -1,4 +1,4 @@
-use Rattle.type_table_io.proofs.report.report_error.Goals as goal
+use Rattle.type_table_io.proofs.report.RunErrorTold.tell.Goals as goal
 
 pub returns-in-Malformed : goal.returns-in-Malformed
 returns-in-Malformed g c = rw c.in-Malformed.is c.report.ensures
@@ -7,10 +7,10 @@ pub returns-in-TrailingBytes : goal.returns-in-TrailingBytes
 returns-in-TrailingBytes g c = rw c.in-TrailingBytes.is c.report-in-TrailingBytes.ensures
 
 pub returns-in-NoSuchType : goal.returns-in-NoSuchType
-returns-in-NoSuchType g c = rw c.in-NoSuchType.is c.report_id.ensures
+returns-in-NoSuchType g c = rw c.in-NoSuchType.is c.report_number.ensures
 
 pub returns-in-Dangling : goal.returns-in-Dangling
-returns-in-Dangling g c = rw c.in-Dangling.is c.report_id-in-Dangling.ensures
+returns-in-Dangling g c = rw c.in-Dangling.is c.report_number-in-Dangling.ensures
 
 pub returns-in-Memory : goal.returns-in-Memory
 returns-in-Memory g c = rw c.in-Memory.is c.report-in-Memory.ensures

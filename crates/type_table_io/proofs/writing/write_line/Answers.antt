@@ -1,6 +1,6 @@
 use Rattle.std.proofs.Common.{codes, ◌++◌}
 use Rattle.type_table_io.proofs.LineParts.{part_of_first, first_and_part, first_and_rest}
-use Rattle.type_reader_io.proofs.report.write_line.Goals as goal
+use Rattle.type_table_io.proofs.writing.write_line.Goals as goal
 
 pub returns-in_err-write_all-clause-line : goal.returns-in_err-write_all-clause-line
 returns-in_err-write_all-clause-line g c =
