@@ -11,20 +11,20 @@ use std::io;
 use std::io::Write;
 use type_table_io::report::{report, report_line, report_number};
 pub use type_table_io::report::{ErrorWriter, report_message};
-use type_table_io::told::Told;
+use type_table_io::text::HasText;
 use type_table_io::writing::{write_all, write_line};
 
 const USAGE: &str = "usage: type_reader table TABLE | strip TABLE | list TABLE [TYPE ..] | \
     find TABLE PATTERN | prune TABLE TYPE .. | graph TABLE TYPE .. | \
     diff [--docs] OLD NEW [PATH ..] | value TABLE TYPE [HEX] | encode TABLE TYPE [JSON]\n";
 
-impl Told for Message {
+impl HasText for Message {
     ghost text = { message_text };
 
-    fn tell<F: Write>(&self, errors: &mut F) -> io::Result<()> {
+    fn write_text<F: Write>(&self, errors: &mut F) -> io::Result<()> {
         match self {
             Message::Usage => report(errors, USAGE.as_bytes()),
-            Message::Refused(error) => error.tell(errors),
+            Message::Refused(error) => error.write_text(errors),
             Message::Notes(notes) => report(errors, notes),
             Message::BadLine(number, fault) => report_bad_line(errors, *number, *fault),
         }
@@ -60,10 +60,10 @@ fn write_bad_line<W: Write>(writer: &mut W, number: u64, fault: ValueFault) -> i
     write_line(writer, ": no value: ", fault_text(fault))
 }
 
-impl Told for ReaderError {
+impl HasText for ReaderError {
     ghost text = { line_of };
 
-    fn tell<F: Write>(&self, errors: &mut F) -> io::Result<()> {
+    fn write_text<F: Write>(&self, errors: &mut F) -> io::Result<()> {
         match self {
             ReaderError::Malformed => report(errors, b"type_reader: malformed\n"),
             ReaderError::TrailingBytes => report(errors, b"type_reader: trailing bytes\n"),

@@ -9,5 +9,5 @@ pub mod message;
 pub mod reading;
 pub mod report;
 pub mod reporter;
-pub mod told;
+pub mod text;
 pub mod writing;

@@ -7,7 +7,7 @@ ghost use Rattle.type_table_io.specs.Reports.{AppendsPrefix};
 use crate::error::RunError;
 use crate::message::Message;
 use crate::reporter::Reporter;
-use crate::told::Told;
+use crate::text::HasText;
 use crate::writing::{write_all, write_line};
 use itoa::Buffer;
 use std::io;
@@ -20,7 +20,7 @@ pub struct ErrorWriter<'a, F> {
     pub errors: &'a mut F,
 }
 
-impl<F: Write, M: Told> Reporter<M> for ErrorWriter<'_, F> {
+impl<F: Write, M: HasText> Reporter<M> for ErrorWriter<'_, F> {
     ghost reported = { λ old new text. (new.errors.ghost_name ≡ old.errors.ghost_name)
         × AppendsPrefix (F.contents old.errors.now) (F.contents new.errors.now) text };
 
@@ -37,30 +37,30 @@ impl<F: Write, M: Told> Reporter<M> for ErrorWriter<'_, F> {
 /// line feed.
 ///
 /// Errors: that of a write or a flush that fails; then a prefix was written.
-pub fn report_message<F: Write, M: Told>(errors: &mut F, message: &M) -> io::Result<()>
+pub fn report_message<F: Write, M: HasText>(errors: &mut F, message: &M) -> io::Result<()>
     ensures line { AppendsPrefix (F.contents errors.old) (F.contents errors.new)
         (M.text message.now) }
     ensures whole { OnOk result (Appends (F.contents errors.old) (F.contents errors.new)
         (M.text message.now)) }
 {
-    message.tell(errors)
+    message.write_text(errors)
 }
 
-impl Told for Message {
+impl HasText for Message {
     ghost text = { message_line };
 
-    fn tell<F: Write>(&self, errors: &mut F) -> io::Result<()> {
+    fn write_text<F: Write>(&self, errors: &mut F) -> io::Result<()> {
         match self {
             Message::Usage => report(errors, b"usage: type_table check | prune ID .. | json\n"),
-            Message::Refused(error) => error.tell(errors),
+            Message::Refused(error) => error.write_text(errors),
         }
     }
 }
 
-impl Told for RunError {
+impl HasText for RunError {
     ghost text = { line_of };
 
-    fn tell<F: Write>(&self, errors: &mut F) -> io::Result<()> {
+    fn write_text<F: Write>(&self, errors: &mut F) -> io::Result<()> {
         match self {
             RunError::Malformed => report(errors, b"type_table: malformed\n"),
             RunError::TrailingBytes => report(errors, b"type_table: trailing bytes\n"),

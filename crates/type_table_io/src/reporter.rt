@@ -2,7 +2,7 @@
 ghost use Rattle.std.specs.Prelude.{◌≡◌, ℕ, List};
 ghost use Rattle.type_table_io.specs.Reports.{kept_text};
 
-use crate::told::Told;
+use crate::text::HasText;
 
 /// What takes the messages of a run.
 ///
@@ -10,7 +10,7 @@ use crate::told::Told;
 /// reporter takes all that it is given, `reported` says so, and a run ends with it.
 ///
 /// For example, [`Kept`] keeps the message.
-pub trait Reporter<M: Told> {
+pub trait Reporter<M: HasText> {
     ghost reported: { Self → Self → List ℕ → Type 0 };
 
     /// Takes the message, or its text.
@@ -28,7 +28,7 @@ pub struct Kept<M> {
     pub message: Option<M>,
 }
 
-impl<M: Told> Reporter<M> for Kept<M> {
+impl<M: HasText> Reporter<M> for Kept<M> {
     ghost reported = { λ old new text. kept_text M.text new.message ≡ text };
 
     fn report(&mut self, message: M) {

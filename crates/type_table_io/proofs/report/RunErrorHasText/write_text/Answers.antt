@@ -1,4 +1,4 @@
-use Rattle.type_table_io.proofs.report.RunErrorTold.tell.Goals as goal
+use Rattle.type_table_io.proofs.report.RunErrorHasText.write_text.Goals as goal
 
 pub returns-in-Malformed : goal.returns-in-Malformed
 returns-in-Malformed g c = rw c.in-Malformed.is c.report.ensures
