@@ -1,10 +1,10 @@
 //! Decoding from bytes in which the strings stay.
 ghost use Rattle.scale_info_bytes.specs.Encodings.{HasNoPrefix, HasPrefix, IfMalformed};
-ghost use Rattle.scale_info_bytes.specs.Encodings.{IsEncoding};
 ghost use Rattle.scale_info_grammar.specs.Ty.{EncodesDescription};
 ghost use Rattle.scale_info_lent_form.specs.OwnedDescriptions.{owned_description};
-ghost use Rattle.std.specs.Prelude.{ℕ, List, IfErr, IfOk};
+ghost use Rattle.std.specs.Prelude.{IfErr, IfOk};
 
+use crate::encoded::Encoded;
 use crate::form::LentForm;
 use scale_info_bytes::error::DecodeError;
 use scale_info_types::ty::Type;
@@ -31,27 +31,6 @@ pub fn decode_type<'i>(
     ensures malformed { IfErr result (IfMalformed (HasNoPrefix EncodesDescription input.now)) }
 {
     Type::<LentForm<'i>>::decode_lent(alloc, input)
-}
-
-/// A part of a description that has an encoding. A type stands for values of its own, but for
-/// [`TypeOf`](crate::form::TypeOf) and [`StringOf`](crate::form::StringOf), which stand for the
-/// types and the strings of a form.
-pub(crate) trait Encoded {
-    /// A value of the part.
-    type Value: Drop;
-
-    /// A value that owns its strings.
-    ghost Owned: { Type 0 };
-
-    /// The value with its strings owned.
-    ghost owned: { Self.Value → Owned };
-
-    /// The whole list of bytes encodes the value.
-    ghost encodes: { Owned → List ℕ → Type 0 };
-
-    /// A value has one encoding at most, no encoding is a proper prefix of another, and an encoding
-    /// is made of bytes.
-    ghost law: { IsEncoding encodes };
 }
 
 /// A part of a description that is decoded from bytes in which its strings stay.

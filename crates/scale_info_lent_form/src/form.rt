@@ -1,14 +1,12 @@
 //! The form of descriptions that borrow their strings.
 ghost use Rattle.scale_info_bytes.specs.Encodings.{HasNoPrefix, HasPrefix};
-ghost use Rattle.scale_info_bytes.specs.StringLaws.{text_law};
 ghost use Rattle.scale_info_bytes.specs.Strings.{EncodesText};
 ghost use Rattle.scale_info_grammar.specs.Ty.{EncodesId};
-ghost use Rattle.scale_info_grammar.specs.TyLaws.{id_law};
-ghost use Rattle.scale_info_types.specs.Portable.{Id, Text};
+ghost use Rattle.scale_info_types.specs.Portable.{Id};
 ghost use Rattle.std.proofs.Common.{rules, refl};
 ghost use Rattle.std.specs.Prelude.{◌≡◌, ℕ, IfNone, IfOk, IfSome};
 
-use crate::decode::{DecodeLent, Encoded};
+use crate::decode::DecodeLent;
 use scale_info_bytes::error::DecodeError;
 use scale_info_bytes::integer::decode_compact;
 use scale_info_bytes::text::decode_str;
@@ -106,18 +104,6 @@ pub(crate) struct TypeOf<F: Form> {
     of: PhantomData<F>,
 }
 
-impl<F: IdForm> Encoded for TypeOf<F> {
-    type Value = F::Ty;
-
-    ghost Owned = { Id };
-
-    ghost owned = { F.id_of };
-
-    ghost encodes = { EncodesId };
-
-    ghost law = { id_law };
-}
-
 impl<'i, F: DecodeForm<'i>> DecodeLent<'i> for TypeOf<F> {
     fn decode_lent(_alloc: Global, input: &'i [u8]) -> Result<(F::Ty, &'i [u8]), DecodeError> {
         F::decode_type(input).ok_or(DecodeError::Malformed)
@@ -127,18 +113,6 @@ impl<'i, F: DecodeForm<'i>> DecodeLent<'i> for TypeOf<F> {
 /// The strings of a form.
 pub(crate) struct StringOf<F: Form> {
     of: PhantomData<F>,
-}
-
-impl<F: Form> Encoded for StringOf<F> {
-    type Value = F::String;
-
-    ghost Owned = { Text };
-
-    ghost owned = { F.text };
-
-    ghost encodes = { EncodesText };
-
-    ghost law = { text_law };
 }
 
 impl<'i, F: DecodeForm<'i>> DecodeLent<'i> for StringOf<F> {

@@ -2,6 +2,7 @@
 #![tactic(auto)]
 
 pub mod decode;
+mod encoded;
 pub mod form;
 mod integer;
 pub mod laws;

@@ -1,10 +1,9 @@
 //! Lists.
 ghost use Rattle.scale_info_bytes.specs.Encodings.{HasPrefix, IfMalformed};
-ghost use Rattle.scale_info_bytes.specs.PartLaws.{list_law};
-ghost use Rattle.scale_info_bytes.specs.Parts.{EncodesItems, EncodesList};
-ghost use Rattle.std.specs.Prelude.{◌≡◌, List, IfErr, IfOk, length, map};
+ghost use Rattle.scale_info_bytes.specs.Parts.{EncodesItems};
+ghost use Rattle.std.specs.Prelude.{◌≡◌, IfErr, IfOk, length, map};
 
-use crate::decode::{DecodeLent, Encoded};
+use crate::decode::DecodeLent;
 use scale_info_bytes::error::DecodeError;
 use scale_info_bytes::integer::decode_compact;
 use scale_info_collections::items::Items;
@@ -33,18 +32,6 @@ fn decode_items<'i, T: DecodeLent<'i>>(
         rest = after;
     }
     Ok((values, rest))
-}
-
-impl<T: Encoded> Encoded for Items<T> {
-    type Value = Items<T::Value>;
-
-    ghost Owned = { List T.Owned };
-
-    ghost owned = { map T.owned };
-
-    ghost encodes = { EncodesList T.encodes };
-
-    ghost law = { list_law T.law };
 }
 
 impl<'i, T: DecodeLent<'i>> DecodeLent<'i> for Items<T> {

@@ -1,14 +1,12 @@
 //! Tables whose strings stay in the bytes that they were decoded from.
 ghost use Rattle.scale_info_bytes.specs.Encodings.{HasNoPrefix, HasPrefix, IfMalformed};
-ghost use Rattle.scale_info_grammar.specs.Ty.{EncodesPortableType, EncodesTypes};
-ghost use Rattle.scale_info_grammar.specs.TyLaws.{portable_type_law};
+ghost use Rattle.scale_info_grammar.specs.Ty.{EncodesTypes};
 ghost use Rattle.scale_info_lent_form.specs.OwnedDescriptions.{owned_description, owned_entry};
-ghost use Rattle.scale_info_types.specs.declared.ty.PortableType as portable_types;
 ghost use Rattle.std.specs.Option.{option_copied};
 ghost use Rattle.std.specs.Prelude.{◌≡◌, ◌↔◌, ℕ, List, [], IfErr, IfOk, IsTrue, length, map};
 ghost use Rattle.std.specs.Prelude.{option_map, slice_get};
 
-use crate::decode::{DecodeLent, Encoded, decode_type};
+use crate::decode::{DecodeLent, decode_type};
 use crate::form::LentForm;
 use crate::owned::{TryToOwned, owned_type};
 use scale_info_bytes::error::DecodeError;
@@ -125,18 +123,6 @@ impl<'i> LentTable<'i> {
     {
         self.types.as_slice()
     }
-}
-
-impl<'i> Encoded for LentEntry<'i> {
-    type Value = LentEntry<'i>;
-
-    ghost Owned = { portable_types.PortableType };
-
-    ghost owned = { owned_entry };
-
-    ghost encodes = { EncodesPortableType };
-
-    ghost law = { portable_type_law };
 }
 
 impl<'i> DecodeLent<'i> for LentEntry<'i> {

@@ -1,39 +1,22 @@
 //! Descriptions.
 ghost use Rattle.scale_info_bytes.specs.Encodings.{HasNoPrefix, HasPrefix, IfMalformed};
-ghost use Rattle.scale_info_grammar.specs.Ty.{EncodesArray, EncodesBitSequence};
-ghost use Rattle.scale_info_grammar.specs.Ty.{EncodesCompactType, EncodesDescription, EncodesMap};
-ghost use Rattle.scale_info_grammar.specs.Ty.{EncodesParameter, EncodesPrimitive};
-ghost use Rattle.scale_info_grammar.specs.Ty.{EncodesSequence, EncodesTuple, EncodesTypeDef};
 ghost use Rattle.scale_info_grammar.specs.Ty.{EncodesTypeDefWithIndex};
-ghost use Rattle.scale_info_grammar.specs.TyLaws.{array_law, bit_sequence_law, compact_type_law};
-ghost use Rattle.scale_info_grammar.specs.TyLaws.{description_law, map_law, parameter_law};
-ghost use Rattle.scale_info_grammar.specs.TyLaws.{primitive_law, sequence_law, tuple_law};
-ghost use Rattle.scale_info_grammar.specs.TyLaws.{type_def_law};
-ghost use Rattle.scale_info_lent_form.specs.OwnedParts.{owned_array, owned_bit_sequence};
-ghost use Rattle.scale_info_lent_form.specs.OwnedParts.{owned_compact, owned_definition};
-ghost use Rattle.scale_info_lent_form.specs.OwnedParts.{owned_description, owned_map};
-ghost use Rattle.scale_info_lent_form.specs.OwnedParts.{owned_parameter, owned_sequence};
-ghost use Rattle.scale_info_lent_form.specs.OwnedParts.{owned_tuple};
-ghost use Rattle.scale_info_primitives.specs.declared.primitive.TypeDefPrimitive as primitives;
-ghost use Rattle.scale_info_types.specs.Portable as portable;
+ghost use Rattle.scale_info_lent_form.specs.OwnedParts.{owned_definition};
 ghost use Rattle.std.specs.Prelude.{IfErr, IfOk};
 
-use crate::decode::{DecodeLent, Encoded};
-use crate::form::{DecodeForm, IdForm, StringOf, TypeOf};
+use crate::decode::DecodeLent;
+use crate::form::{DecodeForm, StringOf, TypeOf};
 use scale_info_bytes::error::DecodeError;
 use scale_info_collections::items::Items;
-use scale_info_grammar::{decode_primitive, description_of};
+use scale_info_grammar::{decode_primitive, description_of, field_of, variant_of};
 use scale_info_types::ty::path::Path;
+use scale_info_types::ty::variant::Variant;
 use scale_info_types::ty::{
-    Description, TypeDef, TypeDefArray, TypeDefBitSequence, TypeDefCompact, TypeDefComposite,
-    TypeDefMap, TypeDefPrimitive, TypeDefSequence, TypeDefTuple, TypeDefVariant, TypeParameter,
+    Description, Field, TypeDef, TypeDefArray, TypeDefBitSequence, TypeDefCompact,
+    TypeDefComposite, TypeDefMap, TypeDefPrimitive, TypeDefSequence, TypeDefTuple, TypeDefVariant,
+    TypeParameter,
 };
 use std::alloc::Global;
-
-mod composite;
-mod fields;
-mod path;
-mod variant;
 
 /// Lines of documentation.
 type Docs<F> = Items<StringOf<F>>;
@@ -41,17 +24,14 @@ type Docs<F> = Items<StringOf<F>>;
 /// The parts of a description, in the order in which they are encoded.
 type DescriptionParts<F> = (Path<F>, (Items<TypeParameter<F>>, (TypeDef<F>, Docs<F>)));
 
-impl<F: IdForm> Encoded for Description<F> {
-    type Value = Description<F>;
+/// The parts of a field, in the order in which they are encoded.
+type FieldParts<F> = (
+    Option<StringOf<F>>,
+    (TypeOf<F>, (Option<StringOf<F>>, Docs<F>)),
+);
 
-    ghost Owned = { portable.Description };
-
-    ghost owned = { owned_description F.id_of F.text };
-
-    ghost encodes = { EncodesDescription };
-
-    ghost law = { description_law };
-}
+/// The parts of a variant, in the order in which they are encoded.
+type VariantParts<F> = (StringOf<F>, (Items<Field<F>>, (u8, Docs<F>)));
 
 impl<'i, F: DecodeForm<'i>> DecodeLent<'i> for Description<F> {
     fn decode_lent(
@@ -61,18 +41,6 @@ impl<'i, F: DecodeForm<'i>> DecodeLent<'i> for Description<F> {
         let (parts, rest) = DescriptionParts::<F>::decode_lent(alloc, input)?;
         Ok((description_of(parts), rest))
     }
-}
-
-impl<F: IdForm> Encoded for TypeParameter<F> {
-    type Value = TypeParameter<F>;
-
-    ghost Owned = { portable.TypeParameter };
-
-    ghost owned = { owned_parameter F.id_of F.text };
-
-    ghost encodes = { EncodesParameter };
-
-    ghost law = { parameter_law };
 }
 
 impl<'i, F: DecodeForm<'i>> DecodeLent<'i> for TypeParameter<F> {
@@ -85,16 +53,45 @@ impl<'i, F: DecodeForm<'i>> DecodeLent<'i> for TypeParameter<F> {
     }
 }
 
-impl<F: IdForm> Encoded for TypeDefSequence<F> {
-    type Value = TypeDefSequence<F>;
+impl<'i, F: DecodeForm<'i>> DecodeLent<'i> for Path<F> {
+    fn decode_lent(alloc: Global, input: &'i [u8]) -> Result<(Path<F>, &'i [u8]), DecodeError> {
+        let (segments, rest) = Items::<StringOf<F>>::decode_lent(alloc, input)?;
+        Ok((Path::from(segments), rest))
+    }
+}
 
-    ghost Owned = { portable.TypeDefSequence };
+impl<'i, F: DecodeForm<'i>> DecodeLent<'i> for Field<F> {
+    fn decode_lent(alloc: Global, input: &'i [u8]) -> Result<(Field<F>, &'i [u8]), DecodeError> {
+        let (parts, rest) = FieldParts::<F>::decode_lent(alloc, input)?;
+        Ok((field_of(parts), rest))
+    }
+}
 
-    ghost owned = { owned_sequence F.id_of F.text };
+impl<'i, F: DecodeForm<'i>> DecodeLent<'i> for TypeDefComposite<F> {
+    fn decode_lent(
+        alloc: Global,
+        input: &'i [u8],
+    ) -> Result<(TypeDefComposite<F>, &'i [u8]), DecodeError> {
+        let (fields, rest) = Items::<Field<F>>::decode_lent(alloc, input)?;
+        Ok((TypeDefComposite { fields }, rest))
+    }
+}
 
-    ghost encodes = { EncodesSequence };
+impl<'i, F: DecodeForm<'i>> DecodeLent<'i> for TypeDefVariant<F> {
+    fn decode_lent(
+        alloc: Global,
+        input: &'i [u8],
+    ) -> Result<(TypeDefVariant<F>, &'i [u8]), DecodeError> {
+        let (variants, rest) = Items::<Variant<F>>::decode_lent(alloc, input)?;
+        Ok((TypeDefVariant { variants }, rest))
+    }
+}
 
-    ghost law = { sequence_law };
+impl<'i, F: DecodeForm<'i>> DecodeLent<'i> for Variant<F> {
+    fn decode_lent(alloc: Global, input: &'i [u8]) -> Result<(Variant<F>, &'i [u8]), DecodeError> {
+        let (parts, rest) = VariantParts::<F>::decode_lent(alloc, input)?;
+        Ok((variant_of(parts), rest))
+    }
 }
 
 impl<'i, F: DecodeForm<'i>> DecodeLent<'i> for TypeDefSequence<F> {
@@ -107,18 +104,6 @@ impl<'i, F: DecodeForm<'i>> DecodeLent<'i> for TypeDefSequence<F> {
     }
 }
 
-impl<F: IdForm> Encoded for TypeDefArray<F> {
-    type Value = TypeDefArray<F>;
-
-    ghost Owned = { portable.TypeDefArray };
-
-    ghost owned = { owned_array F.id_of F.text };
-
-    ghost encodes = { EncodesArray };
-
-    ghost law = { array_law };
-}
-
 impl<'i, F: DecodeForm<'i>> DecodeLent<'i> for TypeDefArray<F> {
     fn decode_lent(
         alloc: Global,
@@ -127,18 +112,6 @@ impl<'i, F: DecodeForm<'i>> DecodeLent<'i> for TypeDefArray<F> {
         let ((len, type_param), rest) = <(u32, TypeOf<F>)>::decode_lent(alloc, input)?;
         Ok((TypeDefArray::new(len, type_param), rest))
     }
-}
-
-impl<F: IdForm> Encoded for TypeDefTuple<F> {
-    type Value = TypeDefTuple<F>;
-
-    ghost Owned = { portable.TypeDefTuple };
-
-    ghost owned = { owned_tuple F.id_of F.text };
-
-    ghost encodes = { EncodesTuple };
-
-    ghost law = { tuple_law };
 }
 
 impl<'i, F: DecodeForm<'i>> DecodeLent<'i> for TypeDefTuple<F> {
@@ -151,18 +124,6 @@ impl<'i, F: DecodeForm<'i>> DecodeLent<'i> for TypeDefTuple<F> {
     }
 }
 
-impl Encoded for TypeDefPrimitive {
-    type Value = TypeDefPrimitive;
-
-    ghost Owned = { primitives.TypeDefPrimitive };
-
-    ghost owned = { λ primitive. primitive };
-
-    ghost encodes = { EncodesPrimitive };
-
-    ghost law = { primitive_law };
-}
-
 impl<'i> DecodeLent<'i> for TypeDefPrimitive {
     fn decode_lent(
         _alloc: Global,
@@ -170,18 +131,6 @@ impl<'i> DecodeLent<'i> for TypeDefPrimitive {
     ) -> Result<(TypeDefPrimitive, &'i [u8]), DecodeError> {
         decode_primitive(input).ok_or(DecodeError::Malformed)
     }
-}
-
-impl<F: IdForm> Encoded for TypeDefCompact<F> {
-    type Value = TypeDefCompact<F>;
-
-    ghost Owned = { portable.TypeDefCompact };
-
-    ghost owned = { owned_compact F.id_of F.text };
-
-    ghost encodes = { EncodesCompactType };
-
-    ghost law = { compact_type_law };
 }
 
 impl<'i, F: DecodeForm<'i>> DecodeLent<'i> for TypeDefCompact<F> {
@@ -194,18 +143,6 @@ impl<'i, F: DecodeForm<'i>> DecodeLent<'i> for TypeDefCompact<F> {
     }
 }
 
-impl<F: IdForm> Encoded for TypeDefBitSequence<F> {
-    type Value = TypeDefBitSequence<F>;
-
-    ghost Owned = { portable.TypeDefBitSequence };
-
-    ghost owned = { owned_bit_sequence F.id_of F.text };
-
-    ghost encodes = { EncodesBitSequence };
-
-    ghost law = { bit_sequence_law };
-}
-
 impl<'i, F: DecodeForm<'i>> DecodeLent<'i> for TypeDefBitSequence<F> {
     fn decode_lent(
         alloc: Global,
@@ -214,18 +151,6 @@ impl<'i, F: DecodeForm<'i>> DecodeLent<'i> for TypeDefBitSequence<F> {
         let ((store, order), rest) = <(TypeOf<F>, TypeOf<F>)>::decode_lent(alloc, input)?;
         Ok((TypeDefBitSequence::of_types(store, order), rest))
     }
-}
-
-impl<F: IdForm> Encoded for TypeDefMap<F> {
-    type Value = TypeDefMap<F>;
-
-    ghost Owned = { portable.TypeDefMap };
-
-    ghost owned = { owned_map F.id_of F.text };
-
-    ghost encodes = { EncodesMap };
-
-    ghost law = { map_law };
 }
 
 impl<'i, F: DecodeForm<'i>> DecodeLent<'i> for TypeDefMap<F> {
@@ -290,18 +215,6 @@ fn decode_parts<'i, F: DecodeForm<'i>>(
         }
         _ => Err(DecodeError::Malformed),
     }
-}
-
-impl<F: IdForm> Encoded for TypeDef<F> {
-    type Value = TypeDef<F>;
-
-    ghost Owned = { portable.TypeDef };
-
-    ghost owned = { owned_definition F.id_of F.text };
-
-    ghost encodes = { EncodesTypeDef };
-
-    ghost law = { type_def_law };
 }
 
 impl<'i, F: DecodeForm<'i>> DecodeLent<'i> for TypeDef<F> {

@@ -1,7 +1,7 @@
 use Rattle.scale_info_grammar.specs.Ty.{variant_parts}
 use Rattle.scale_info_bytes.proofs.Errors.{passed_malformed}
 use Rattle.scale_info_bytes.proofs.Steps.{no_prefix_through}
-use Rattle.scale_info_lent_form.proofs.ty.variant.VariantDecodeLent.decode_lent.Goals as goal
+use Rattle.scale_info_lent_form.proofs.ty.VariantDecodeLent.decode_lent.Goals as goal
 
 pub returns-in_err-parts-clause-malformed : goal.returns-in_err-parts-clause-malformed
 returns-in_err-parts-clause-malformed g c =

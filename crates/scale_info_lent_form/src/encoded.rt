@@ -1,0 +1,356 @@
+//! What each part of a description stands for, and its encoding.
+ghost use Rattle.scale_info_bytes.specs.CompactLaws.{compact_law};
+ghost use Rattle.scale_info_bytes.specs.Encodings.{IsEncoding};
+ghost use Rattle.scale_info_bytes.specs.IntegerLaws.{u32_law, u8_law};
+ghost use Rattle.scale_info_bytes.specs.Integers.{EncodesCompact, EncodesU32, EncodesU8};
+ghost use Rattle.scale_info_bytes.specs.PartLaws.{list_law, option_law, pair_law, through_law};
+ghost use Rattle.scale_info_bytes.specs.Parts.{EncodesList, EncodesOption, EncodesPair};
+ghost use Rattle.scale_info_bytes.specs.StringLaws.{text_law};
+ghost use Rattle.scale_info_bytes.specs.Strings.{EncodesText};
+ghost use Rattle.scale_info_grammar.specs.Ty.{EncodesArray, EncodesBitSequence, EncodesCompactType};
+ghost use Rattle.scale_info_grammar.specs.Ty.{EncodesComposite, EncodesDescription, EncodesField};
+ghost use Rattle.scale_info_grammar.specs.Ty.{EncodesId, EncodesMap, EncodesParameter, EncodesPath};
+ghost use Rattle.scale_info_grammar.specs.Ty.{EncodesPortableType, EncodesPrimitive};
+ghost use Rattle.scale_info_grammar.specs.Ty.{EncodesSequence, EncodesTuple, EncodesTypeDef};
+ghost use Rattle.scale_info_grammar.specs.Ty.{EncodesVariant, EncodesVariants};
+ghost use Rattle.scale_info_grammar.specs.TyLaws.{array_law, bit_sequence_law, compact_type_law};
+ghost use Rattle.scale_info_grammar.specs.TyLaws.{composite_law, description_law, field_law};
+ghost use Rattle.scale_info_grammar.specs.TyLaws.{id_law, map_law, parameter_law, path_law};
+ghost use Rattle.scale_info_grammar.specs.TyLaws.{portable_type_law, primitive_law, sequence_law};
+ghost use Rattle.scale_info_grammar.specs.TyLaws.{tuple_law, type_def_law, variant_law};
+ghost use Rattle.scale_info_grammar.specs.TyLaws.{variants_law};
+ghost use Rattle.scale_info_lent_form.specs.OwnedDescriptions.{owned_entry};
+ghost use Rattle.scale_info_lent_form.specs.OwnedParts.{owned_array, owned_bit_sequence};
+ghost use Rattle.scale_info_lent_form.specs.OwnedParts.{owned_compact, owned_composite};
+ghost use Rattle.scale_info_lent_form.specs.OwnedParts.{owned_definition, owned_description};
+ghost use Rattle.scale_info_lent_form.specs.OwnedParts.{owned_field, owned_map, owned_parameter};
+ghost use Rattle.scale_info_lent_form.specs.OwnedParts.{owned_path, owned_sequence, owned_tuple};
+ghost use Rattle.scale_info_lent_form.specs.OwnedParts.{owned_variant, owned_variants};
+ghost use Rattle.scale_info_primitives.specs.declared.primitive.TypeDefPrimitive as primitives;
+ghost use Rattle.scale_info_type_ids.specs.declared.impls.Compact as compacts;
+ghost use Rattle.scale_info_types.specs.Portable as portable;
+ghost use Rattle.scale_info_types.specs.Portable.{Id, Text};
+ghost use Rattle.scale_info_types.specs.declared.ty.PortableType as portable_types;
+ghost use Rattle.std.specs.Prelude.{ℕ, List, Option, map, option_map};
+
+use crate::form::{IdForm, StringOf, TypeOf};
+use crate::table::LentEntry;
+use scale_info_collections::items::Items;
+use scale_info_type_ids::impls::Compact;
+use scale_info_types::form::Form;
+use scale_info_types::ty::path::Path;
+use scale_info_types::ty::variant::Variant;
+use scale_info_types::ty::{
+    Description, Field, TypeDef, TypeDefArray, TypeDefBitSequence, TypeDefCompact,
+    TypeDefComposite, TypeDefMap, TypeDefPrimitive, TypeDefSequence, TypeDefTuple, TypeDefVariant,
+    TypeParameter,
+};
+
+/// A part of a description that has an encoding. A type stands for values of its own, but for
+/// [`TypeOf`](crate::form::TypeOf) and [`StringOf`](crate::form::StringOf), which stand for the
+/// types and the strings of a form.
+pub(crate) trait Encoded {
+    /// A value of the part.
+    type Value: Drop;
+
+    /// A value that owns its strings.
+    ghost Owned: { Type 0 };
+
+    /// The value with its strings owned.
+    ghost owned: { Self.Value → Owned };
+
+    /// The whole list of bytes encodes the value.
+    ghost encodes: { Owned → List ℕ → Type 0 };
+
+    /// A value has one encoding at most, no encoding is a proper prefix of another, and an encoding
+    /// is made of bytes.
+    ghost law: { IsEncoding encodes };
+}
+
+impl Encoded for u8 {
+    type Value = u8;
+
+    ghost Owned = { ℕ };
+
+    ghost owned = { λ integer. integer };
+
+    ghost encodes = { EncodesU8 };
+
+    ghost law = { u8_law };
+}
+
+impl Encoded for u32 {
+    type Value = u32;
+
+    ghost Owned = { ℕ };
+
+    ghost owned = { λ integer. integer };
+
+    ghost encodes = { EncodesU32 };
+
+    ghost law = { u32_law };
+}
+
+impl Encoded for Compact<u32> {
+    type Value = Compact<u32>;
+
+    ghost Owned = { compacts.Compact ℕ };
+
+    ghost owned = { λ integer. integer };
+
+    ghost encodes = { λ v b. EncodesCompact v.0 b };
+
+    ghost law = { through_law (λ v. v.0) (λ v w e i. record { 0 = e i }) compact_law };
+}
+
+impl<F: IdForm> Encoded for TypeOf<F> {
+    type Value = F::Ty;
+
+    ghost Owned = { Id };
+
+    ghost owned = { F.id_of };
+
+    ghost encodes = { EncodesId };
+
+    ghost law = { id_law };
+}
+
+impl<F: Form> Encoded for StringOf<F> {
+    type Value = F::String;
+
+    ghost Owned = { Text };
+
+    ghost owned = { F.text };
+
+    ghost encodes = { EncodesText };
+
+    ghost law = { text_law };
+}
+
+impl<T: Encoded> Encoded for Option<T> {
+    type Value = Option<T::Value>;
+
+    ghost Owned = { Option T.Owned };
+
+    ghost owned = { option_map T.owned };
+
+    ghost encodes = { EncodesOption T.encodes };
+
+    ghost law = { option_law T.law };
+}
+
+impl<A: Encoded, B: Encoded> Encoded for (A, B) {
+    type Value = (A::Value, B::Value);
+
+    ghost Owned = { A.Owned × B.Owned };
+
+    ghost owned = { λ pair. (A.owned pair.0, B.owned pair.1) };
+
+    ghost encodes = { EncodesPair A.encodes B.encodes };
+
+    ghost law = { pair_law A.law B.law };
+}
+
+impl<T: Encoded> Encoded for Items<T> {
+    type Value = Items<T::Value>;
+
+    ghost Owned = { List T.Owned };
+
+    ghost owned = { map T.owned };
+
+    ghost encodes = { EncodesList T.encodes };
+
+    ghost law = { list_law T.law };
+}
+
+impl<'i> Encoded for LentEntry<'i> {
+    type Value = LentEntry<'i>;
+
+    ghost Owned = { portable_types.PortableType };
+
+    ghost owned = { owned_entry };
+
+    ghost encodes = { EncodesPortableType };
+
+    ghost law = { portable_type_law };
+}
+
+impl<F: IdForm> Encoded for Path<F> {
+    type Value = Path<F>;
+
+    ghost Owned = { portable.Path };
+
+    ghost owned = { owned_path F.id_of F.text };
+
+    ghost encodes = { EncodesPath };
+
+    ghost law = { path_law };
+}
+
+impl<F: IdForm> Encoded for Field<F> {
+    type Value = Field<F>;
+
+    ghost Owned = { portable.Field };
+
+    ghost owned = { owned_field F.id_of F.text };
+
+    ghost encodes = { EncodesField };
+
+    ghost law = { field_law };
+}
+
+impl<F: IdForm> Encoded for TypeDefComposite<F> {
+    type Value = TypeDefComposite<F>;
+
+    ghost Owned = { portable.TypeDefComposite };
+
+    ghost owned = { owned_composite F.id_of F.text };
+
+    ghost encodes = { EncodesComposite };
+
+    ghost law = { composite_law };
+}
+
+impl<F: IdForm> Encoded for TypeDefVariant<F> {
+    type Value = TypeDefVariant<F>;
+
+    ghost Owned = { portable.TypeDefVariant };
+
+    ghost owned = { owned_variants F.id_of F.text };
+
+    ghost encodes = { EncodesVariants };
+
+    ghost law = { variants_law };
+}
+
+impl<F: IdForm> Encoded for Variant<F> {
+    type Value = Variant<F>;
+
+    ghost Owned = { portable.Variant };
+
+    ghost owned = { owned_variant F.id_of F.text };
+
+    ghost encodes = { EncodesVariant };
+
+    ghost law = { variant_law };
+}
+
+impl<F: IdForm> Encoded for Description<F> {
+    type Value = Description<F>;
+
+    ghost Owned = { portable.Description };
+
+    ghost owned = { owned_description F.id_of F.text };
+
+    ghost encodes = { EncodesDescription };
+
+    ghost law = { description_law };
+}
+
+impl<F: IdForm> Encoded for TypeParameter<F> {
+    type Value = TypeParameter<F>;
+
+    ghost Owned = { portable.TypeParameter };
+
+    ghost owned = { owned_parameter F.id_of F.text };
+
+    ghost encodes = { EncodesParameter };
+
+    ghost law = { parameter_law };
+}
+
+impl<F: IdForm> Encoded for TypeDefSequence<F> {
+    type Value = TypeDefSequence<F>;
+
+    ghost Owned = { portable.TypeDefSequence };
+
+    ghost owned = { owned_sequence F.id_of F.text };
+
+    ghost encodes = { EncodesSequence };
+
+    ghost law = { sequence_law };
+}
+
+impl<F: IdForm> Encoded for TypeDefArray<F> {
+    type Value = TypeDefArray<F>;
+
+    ghost Owned = { portable.TypeDefArray };
+
+    ghost owned = { owned_array F.id_of F.text };
+
+    ghost encodes = { EncodesArray };
+
+    ghost law = { array_law };
+}
+
+impl<F: IdForm> Encoded for TypeDefTuple<F> {
+    type Value = TypeDefTuple<F>;
+
+    ghost Owned = { portable.TypeDefTuple };
+
+    ghost owned = { owned_tuple F.id_of F.text };
+
+    ghost encodes = { EncodesTuple };
+
+    ghost law = { tuple_law };
+}
+
+impl Encoded for TypeDefPrimitive {
+    type Value = TypeDefPrimitive;
+
+    ghost Owned = { primitives.TypeDefPrimitive };
+
+    ghost owned = { λ primitive. primitive };
+
+    ghost encodes = { EncodesPrimitive };
+
+    ghost law = { primitive_law };
+}
+
+impl<F: IdForm> Encoded for TypeDefCompact<F> {
+    type Value = TypeDefCompact<F>;
+
+    ghost Owned = { portable.TypeDefCompact };
+
+    ghost owned = { owned_compact F.id_of F.text };
+
+    ghost encodes = { EncodesCompactType };
+
+    ghost law = { compact_type_law };
+}
+
+impl<F: IdForm> Encoded for TypeDefBitSequence<F> {
+    type Value = TypeDefBitSequence<F>;
+
+    ghost Owned = { portable.TypeDefBitSequence };
+
+    ghost owned = { owned_bit_sequence F.id_of F.text };
+
+    ghost encodes = { EncodesBitSequence };
+
+    ghost law = { bit_sequence_law };
+}
+
+impl<F: IdForm> Encoded for TypeDefMap<F> {
+    type Value = TypeDefMap<F>;
+
+    ghost Owned = { portable.TypeDefMap };
+
+    ghost owned = { owned_map F.id_of F.text };
+
+    ghost encodes = { EncodesMap };
+
+    ghost law = { map_law };
+}
+
+impl<F: IdForm> Encoded for TypeDef<F> {
+    type Value = TypeDef<F>;
+
+    ghost Owned = { portable.TypeDef };
+
+    ghost owned = { owned_definition F.id_of F.text };
+
+    ghost encodes = { EncodesTypeDef };
+
+    ghost law = { type_def_law };
+}
