@@ -12,7 +12,7 @@ ghost use Rattle.scale_info_types.specs.Shapes.{map_definition, map_description,
 ghost use Rattle.scale_info_types.specs.Shapes.{map_parameter, map_path, map_variant};
 ghost use Rattle.std.specs.Prelude.{◌≡◌, IfErr, OnErr, OnOk};
 
-use crate::tuple::{encode_four, encode_two, encode_with_index};
+use crate::tuple::encode_with_index;
 use crate::with_ids::{EncodeWithIds, GivesIds};
 use scale_info_bytes::error::{EncodeError, truncate_on_err};
 use scale_info_bytes::integer::encode_compact;
@@ -69,14 +69,8 @@ impl<N: GivesIds> EncodeWithIds<N> for Type {
     ghost encodes = { EncodesDescription };
 
     fn encode_with_ids(&self, ids: &N, out: &mut Vec<u8>) -> Result<(), EncodeError> {
-        encode_four(
-            &self.path,
-            &self.type_params,
-            &self.type_def,
-            &self.docs,
-            ids,
-            out,
-        )
+        let ends = (&self.type_def, &self.docs);
+        (&self.path, (&self.type_params, ends)).encode_with_ids(ids, out)
     }
 }
 
@@ -100,7 +94,7 @@ impl<N: GivesIds> EncodeWithIds<N> for TypeParameter {
     ghost encodes = { EncodesParameter };
 
     fn encode_with_ids(&self, ids: &N, out: &mut Vec<u8>) -> Result<(), EncodeError> {
-        encode_two(&self.name, &self.ty, ids, out)
+        (&self.name, &self.ty).encode_with_ids(ids, out)
     }
 }
 
@@ -112,7 +106,8 @@ impl<N: GivesIds> EncodeWithIds<N> for Field {
     ghost encodes = { EncodesField };
 
     fn encode_with_ids(&self, ids: &N, out: &mut Vec<u8>) -> Result<(), EncodeError> {
-        encode_four(&self.name, &self.ty, &self.type_name, &self.docs, ids, out)
+        let ends = (&self.type_name, &self.docs);
+        (&self.name, (&self.ty, ends)).encode_with_ids(ids, out)
     }
 }
 
@@ -124,7 +119,8 @@ impl<N: GivesIds> EncodeWithIds<N> for Variant {
     ghost encodes = { EncodesVariant };
 
     fn encode_with_ids(&self, ids: &N, out: &mut Vec<u8>) -> Result<(), EncodeError> {
-        encode_four(&self.name, &self.fields, &self.index, &self.docs, ids, out)
+        let ends = (&self.index, &self.docs);
+        (&self.name, (&self.fields, ends)).encode_with_ids(ids, out)
     }
 }
 
@@ -137,7 +133,7 @@ impl<N: GivesIds> EncodeWithIds<N> for TypeDefArray {
     ghost encodes = { EncodesArray };
 
     fn encode_with_ids(&self, ids: &N, out: &mut Vec<u8>) -> Result<(), EncodeError> {
-        encode_two(&self.len, &self.type_param, ids, out)
+        (&self.len, &self.type_param).encode_with_ids(ids, out)
     }
 }
 
@@ -153,7 +149,7 @@ impl<N: GivesIds> EncodeWithIds<N> for TypeDefBitSequence {
     ghost encodes = { EncodesBitSequence };
 
     fn encode_with_ids(&self, ids: &N, out: &mut Vec<u8>) -> Result<(), EncodeError> {
-        encode_two(&self.bit_store_type, &self.bit_order_type, ids, out)
+        (&self.bit_store_type, &self.bit_order_type).encode_with_ids(ids, out)
     }
 }
 
@@ -169,7 +165,7 @@ impl<N: GivesIds> EncodeWithIds<N> for TypeDefMap {
     ghost encodes = { EncodesMap };
 
     fn encode_with_ids(&self, ids: &N, out: &mut Vec<u8>) -> Result<(), EncodeError> {
-        encode_two(&self.key, &self.value, ids, out)
+        (&self.key, &self.value).encode_with_ids(ids, out)
     }
 }
 
