@@ -50,12 +50,12 @@ impl Json for u8 {
 
     ghost meant = { MeansNumber 256 };
 
-    fn to_json(&self, _alloc: Global) -> Result<Value, AllocError> {
-        Ok(Value::from(*self))
+    fn to_json(&self, alloc: Global) -> Result<Value, AllocError> {
+        u32::from(*self).to_json(alloc)
     }
 
     fn write_json(&self, out: &mut Writer) -> Result<(), AllocError> {
-        out.u64(*self as u64)
+        u32::from(*self).write_json(out)
     }
 
     fn from_json(_alloc: Global, tree: &Value) -> Result<u8, JsonError> {
