@@ -7,7 +7,7 @@ ghost use Rattle.scale_info_numberings.specs.Systems.{IsReached};
 ghost use Rattle.scale_info_walk.specs.TypeSystems.{types_system};
 
 use crate::error::GraphError;
-use crate::lines::append_types;
+use crate::lines::append_type;
 use crate::pieces::append_pieces;
 use scale_info_tables::portable::PortableRegistry;
 use scale_info_walk::walk::{RetainError, number};
@@ -90,6 +90,8 @@ fn append_graph_of(
     ensures keeps { GoesOn (string_bytes out.old) (string_bytes out.new) }
 {
     append_pieces(out, &["digraph types {\n"])?;
-    append_types(alloc, out, table, ids)?;
+    for id in ids {
+        append_type(alloc, out, table, *id)?;
+    }
     append_pieces(out, &["}\n"])
 }

@@ -5,7 +5,6 @@ ghost use Rattle.scale_info_describe.specs.TypeNames.{Appends, name_at};
 ghost use Rattle.scale_info_numberings.specs.Systems.{refs_in};
 ghost use Rattle.scale_info_references.specs.Gathered.{targets};
 ghost use Rattle.scale_info_graph.specs.GraphTexts.{GoesOn, edge_line, node_line, type_lines};
-ghost use Rattle.scale_info_graph.specs.GraphTexts.{types_lines};
 ghost use Rattle.scale_info_walk.specs.TypeSystems.{types_system};
 
 use crate::pieces::{append_label, append_pieces};
@@ -17,24 +16,8 @@ use scale_info_references::references::references_of;
 use scale_info_tables::portable::PortableRegistry;
 use std::alloc::{AllocError, Global};
 
-/// Appends the lines of the types with these ids. On an error a part may have been appended.
-pub(crate) fn append_types(
-    alloc: Global,
-    out: &mut String,
-    table: &PortableRegistry,
-    ids: &[u32],
-) -> Result<(), AllocError>
-    ensures ok { Appends result out.old out.new (types_lines table.now ids.now) }
-    ensures keeps { GoesOn (string_bytes out.old) (string_bytes out.new) }
-{
-    for id in ids {
-        append_type(alloc, out, table, *id)?;
-    }
-    Ok(())
-}
-
 /// Appends the lines of a type. On an error a part may have been appended.
-fn append_type(
+pub(crate) fn append_type(
     alloc: Global,
     out: &mut String,
     table: &PortableRegistry,
