@@ -9,6 +9,7 @@ use Rattle.std.proofs.lemmas.List.{append-nil}
 use Rattle.std.proofs.lemmas.Grind.{flat_map-append}
 use Rattle.scale_info_value.specs.declared.value.Failure.{Failure}
 use Rattle.scale_info_value.specs.Outcomes.{Outcome, decoded, failed, Decoder, outcome_map, in_turn}
+use Rattle.scale_info_value.proofs.Ranks.{calls_left}
 use Rattle.scale_info_value.proofs.InOrder.{preceded, nothing_before, reads_one, reads_none, first_fails, take_next}
 use Rattle.scale_info_visit.specs.declared.visitor.VisitError.{VisitError}
 use Rattle.scale_info_visit.specs.declared.visitor.VisitError.TheVariants as error
@@ -17,6 +18,11 @@ use Rattle.scale_info_visit.specs.Events.{Event}
 use Rattle.scale_info_visit.specs.Visits.{HasVisited, HasFailed, StopsWithin, IsVisitErrorOf, HasReturned, bracketed, placed}
 use Rattle.scale_info_visit.proofs.Places.{placed_append}
 use Rattle.scale_info_visit.proofs.Turns.{with_first, mapped_from, preceded_from}
+
+-- The rank of a call of the visit, where so many levels are left. Of the functions that a value
+-- goes through at its level, and the list before it, so many come before this one, of eight at most.
+abbrev pub visits_left : ℕ → ℕ → ℕ
+visits_left made left = calls_left 8 made left
 
 -- events do what they do one after another
 abbrev pub Appends : {V : Type 0} → (List Event → V → V → Type 0) → Type 0

@@ -1,60 +1,60 @@
-use Rattle.std.proofs.Common.{◌-◌, ◌*◌, ◌+◌, drop, Some}
+use Rattle.std.proofs.Common.{drop, Some}
 use Rattle.scale_info_value.specs.Readings.{definition_within, members_within, fields_within, pair_within}
 use Rattle.scale_info_visit.specs.Events.{pair_of}
 use Rattle.scale_info_visit.specs.Visits.{fields_by, items_by, members_by}
-use Rattle.scale_info_visit.proofs.Visiting.{IsVisiting, IsRepeating}
+use Rattle.scale_info_visit.proofs.Visiting.{IsVisiting, IsRepeating, visits_left}
 use Rattle.scale_info_visit.proofs.visit.+visit.Given as goal
 
 abbrev pub decreases-value_within : goal.decreases-value_within
-decreases-value_within g l = 7 * l.left
+decreases-value_within g l = visits_left 2 l.left
 
 abbrev pub decreases-value_by : goal.decreases-value_by
-decreases-value_by g l = 7 * l.left - 1
+decreases-value_by g l = visits_left 3 l.left
 
 abbrev pub decreases-record : goal.decreases-record
-decreases-record g l = 7 * l.left - 3
+decreases-record g l = visits_left 5 l.left
 
 abbrev pub decreases-variant : goal.decreases-variant
-decreases-variant g l = 7 * l.left - 2
+decreases-variant g l = visits_left 4 l.left
 
 abbrev pub decreases-chosen : goal.decreases-chosen
-decreases-chosen g l = 7 * l.left - 3
+decreases-chosen g l = visits_left 5 l.left
 
 abbrev pub decreases-fields : goal.decreases-fields
-decreases-fields g l = 7 * l.left - 4
+decreases-fields g l = visits_left 6 l.left
 
 abbrev pub decreases-field : goal.decreases-field
-decreases-field g l = 7 * l.left - 5
+decreases-field g l = visits_left 7 l.left
 
 abbrev pub decreases-list : goal.decreases-list
-decreases-list g l = 7 * l.left - 2
+decreases-list g l = visits_left 4 l.left
 
 abbrev pub decreases-list_by : goal.decreases-list_by
-decreases-list_by g l = 7 * l.left + 2
+decreases-list_by g l = visits_left 0 l.left
 
 abbrev pub decreases-list_of_items : goal.decreases-list_of_items
-decreases-list_of_items g l = 7 * l.left + 1
+decreases-list_of_items g l = visits_left 1 l.left
 
 abbrev pub decreases-items : goal.decreases-items
-decreases-items g l = 7 * l.left
+decreases-items g l = visits_left 2 l.left
 
 abbrev pub decreases-members : goal.decreases-members
-decreases-members g l = 7 * l.left - 2
+decreases-members g l = visits_left 4 l.left
 
 abbrev pub decreases-each_member : goal.decreases-each_member
-decreases-each_member g l = 7 * l.left - 3
+decreases-each_member g l = visits_left 5 l.left
 
 abbrev pub decreases-pairs : goal.decreases-pairs
-decreases-pairs g l = 7 * l.left - 2
+decreases-pairs g l = visits_left 4 l.left
 
 abbrev pub decreases-each_pair : goal.decreases-each_pair
-decreases-each_pair g l = 7 * l.left - 3
+decreases-each_pair g l = visits_left 5 l.left
 
 abbrev pub decreases-pair : goal.decreases-pair
-decreases-pair g l = 7 * l.left - 4
+decreases-pair g l = visits_left 6 l.left
 
 abbrev pub decreases-key_and_value : goal.decreases-key_and_value
-decreases-key_and_value g l = 7 * l.left - 5
+decreases-key_and_value g l = visits_left 7 l.left
 
 abbrev pub invariant-items-loop : goal.invariant-items-loop
 invariant-items-loop g l =
