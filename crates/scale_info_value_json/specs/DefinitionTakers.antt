@@ -31,6 +31,10 @@ pub record Takers : Type 0 where
   pub compact : Taker Dyn
   pub is_byte : Bool
 
+-- nothing is taken of a type whose values are not taken
+abbrev pub unsupported_type : Taker Dyn
+unsupported_type tree = refused unsupported
+
 -- a truth value
 abbrev pub truth : Taker Dyn
 truth tree = if_found (as_bool tree) (λ b. taken (dyn.Bool b))
@@ -52,23 +56,16 @@ text_of t =
 abbrev pub text : Taker Dyn
 text tree = if_found (text_in tree) text_of
 
--- a value of a primitive
+-- a value of a primitive; an unsigned integer is one of its width
 abbrev pub primitive : TypeDefPrimitive → Taker Dyn
 primitive kind.Bool tree = truth tree
-primitive kind.Char tree = refused unsupported
 primitive kind.Str tree = text tree
-primitive kind.U8 tree = unsigned (2 ^ 8) tree
-primitive kind.U16 tree = unsigned (2 ^ 16) tree
-primitive kind.U32 tree = unsigned (2 ^ 32) tree
-primitive kind.U64 tree = unsigned (2 ^ 64) tree
-primitive kind.U128 tree = unsigned (2 ^ 128) tree
-primitive kind.U256 tree = refused unsupported
 primitive kind.I8 tree = signed (2 ^ 7) tree
 primitive kind.I16 tree = signed (2 ^ 15) tree
 primitive kind.I32 tree = signed (2 ^ 31) tree
 primitive kind.I64 tree = signed (2 ^ 63) tree
 primitive kind.I128 tree = signed (2 ^ 127) tree
-primitive kind.I256 tree = refused unsupported
+primitive p tree = by_width unsupported_type unsigned p tree
 
 -- the values of trees, by one taker
 abbrev pub each : Taker Dyn → List Data → Taken (List Dyn)
@@ -166,10 +163,6 @@ value_by (def.Primitive p) tree = primitive p tree
 value_by (def.Compact d) tree = d.type_param.compact tree
 value_by (def.BitSequence d) tree = refused unsupported
 value_by (def.Map d) tree = pairs d.key d.value tree
-
--- nothing is taken of a type whose values are not taken
-abbrev pub unsupported_type : Taker Dyn
-unsupported_type tree = refused unsupported
 
 -- a compact integer that fits the width of the primitive
 abbrev pub compact_primitive : TypeDefPrimitive → Taker Dyn
