@@ -64,21 +64,25 @@ parsed_is limit bs (Err e) h = unparsed limit bs (nat_lt 0 (length bs) && are_di
 
 -- where no plus stands first, parsing gives the number that a text writes
 pub unsigned_parsed :
-    {E : Type 0} (bs : List ℕ) (r : Result ℕ E) → (get_or bs 0 0 == 43) ≡ false → ParsesUnsigned 128 10 bs r
-    → result_ok r ≡ below (2 ^ 128) (decimal_in bs)
-unsigned_parsed {E} bs (Ok n) plain h =
-    parsed_is {E = E} (2 ^ 128) bs (Ok n) (subst (λ (b : Bool). Parsed {E = E} (2 ^ 128) (drop (cond b 1 0) bs) (Ok n)) plain h)
-unsigned_parsed {E} bs (Err e) plain h =
-    parsed_is {E = E} (2 ^ 128) bs (Err e) (subst (λ (b : Bool). Parsed {E = E} (2 ^ 128) (drop (cond b 1 0) bs) (Err e)) plain h)
+    {E : Type 0} (bs : List ℕ) (r : Result ℕ E) (o : Option ℕ) → o ≡ result_ok r → (get_or bs 0 0 == 43) ≡ false
+    → ParsesUnsigned 128 10 bs r → o ≡ below (2 ^ 128) (decimal_in bs)
+unsigned_parsed {E} bs (Ok n) o e plain h =
+    e ∙ parsed_is {E = E} (2 ^ 128) bs (Ok n) (subst (λ (b : Bool). Parsed {E = E} (2 ^ 128) (drop (cond b 1 0) bs) (Ok n)) plain h)
+unsigned_parsed {E} bs (Err d) o e plain h =
+    e ∙ parsed_is {E = E} (2 ^ 128) bs (Err d) (subst (λ (b : Bool). Parsed {E = E} (2 ^ 128) (drop (cond b 1 0) bs) (Err d)) plain h)
 
 -- a text that begins with a plus writes none
-pub plus_none : (bs : List ℕ) → (get_or bs 0 0 == 43) ≡ true → decimal_in bs ≡ None
+plus_none : (bs : List ℕ) → (get_or bs 0 0 == 43) ≡ true → decimal_in bs ≡ None
 plus_none [] e = cc
 plus_none (c ∷ cs) e =
     let is : c ≡ 43 = eqb-true c 43 e in
     ap (λ x. decimal_in (x ∷ cs)) is
     ∙ ap (λ (b : Bool). if b then Some (digits_value 10 (43 ∷ cs)) else None)
     (and_right (nat_lt 0 (length (43 ∷ cs))) (are_digits (43 ∷ cs)) refl)
+
+-- and none below a limit
+pub none_below : (limit : ℕ) (bs : List ℕ) → (get_or bs 0 0 == 43) ≡ true → None ≡ below limit (decimal_in bs)
+none_below limit bs e = ap (below limit) (sym (plus_none bs e))
 
 -- an integer is within the limit of a width where it fits the width
 within_of : (z : ℤ) → FitsSigned w128 z → is_within (2 ^ 127) z ≡ true
@@ -147,17 +151,19 @@ signed_by {E} false bs (Err e) h = signed_is {E = E} pos bs (Err e) h
 
 -- where no plus stands first, parsing gives the integer that a text writes
 pub signed_parsed :
-    {E : Type 0} (bs : List ℕ) (r : Result ℤ E) → (get_or bs 0 0 == 43) ≡ false → ParsesSigned w128 10 bs r
-    → result_ok r ≡ within (2 ^ 127) (signed_decimal_in bs)
-signed_parsed {E} bs (Ok z) plain h =
-    signed_by {E = E} (get_or bs 0 0 == 45) bs (Ok z)
+    {E : Type 0} (bs : List ℕ) (r : Result ℤ E) (o : Option ℤ) → o ≡ result_ok r → (get_or bs 0 0 == 43) ≡ false
+    → ParsesSigned w128 10 bs r → o ≡ within (2 ^ 127) (signed_decimal_in bs)
+signed_parsed {E} bs (Ok z) o e plain h =
+    e
+    ∙ signed_by {E = E} (get_or bs 0 0 == 45) bs (Ok z)
     (subst (λ (b : Bool). ParsedBy {E = E} (get_or bs 0 0 == 45) b bs (Ok z)) plain h)
-signed_parsed {E} bs (Err e) plain h =
-    signed_by {E = E} (get_or bs 0 0 == 45) bs (Err e)
-    (subst (λ (b : Bool). ParsedBy {E = E} (get_or bs 0 0 == 45) b bs (Err e)) plain h)
+signed_parsed {E} bs (Err d) o e plain h =
+    e
+    ∙ signed_by {E = E} (get_or bs 0 0 == 45) bs (Err d)
+    (subst (λ (b : Bool). ParsedBy {E = E} (get_or bs 0 0 == 45) b bs (Err d)) plain h)
 
 -- a text that begins with a plus writes no integer with a sign
-pub signed_plus_none : (bs : List ℕ) → (get_or bs 0 0 == 43) ≡ true → signed_decimal_in bs ≡ None
+signed_plus_none : (bs : List ℕ) → (get_or bs 0 0 == 43) ≡ true → signed_decimal_in bs ≡ None
 signed_plus_none bs e = plain (get_or bs 0 0 == 45) refl
   where
     plain : (minus : Bool) → (get_or bs 0 0 == 45) ≡ minus → by_sign minus bs ≡ None
@@ -166,3 +172,7 @@ signed_plus_none bs e = plain (get_or bs 0 0 == 45) refl
         let other : get_or bs 0 0 ≡ 45 = eqb-true _ _ f in
         absurd (omega arith)
     plain false f = ap (option_map pos) (plus_none bs e)
+
+-- and none within a limit
+pub none_within : (limit : ℕ) (bs : List ℕ) → (get_or bs 0 0 == 43) ≡ true → None ≡ within limit (signed_decimal_in bs)
+none_within limit bs e = ap (within limit) (sym (signed_plus_none bs e))
