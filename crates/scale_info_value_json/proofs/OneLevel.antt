@@ -1,6 +1,6 @@
 -- Lists of bytes and fields, one level.
 use Rattle.std.proofs.Common.{◌≡◌, ℕ, suc, ◌-◌, ◌<◌, ◌≤◌, ◌^◌, Bool, true, false, List, [], ◌∷◌, map, length}
-use Rattle.std.proofs.Common.{Option, Some, None, option_map, refl, ap, sym, ◌∙◌, arith}
+use Rattle.std.proofs.Common.{Option, Some, None, option_map, refl, ap, sym, ◌∙◌, arith, get_or}
 use Rattle.std.proofs.lemmas.Bool.{lt-ltb}
 use Rattle.std.proofs.lemmas.List.{length-map}
 use Rattle.std.specs.Prelude.{if◌then◌else◌}
@@ -10,18 +10,19 @@ use Rattle.std.proofs.Common.{Result, Ok, Err}
 use Rattle.hex.proofs.HexLemmas.{decode_of-ok}
 use Rattle.std.specs.Result.{result_ok}
 use Rattle.serde_json.specs.Data.{Data, number, unsigned, string}
-use Rattle.scale_info_types.specs.Portable.{Id, Text, Field, TypeDef, Description}
+use Rattle.scale_info_types.specs.Portable.{Id, Text, Field, TypeDef, TypeDefComposite, Description}
 use Rattle.scale_info_types.specs.declared.ty.TypeDef.TheVariants as def
 use Rattle.scale_info_types.specs.Shapes.{map_definition, map_field}
 use Rattle.scale_info_primitives.specs.declared.primitive.TypeDefPrimitive.TheVariants as kind
 use Rattle.scale_info_tables.specs.declared.portable.PortableRegistry.{PortableRegistry}
 use Rattle.scale_info_value.specs.declared.value.Dyn.{Dyn}
 use Rattle.scale_info_value.specs.declared.value.Dyn.TheVariants as dyn
-use Rattle.scale_info_value.specs.Readings.{type_at, value_at}
+use Rattle.scale_info_value.specs.Readings.{type_at, value_at, compact_at, compact_defined_at}
 use Rattle.scale_info_visit.specs.Events.{definition_at, is_byte, names}
+use Rattle.scale_info_value_json.specs.declared.error.TreeRefusal.{TreeRefusal}
 use Rattle.scale_info_value_json.specs.Takers.{taken, refused, mismatch, too_deep, taken_map, if_found}
 use Rattle.scale_info_value_json.specs.TreeParts.{bytes_in, list_in, items_in, is_object_of, without_prefix}
-use Rattle.scale_info_value_json.specs.DefinitionTakers.{Takers, value_by, each, counted}
+use Rattle.scale_info_value_json.specs.DefinitionTakers.{Takers, value_by, each, counted, compact_field}
 use Rattle.scale_info_value_json.specs.Takings.{takings, part_within, items_within, is_count_of}
 use Rattle.scale_info_value_json.specs.Takings.{fields_within, object_fields_within, array_fields_within}
 use Rattle.scale_info_value.proofs.Steps.{levels_end, levels_known, both_at}
@@ -86,6 +87,23 @@ module _ (left : ℕ) (table : PortableRegistry) (ty : Id) (count : Option ℕ) 
       ∙ ap (λ o. taken_map dyn.List (if_found (option_map (map (λ n. number (unsigned n))) o)
       (counted (is_count_of count) (value_at takings (left - 1) table ty.id)))) e
 
+  -- a text that writes none is refused
+  pub no_bytes :
+      (why : TreeRefusal) → if_found (bytes_in text) taken ≡ refused why → items_within left table ty count (string text) ≡ refused why
+  no_bytes why e = by_bytes (bytes_in text) refl e
+    where
+      by_bytes :
+          (o : Option (List ℕ)) → bytes_in text ≡ o → if_found o taken ≡ refused why
+          → items_within left table ty count (string text) ≡ refused why
+      by_bytes None is f =
+          let same : mismatch ≡ why = cc in
+          ap (λ t. taken_map dyn.List (if_found (list_in t (string text)) (counted (is_count_of count) (value_at takings (left - 1) table ty.id))))
+          of_bytes
+          ∙ ap (λ o. taken_map dyn.List (if_found (option_map (map (λ n. number (unsigned n))) o)
+          (counted (is_count_of count) (value_at takings (left - 1) table ty.id)))) is
+          ∙ ap refused same
+      by_bytes (Some bytes) is f = cc
+
   -- by the test of how many there are
   bytes_tested :
       (bytes : List ℕ) (test : Bool) → bytes_in text ≡ Some bytes → is_count_of count (length bytes) ≡ test
@@ -138,6 +156,20 @@ module _ (left : ℕ) (table : PortableRegistry) (ty : Id) (count : Option ℕ) 
       → items_within left table ty count (string text) ≡ taken (dyn.List values)
   no_bytes_taken [] values e fits none is = bytes_counted [] e fits ∙ ap (λ vs. taken (dyn.List vs)) (sym is)
   no_bytes_taken (n ∷ bytes) values e fits none is = absurd (omega arith)
+
+-- ---- compact integers
+
+-- a composite of one field has the compact integers of that field
+pub compact_of_field :
+    (left : ℕ) (table : PortableRegistry) (d : TypeDef) (composite : TypeDefComposite) (fields : List Field) (f : Field)
+    → d ≡ def.Composite composite → fields ≡ composite.fields → 1 ≤ length fields → length fields < 2 → f ≡ get_or fields 0 f
+    → (tree : Data) → compact_defined_at takings left table d tree ≡ compact_at takings (left - 1) table f.ty.id tree
+compact_of_field left table d composite [] f is e long short at tree = absurd (omega arith)
+compact_of_field left table d composite (g ∷ []) f is e long short at tree =
+    ap (λ x. compact_defined_at takings left table x tree) is
+    ∙ ap (λ fs. compact_field (map (map_field {G = Unit {0}} (λ r. compact_at takings (left - 1) table r.id) (λ t. t)) fs) tree) (sym e)
+    ∙ ap (λ x. compact_at takings (left - 1) table x.ty.id tree) (sym at)
+compact_of_field left table d composite (g ∷ h ∷ more) f is e long short at tree = absurd (omega arith)
 
 -- ---- fields
 

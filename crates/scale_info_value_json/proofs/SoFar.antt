@@ -74,12 +74,16 @@ refused_as : {A : Type 0} (whole : Taken A) (why : TreeRefusal) → whole ≡ re
 refused_as whole refusal.Mismatch e = e
 refused_as whole _ e = e
 
+-- what holds of an error that is passed on
+pub passed_on : {X E : Type 0} (r : Result X E) (e : E) (P : E → Type 0) → IsErrAnd r (λ d. d ≡ e) → P e → IfErr r P
+passed_on (Ok x) e P h p = tt
+passed_on (Err d) e P h p = subst P (sym h) p
+
 -- an error that is passed on
 pub passed :
     {A X : Type 0} (r : Result X ValueJsonError) (e : ValueJsonError) (whole : Taken A) → IsErrAnd r (λ d. d ≡ e)
     → IsErrorOf whole e → IfErr r (IsErrorOf whole)
-passed (Ok x) e whole h p = tt
-passed (Err d) e whole h p = subst (IsErrorOf whole) (sym h) p
+passed r e whole h p = passed_on r e (IsErrorOf whole) h p
 
 -- a refusal that is passed on as an error
 pub passed_as :

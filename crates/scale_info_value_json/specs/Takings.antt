@@ -1,11 +1,11 @@
 -- What comes of taking a value from a tree by a table.
-use Rattle.std.specs.Prelude.{ℕ, ◌-◌, ◌==◌, Bool, List, Option, Some, None, map}
+use Rattle.std.specs.Prelude.{◌≡◌, ℕ, ◌-◌, ◌==◌, Bool, true, List, Option, Some, None, map}
 use Rattle.std.specs.Prelude.{option_map}
 use Rattle.std.specs.Borrow.{Bor}
-use Rattle.serde_json.specs.Data.{Data}
+use Rattle.serde_json.specs.Data.{Data, string}
 use Rattle.serde_json.specs.View.{view}
 use Rattle.serde_json.specs.declared.value.Value.{Value}
-use Rattle.scale_info_types.specs.Portable.{Id, Field}
+use Rattle.scale_info_types.specs.Portable.{Id, Text, Field}
 use Rattle.scale_info_types.specs.Shapes.{map_field}
 use Rattle.scale_info_tables.specs.declared.portable.PortableRegistry.{PortableRegistry}
 use Rattle.scale_info_value.specs.declared.value.Dyn.{Dyn}
@@ -49,6 +49,12 @@ is_count_of (Some count) n = n == count
 -- a list of one type
 abbrev pub items_within : ℕ → PortableRegistry → Id → Option ℕ → Taker Dyn
 items_within left table ty count tree = items (is_count_of count) (part_within left table ty) tree
+
+-- what comes of a text at each list of bytes, whatever the table and its entry for bytes
+abbrev pub AtBytes : ℕ → Option ℕ → Text → (Taken Dyn → Type 0) → Type 0
+AtBytes left count text P =
+    (table : PortableRegistry) (ty : Id) → is_byte (definition_at table ty.id) ≡ true
+    → P (items_within left table ty count (string text))
 
 -- the values of the fields
 abbrev pub fields_within :

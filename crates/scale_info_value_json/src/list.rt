@@ -1,17 +1,12 @@
 //! Lists of bytes, and how many items a list may have.
 ghost use Rattle.std.specs.Prelude.{◌≡◌, ◌≤◌, ◌∷◌, [], IfOk, IfErr, map, true};
-ghost use Rattle.serde_json.specs.Data.{string};
 ghost use Rattle.scale_info_value.specs.declared.value.Dyn.TheVariants as dyn;
-ghost use Rattle.scale_info_visit.specs.Events.{definition_at, is_byte};
 ghost use Rattle.scale_info_value_json.specs.Takers.{IsErrorOf, taken};
-ghost use Rattle.scale_info_value_json.specs.Takings.{is_count_of, items_within};
+ghost use Rattle.scale_info_value_json.specs.Takings.{is_count_of, AtBytes};
 
 use crate::error::ValueJsonError;
 use crate::tree::bytes_of;
 use scale_info_collections::items::Items;
-use scale_info_identities::symbol::UntrackedSymbol;
-use scale_info_identities::type_id::TypeId;
-use scale_info_tables::portable::PortableRegistry;
 use scale_info_value::value::Dyn;
 use std::alloc::{AllocError, Global};
 
@@ -36,22 +31,19 @@ fn integers(alloc: Global, bytes: &[u8]) -> Result<Items<Dyn>, AllocError>
     Ok(Items::from(values))
 }
 
-/// A list of bytes, of a text of hexadecimal digits.
+/// A list of bytes, of a text of hexadecimal digits, whatever the table and its entry for bytes.
 #[inline(never)]
 pub fn byte_list(
     alloc: Global,
-    table: &PortableRegistry,
-    ty: &UntrackedSymbol<TypeId>,
     count: Option<u32>,
     left: u8,
     text: &str,
 ) -> Result<Dyn, ValueJsonError>
-    requires level { 1 ≤ left }
-    requires bytes { is_byte (definition_at table.now ty.now.id) ≡ true }
+    requires { 1 ≤ left }
     ensures ok { IfOk result
-        (λ value. items_within left table.now ty.now count (string text.now) ≡ taken value) }
+        (λ value. AtBytes left count text.now (λ outcome. outcome ≡ taken value)) }
     ensures err { IfErr result
-        (IsErrorOf (items_within left table.now ty.now count (string text.now))) }
+        (λ e. AtBytes left count text.now (λ outcome. IsErrorOf outcome e)) }
 {
     let bytes = bytes_of(alloc, text)?;
     let all = bytes.as_slice();

@@ -327,7 +327,7 @@ fn list(
 {
     if is_byte(table, ty.id) {
         if let Some(text) = tree.as_str() {
-            return byte_list(alloc, table, ty, count, left, text);
+            return byte_list(alloc, count, left, text);
         }
     }
     match items_of(tree) {
