@@ -1,22 +1,24 @@
 //! Compact integers, by the type that they are compact forms of.
-ghost use Rattle.std.specs.Prelude.{◌≡◌, ◌≤◌, IfOk, IfErr};
+ghost use Rattle.std.specs.Prelude.{◌≡◌, IfOk, IfErr};
+ghost use Rattle.serde_json.specs.Data.{Data};
 ghost use Rattle.serde_json.specs.View.{view};
-ghost use Rattle.scale_info_value.specs.Readings.{compact_at, compact_defined_at};
-ghost use Rattle.scale_info_value_json.specs.Takers.{IsErrorOf, taken};
+ghost use Rattle.scale_info_value.specs.Readings.{compact_at};
+ghost use Rattle.scale_info_value_json.specs.Takers.{IsErrorOf, taken, refused};
 ghost use Rattle.scale_info_value_json.specs.DefinitionTakers.{compact_primitive};
 ghost use Rattle.scale_info_value_json.specs.Takings.{takings};
 
 use crate::definition::definition_of;
-use crate::error::ValueJsonError;
+use crate::error::{TreeRefusal, ValueJsonError};
 use crate::primitive::unsigned;
 use scale_info_tables::portable::PortableRegistry;
-use scale_info_types::form::PortableForm;
 use scale_info_types::ty::{TypeDef, TypeDefPrimitive};
 use scale_info_value::value::Dyn;
 use serde_json::Value;
 
-/// A compact integer that fits a primitive type.
-fn compact_primitive(kind: &TypeDefPrimitive, tree: &Value) -> Result<Dyn, ValueJsonError>
+/// A compact integer that fits a primitive type. Not inlined, so that it takes no stack at each level
+/// of a value.
+#[inline(never)]
+pub fn compact_primitive(kind: &TypeDefPrimitive, tree: &Value) -> Result<Dyn, ValueJsonError>
     ensures ok { IfOk result (λ value. compact_primitive kind.now (view tree.now) ≡ taken value) }
     ensures err { IfErr result (IsErrorOf (compact_primitive kind.now (view tree.now))) }
 {
@@ -30,42 +32,28 @@ fn compact_primitive(kind: &TypeDefPrimitive, tree: &Value) -> Result<Dyn, Value
     }
 }
 
-/// A compact integer of the type with this id, where so many levels are left.
+/// The primitive type whose compact integers are those of the type with this id, where so many levels
+/// are left: that of its only field, if it is a composite.
+///
+/// Errors: `Unsupported`, where the type has no compact integers; and as [`definition_of`].
 #[cycle(compact)]
-pub fn compact_within(
+pub fn compact_kind(
     table: &PortableRegistry,
     id: u32,
     left: u8,
-    tree: &Value,
-) -> Result<Dyn, ValueJsonError>
-    ensures ok { IfOk result
-        (λ value. compact_at takings left table.now id (view tree.now) ≡ taken value) }
-    ensures err { IfErr result (IsErrorOf (compact_at takings left table.now id (view tree.now))) }
+) -> Result<&TypeDefPrimitive, TreeRefusal>
+    ensures ok { IfOk result (λ kind. (tree : Data)
+        → compact_at takings left table.now id tree ≡ compact_primitive kind.now tree) }
+    ensures err { IfErr result (λ why. (tree : Data)
+        → compact_at takings left table.now id tree ≡ refused why) }
 {
     let definition = definition_of(table, id, left)?;
-    compact_by(table, definition, left, tree)
-}
-
-/// A compact integer by the definition of its type.
-#[cycle(compact)]
-fn compact_by(
-    table: &PortableRegistry,
-    definition: &TypeDef<PortableForm>,
-    left: u8,
-    tree: &Value,
-) -> Result<Dyn, ValueJsonError>
-    requires { 1 ≤ left }
-    ensures ok { IfOk result (λ value.
-        compact_defined_at takings left table.now definition.now (view tree.now) ≡ taken value) }
-    ensures err { IfErr result
-        (IsErrorOf (compact_defined_at takings left table.now definition.now (view tree.now))) }
-{
     match definition {
         TypeDef::Composite(composite) => match composite.fields.as_slice() {
-            [field] => compact_within(table, field.ty.id, left - 1, tree),
-            _ => Err(ValueJsonError::Unsupported),
+            [field] => compact_kind(table, field.ty.id, left - 1),
+            _ => Err(TreeRefusal::Unsupported),
         },
-        TypeDef::Primitive(kind) => compact_primitive(kind, tree),
-        _ => Err(ValueJsonError::Unsupported),
+        TypeDef::Primitive(kind) => Ok(kind),
+        _ => Err(TreeRefusal::Unsupported),
     }
 }

@@ -13,7 +13,7 @@ ghost use Rattle.scale_info_value_json.specs.Takings.{items_within, fields_withi
 ghost use Rattle.scale_info_value_json.specs.Takings.{object_fields_within, array_fields_within};
 ghost use Rattle.scale_info_value_json.specs.Takings.{variant_fields_within, pair_within};
 
-use crate::compact::compact_within;
+use crate::compact::{compact_kind, compact_primitive};
 use crate::definition::{definition_of, is_byte};
 use crate::error::ValueJsonError;
 use crate::list::{byte_list, is_count_of};
@@ -125,7 +125,10 @@ fn value_by(
         }
         TypeDef::Tuple(tuple) => tuple_value(alloc, table, tuple, left, tree),
         TypeDef::Primitive(kind) => primitive(alloc, kind, tree),
-        TypeDef::Compact(compact) => compact_within(table, compact.type_param.id, left, tree),
+        TypeDef::Compact(compact) => {
+            let kind = compact_kind(table, compact.type_param.id, left)?;
+            compact_primitive(kind, tree)
+        }
         TypeDef::BitSequence(_) => Err(ValueJsonError::Unsupported),
         TypeDef::Map(map) => map_value(alloc, table, map, left, tree),
     }

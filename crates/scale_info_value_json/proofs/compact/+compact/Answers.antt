@@ -1,15 +1,20 @@
-use Rattle.std.proofs.Common.{◌∙◌, IfErr, subst, sym}
-use Rattle.std.proofs.lemmas.Result.{IfOk-weaker}
-use Rattle.serde_json.specs.View.{view}
-use Rattle.scale_info_value_json.specs.Takers.{IsErrorOf}
+use Rattle.std.proofs.Common.{◌∙◌}
+use Rattle.std.proofs.lemmas.Result.{IfOk-weaker, IfErr-weaker}
+use Rattle.scale_info_value_json.proofs.OneLevel.{compact_of_field}
 use Rattle.scale_info_value_json.proofs.compact.+compact.Goals as goal
 
-pub compact_within-returns-clause-ok : goal.compact_within-returns-clause-ok
-compact_within-returns-clause-ok t c =
-    IfOk-weaker c.compact_by.result _ _ (λ value e. (c.in_ok-definition.ensures.known (view c.args.tree.now)).1 ∙ e)
-    c.compact_by.ensures.ok
+pub returns-in-len1-clause-ok : goal.returns-in-len1-clause-ok
+returns-in-len1-clause-ok t c =
+    let inner =
+    compact_of_field c.args.left c.args.table.now c.in_ok-definition.definition.now c.in-Composite.composite c.as_slice.result.now
+    c.field-item.result c.in-Composite.is c.as_slice.ensures c.in-len1.len_at_least c.in-len1.len_below c.field-item.is in
+    IfOk-weaker c.compact_kind.result _ _ (λ kind h tree. (c.in_ok-definition.ensures.known tree).1 ∙ inner tree ∙ h tree)
+    c.compact_kind.ensures.ok
 
-pub compact_within-returns-clause-err : goal.compact_within-returns-clause-err
-compact_within-returns-clause-err t c =
-    subst (λ w. IfErr c.compact_by.result (IsErrorOf w)) (sym (c.in_ok-definition.ensures.known (view c.args.tree.now)).1)
-    c.compact_by.ensures.err
+pub returns-in-len1-clause-err : goal.returns-in-len1-clause-err
+returns-in-len1-clause-err t c =
+    let inner =
+    compact_of_field c.args.left c.args.table.now c.in_ok-definition.definition.now c.in-Composite.composite c.as_slice.result.now
+    c.field-item.result c.in-Composite.is c.as_slice.ensures c.in-len1.len_at_least c.in-len1.len_below c.field-item.is in
+    IfErr-weaker c.compact_kind.result _ _ (λ why h tree. (c.in_ok-definition.ensures.known tree).1 ∙ inner tree ∙ h tree)
+    c.compact_kind.ensures.err

@@ -1,8 +1,4 @@
-use Rattle.std.proofs.Common.{◌-◌, ◌*◌}
 use Rattle.scale_info_value_json.proofs.compact.+compact.Given as goal
 
-abbrev pub decreases-compact_within : goal.decreases-compact_within
-decreases-compact_within l = 2 * l.left
-
-abbrev pub decreases-compact_by : goal.decreases-compact_by
-decreases-compact_by l = 2 * l.left - 1
+abbrev pub decreases-compact_kind : goal.decreases-compact_kind
+decreases-compact_kind l = l.left
