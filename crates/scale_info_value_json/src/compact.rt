@@ -15,8 +15,8 @@ use scale_info_types::ty::{TypeDef, TypeDefPrimitive};
 use scale_info_value::value::Dyn;
 use serde_json::Value;
 
-/// A compact integer that fits a primitive type. Not inlined, so that it takes no stack at each level
-/// of a value.
+/// A compact integer that fits a primitive type. Not inlined, so that it takes no stack at each
+/// level of a value.
 #[inline(never)]
 pub fn compact_primitive(kind: &TypeDefPrimitive, tree: &Value) -> Result<Dyn, ValueJsonError>
     ensures ok { IfOk result (λ value. compact_primitive kind.now (view tree.now) ≡ taken value) }
@@ -32,8 +32,8 @@ pub fn compact_primitive(kind: &TypeDefPrimitive, tree: &Value) -> Result<Dyn, V
     }
 }
 
-/// The primitive type whose compact integers are those of the type with this id, where so many levels
-/// are left: that of its only field, if it is a composite.
+/// The primitive type whose compact integers are those of the type with this id, where so many
+/// levels are left: that of its only field, if it is a composite.
 ///
 /// Errors: `Unsupported`, where the type has no compact integers; and as [`definition_of`].
 #[cycle(compact)]
