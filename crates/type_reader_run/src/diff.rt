@@ -16,6 +16,7 @@ ghost use Rattle.type_reader_run.specs.Differences.{KeepsSide, change_line, is_o
 ghost use Rattle.type_reader_run.specs.Differences.{reason_text};
 ghost use Rattle.type_reader_run.specs.Tables.{IsOneTable};
 
+use crate::pruning::error_of;
 use crate::reason::{Side, compared_bytes, is_at, reason_of, side_of};
 use crate::selection::no_such_path;
 use crate::table::{Input, registry_of, table_in};
@@ -24,7 +25,6 @@ use scale_info_diff::change::Change;
 use scale_info_diff::changes::{changes, changes_with_docs};
 use scale_info_prune::prune::PruneError;
 use scale_info_types::ty::PortableType;
-use scale_info_walk::walk::RetainError;
 use std::alloc::{AllocError, Global};
 use type_reader_io::command::{Comparison, Docs};
 use type_reader_io::error::ReaderError;
@@ -211,17 +211,6 @@ fn check_paths(alloc: Global, old: &[u8], new: &[u8], paths: &[Text]) -> Result<
         }
     }
     Ok(())
-}
-
-/// The program's error for one of comparing tables. Those that never come, as each is a table, are
-/// as that of an allocation.
-fn error_of(error: PruneError) -> ReaderError
-    ensures { (table : List ℕ) → IsInputError table error → IsReferenceError table result }
-{
-    match error {
-        PruneError::Retain(RetainError::Dangling { id }) => ReaderError::Dangling(id),
-        _ => ReaderError::Memory,
-    }
 }
 
 /// What changed between two tables, by whether docs count.

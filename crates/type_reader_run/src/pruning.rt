@@ -2,7 +2,9 @@
 ghost use Rattle.std.specs.Prelude.{◌≡◌, IfOk, IfErr, List, ℕ};
 ghost use Rattle.std.specs.List.{flat_map};
 ghost use Rattle.scale_info_describe.specs.TypeNames.{Appends};
+ghost use Rattle.scale_info_diff.specs.TableChanges.{IsInputError};
 ghost use Rattle.scale_info_prune.specs.Prunes.{IsPruneError};
+ghost use Rattle.type_reader_run.specs.Differences.{IsReferenceError};
 ghost use Rattle.type_reader_run.specs.Outputs.{IsPruned, bytes_of, id_line};
 ghost use Rattle.type_reader_run.specs.Refusals.{IsReachingError};
 
@@ -36,11 +38,13 @@ fn lines_of(alloc: Global, new_ids: &BTreeMap<u32, u32>) -> Result<Vec<u8>, Allo
     Ok(out.into_bytes())
 }
 
-/// The program's error for one of pruning. Those that never come, as the ids are indices of the
-/// table, are as that of an allocation.
-fn error_of(error: PruneError) -> ReaderError
-    ensures { (table ids : List ℕ) → IsPruneError table ids error
+/// The program's error for one of pruning, or of comparing. Those that never come, as what is given
+/// is a table, and each id an index of it, are as that of an allocation.
+pub fn error_of(error: PruneError) -> ReaderError
+    ensures pruning { (table ids : List ℕ) → IsPruneError table ids error
         → IsReachingError table ids result }
+    ensures comparing { (table : List ℕ) → IsInputError table error
+        → IsReferenceError table result }
 {
     match error {
         PruneError::Retain(RetainError::Dangling { id }) => ReaderError::Dangling(id),
