@@ -38,22 +38,7 @@ fn append_title(out: &mut String, table: &PortableRegistry, id: u32) -> Result<(
     out.push_str("\n")
 }
 
-/// Appends a type: `//` and its title, and then its declaration.
-fn append_type(
-    alloc: Global,
-    out: &mut String,
-    table: &PortableRegistry,
-    id: u32,
-) -> Result<(), AllocError>
-    ensures { Appends result out.old out.new (listed_type table.now id) }
-{
-    out.push_str("// ")?;
-    append_title(out, table, id)?;
-    append_description(alloc, table, id, out)?;
-    out.push_str("\n")
-}
-
-/// The lines of these types, as Rust declares them.
+/// The lines of these types, as Rust declares them, each after `//` and its title.
 ///
 /// Errors: an allocation failed.
 pub fn list_of(alloc: Global, table: &PortableRegistry, ids: &[u32]) -> Result<Vec<u8>, AllocError>
@@ -61,7 +46,10 @@ pub fn list_of(alloc: Global, table: &PortableRegistry, ids: &[u32]) -> Result<V
 {
     let mut out = String::new(alloc);
     for id in ids {
-        append_type(alloc, &mut out, table, *id)?;
+        out.push_str("// ")?;
+        append_title(&mut out, table, *id)?;
+        append_description(alloc, table, *id, &mut out)?;
+        out.push_str("\n")?;
     }
     Ok(out.into_bytes())
 }
