@@ -2,12 +2,11 @@
 ghost use Rattle.std.specs.Prelude.{◌≡◌, [], IfOk, IfErr};
 ghost use Rattle.scale_info_grammar.specs.Ty.{EncodesTypes};
 ghost use Rattle.type_reader_io.specs.declared.error.ReaderError.TheVariants as reader_error;
-ghost use Rattle.type_reader_run.specs.Listings.{AreListed};
 ghost use Rattle.type_reader_run.specs.Outputs.{IsFinding, IsGraph, IsListing, IsPruning, MakesOf};
 ghost use Rattle.type_reader_run.specs.Outputs.{OutputsOf, bytes_of};
 ghost use Rattle.type_reader_run.specs.Refusals.{HasSelectionError, IsGraphingError};
 ghost use Rattle.type_reader_run.specs.Refusals.{IsMakingError, IsOutputError, IsPruningError};
-ghost use Rattle.type_reader_run.specs.Selections.{AreSelected, IsSelectionError};
+ghost use Rattle.type_reader_run.specs.Selections.{AreSelected};
 ghost use Rattle.type_reader_run.specs.Tables.{IsOneTable, source_line};
 
 use crate::convert::converted;
@@ -84,23 +83,7 @@ fn with_source(
     })
 }
 
-/// The ids of the types that are listed for these texts: those that they give, and all, where there
-/// is no text.
-fn ids_to_list(
-    alloc: Global,
-    table: &PortableRegistry,
-    texts: &[Text],
-) -> Result<Vec<u32>, ReaderError>
-    ensures ok { IfOk result (λ ids. AreListed table.now.types texts.now ids.items) }
-    ensures err { IfErr result (IsSelectionError table.now.types texts.now) }
-{
-    if texts.is_empty() {
-        return Ok(all_ids(alloc, table)?);
-    }
-    selected(alloc, table, texts)
-}
-
-/// The types that the texts give, as Rust declares them.
+/// The types that the texts give, as Rust declares them; all, where there is no text.
 ///
 /// Errors: as [`selected`].
 fn listed(alloc: Global, table: &[u8], texts: &[Text]) -> Result<Vec<u8>, ReaderError>
@@ -109,7 +92,11 @@ fn listed(alloc: Global, table: &[u8], texts: &[Text]) -> Result<Vec<u8>, Reader
     ensures err { IfErr result (HasSelectionError table.now texts.now) }
 {
     let registry = registry_of(alloc, table)?;
-    let ids = ids_to_list(alloc, &registry, texts)?;
+    if texts.is_empty() {
+        let ids = all_ids(alloc, &registry)?;
+        return Ok(list_of(alloc, &registry, &ids)?);
+    }
+    let ids = selected(alloc, &registry, texts)?;
     Ok(list_of(alloc, &registry, &ids)?)
 }
 
