@@ -1,5 +1,5 @@
 //! What is written of a table.
-ghost use Rattle.std.specs.Prelude.{◌≡◌, [], IfOk, IfErr};
+ghost use Rattle.std.specs.Prelude.{◌≡◌, IfOk, IfErr};
 ghost use Rattle.scale_info_grammar.specs.Ty.{EncodesTypes};
 ghost use Rattle.type_reader_io.specs.declared.error.ReaderError.TheVariants as reader_error;
 ghost use Rattle.type_reader_run.specs.Outputs.{IsFinding, IsGraph, IsListing, IsPruning, MakesOf};
@@ -53,17 +53,6 @@ pub struct Output<'a> {
     pub bytes: OutputBytes<'a>,
     /// Lines about it, each with a line feed.
     pub notes: Vec<u8>,
-}
-
-/// An output of these bytes, which were made, and of which there is nothing to note.
-fn without_notes(alloc: Global, bytes: Vec<u8>) -> Output<'static>
-    ensures bytes { bytes_of result.bytes ≡ bytes.items }
-    ensures notes { result.notes.items ≡ [] }
-{
-    Output {
-        bytes: OutputBytes::Made(bytes),
-        notes: Vec::new(alloc),
-    }
 }
 
 /// An output of these bytes, of which it is noted what the input is.
@@ -186,7 +175,10 @@ fn output_for<'a>(
             converted(alloc, *conversion, table, text, value)?
         }
     };
-    Ok(without_notes(alloc, bytes))
+    Ok(Output {
+        bytes: OutputBytes::Made(bytes),
+        notes: Vec::new(alloc),
+    })
 }
 
 /// The whole output of a request for an input.
