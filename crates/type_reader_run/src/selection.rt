@@ -8,18 +8,9 @@ ghost use Rattle.type_reader_run.specs.Selections.{IsSelectionError};
 use scale_info_collections::text::Text;
 use scale_info_describe::search::find_by_path;
 use scale_info_tables::portable::PortableRegistry;
-use std::alloc::{AllocError, Global};
+use std::alloc::Global;
 use type_reader_io::error::ReaderError;
 use type_table_io::id::id_of;
-
-/// The list of one id.
-fn only(alloc: Global, id: u32) -> Result<Vec<u32>, AllocError>
-    ensures { IfOk result (λ ids. ids.items ≡ id ∷ []) }
-{
-    let mut ids = Vec::new(alloc);
-    ids.push(id)?;
-    Ok(ids)
-}
 
 /// The error that no type has this path; that of an allocation, where one failed.
 pub fn no_such_path(alloc: Global, path: &Text) -> ReaderError
@@ -46,7 +37,7 @@ pub fn named(alloc: Global, table: &PortableRegistry, text: &Text) -> Result<Vec
         if id as usize >= table.len() {
             return Err(ReaderError::NoSuchType(id));
         }
-        return Ok(only(alloc, id)?);
+        return Ok(vec![in alloc; id]?);
     }
     let ids = find_by_path(alloc, table, text.as_str())?;
     if ids.is_empty() {
