@@ -13,7 +13,6 @@ ghost use Rattle.type_reader_run.specs.Differences.{AppendsChange, AreChangesBy,
 ghost use Rattle.type_reader_run.specs.Differences.{AreLinesOf, IsDiffError, IsInEither};
 ghost use Rattle.type_reader_run.specs.Differences.{IsPathError, IsReferenceError, IsSideOf};
 ghost use Rattle.type_reader_run.specs.Differences.{KeepsSide, change_line, is_of, path_of};
-ghost use Rattle.type_reader_run.specs.Differences.{reason_text};
 ghost use Rattle.type_reader_run.specs.Tables.{IsOneTable};
 
 use crate::pruning::error_of;
@@ -59,26 +58,17 @@ fn append_path(out: &mut String, sign: &str, path: &Text) -> Result<(), AllocErr
     out.push_str("\n")
 }
 
-/// Appends a colon, a blank and the reason; nothing, where there is none.
-fn append_reason(out: &mut String, reason: &Option<String>) -> Result<(), AllocError>
-    ensures { Appends result out.old out.new
-        (reason_text (option_map string_bytes reason.now)) }
-{
-    let Some(reason) = reason else {
-        return Ok(());
-    };
-    out.push_str(": ")?;
-    out.push_str(reason.as_str())
-}
-
-/// Appends the line of a path that has changed, with the reason, if there is one.
+/// Appends the line of a path that has changed, with a colon and the reason, if there is one.
 fn append_reasoned(out: &mut String, path: &Text, reason: &Option<String>) -> Result<(), AllocError>
     ensures { Appends result out.old out.new
         (change_line (changed.Changed path.now) (option_map string_bytes reason.now)) }
 {
     out.push_str("~ ")?;
     out.push_str(path.as_str())?;
-    append_reason(out, reason)?;
+    if let Some(reason) = reason {
+        out.push_str(": ")?;
+        out.push_str(reason.as_str())?;
+    }
     out.push_str("\n")
 }
 
