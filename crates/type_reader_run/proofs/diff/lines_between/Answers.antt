@@ -7,18 +7,10 @@ use Rattle.type_reader_run.specs.Differences.{AreReasoned, is_of}
 use Rattle.type_reader_run.proofs.diff.lines_between.Goals as goal
 
 pub returns-in_err-check_paths-clause-err : goal.returns-in_err-check_paths-clause-err
-returns-in_err-check_paths-clause-err c =
-    let known =
-    path_error c.args.comparison.now.paths.now c.in_err-check_paths.field-0.0 c.in_ok-table.ensures.ok c.in_ok-other.ensures.ok
-    c.in_err-check_paths.ensures.err in
-    search rules
+returns-in_err-check_paths-clause-err c = search (rules, path_error)
 
 pub returns-in_err-changes-clause-err : goal.returns-in_err-changes-clause-err
-returns-in_err-changes-clause-err c =
-    let known =
-    changes_error c.args.comparison.now.paths.now c.in_err-changes.field-0.0 c.in_ok-table.ensures.ok c.in_ok-other.ensures.ok
-    c.in_err-changes.ensures.err in
-    search rules
+returns-in_err-changes-clause-err c = search (rules, changes_error)
 
 pub returns-clause-ok : goal.returns-clause-ok
 returns-clause-ok c =
