@@ -19,6 +19,8 @@ use type_reader_io::error::{LineError, ReaderError};
 /// What converts values of one type.
 #[derive(Drop)]
 pub struct Converter {
+    /// Where it allocates.
+    pub alloc: Global,
     /// Which way values are converted.
     pub conversion: Conversion,
     /// The table.
@@ -46,6 +48,7 @@ impl Converter {
         let registry = registry_of(alloc, table)?;
         let id = one_named(alloc, &registry, text)?;
         Ok(Converter {
+            alloc,
             conversion,
             registry,
             id,
@@ -58,7 +61,6 @@ impl Converter {
     /// as it was.
     pub fn append_line(
         &self,
-        alloc: Global,
         value: &[u8],
         digits: &mut Digits,
         output: &mut Vec<u8>,
@@ -72,10 +74,10 @@ impl Converter {
     {
         match self.conversion {
             Conversion::Decode => {
-                append_value_line(alloc, &self.registry, self.id, value, digits, output)
+                append_value_line(self.alloc, &self.registry, self.id, value, digits, output)
             }
             Conversion::Encode => {
-                append_encoded_line(alloc, &self.registry, self.id, value, output)
+                append_encoded_line(self.alloc, &self.registry, self.id, value, output)
             }
         }
     }
@@ -109,7 +111,7 @@ pub fn converted(
     let converter = Converter::new(alloc, conversion, table, text)?;
     let mut digits = Digits::new(alloc);
     let mut line = Vec::new(alloc);
-    match converter.append_line(alloc, value.as_str().as_bytes(), &mut digits, &mut line) {
+    match converter.append_line(value.as_str().as_bytes(), &mut digits, &mut line) {
         Ok(()) => Ok(line),
         Err(error) => Err(error_of(error)),
     }

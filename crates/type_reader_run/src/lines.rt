@@ -84,7 +84,6 @@ fn write_beyond<W: Write>(
 /// Errors: `Memory`, if an allocation failed; `Output`, if a write or a flush fails; `Input`, if
 /// the line has no number.
 fn convert_line<W: Write, T: Reporter<Message>>(
-    alloc: Global,
     converter: &Converter,
     line: &[u8],
     progress: &mut Progress,
@@ -103,7 +102,7 @@ fn convert_line<W: Write, T: Reporter<Message>>(
         return Err(ReaderError::Input);
     };
     write_beyond(output, &mut progress.pending, MOST_PENDING)?;
-    match converter.append_line(alloc, line, &mut progress.digits, &mut progress.pending) {
+    match converter.append_line(line, &mut progress.digits, &mut progress.pending) {
         Ok(()) => {}
         Err(LineError::Fault(fault)) => {
             write_beyond(output, &mut progress.pending, 0)?;
@@ -120,7 +119,6 @@ fn convert_line<W: Write, T: Reporter<Message>>(
 ///
 /// Errors: as [`convert_line`].
 fn end_line<W: Write, T: Reporter<Message>>(
-    alloc: Global,
     converter: &Converter,
     end: &[u8],
     progress: &mut Progress,
@@ -138,25 +136,11 @@ fn end_line<W: Write, T: Reporter<Message>>(
         (ReportsEach T.reported reporter.old reporter.new)) }
 {
     if progress.start.as_slice().is_empty() {
-        return convert_line(
-            alloc,
-            converter,
-            without_return(end),
-            progress,
-            output,
-            reporter,
-        );
+        return convert_line(converter, without_return(end), progress, output, reporter);
     }
     progress.start.extend_from_slice(end)?;
-    let line = mem::replace(&mut progress.start, Vec::new(alloc));
-    convert_line(
-        alloc,
-        converter,
-        without_return(&line),
-        progress,
-        output,
-        reporter,
-    )
+    let line = mem::replace(&mut progress.start, Vec::new(converter.alloc));
+    convert_line(converter, without_return(&line), progress, output, reporter)
 }
 
 /// Converts the lines that end in a piece of the input. What stands after them is kept as the start
@@ -164,7 +148,6 @@ fn end_line<W: Write, T: Reporter<Message>>(
 ///
 /// Errors: as [`convert_line`].
 fn convert_piece<W: Write, T: Reporter<Message>>(
-    alloc: Global,
     converter: &Converter,
     piece: &[u8],
     progress: &mut Progress,
@@ -182,7 +165,7 @@ fn convert_piece<W: Write, T: Reporter<Message>>(
 {
     let mut left = piece;
     'lines: while let Some((end, rest)) = split_at_feed(left) {
-        end_line(alloc, converter, end, progress, output, reporter)?;
+        end_line(converter, end, progress, output, reporter)?;
         left = rest;
     }
     progress.start.extend_from_slice(left)?;
@@ -204,7 +187,6 @@ fn read_error(error: &io::Error) -> ReaderError
 ///
 /// Errors: as [`convert_line`]; `Input`, if a read fails.
 fn convert_buffered<S: BufRead, W: Write, T: Reporter<Message>>(
-    alloc: Global,
     converter: &Converter,
     second: &mut S,
     progress: &mut Progress,
@@ -233,7 +215,7 @@ fn convert_buffered<S: BufRead, W: Write, T: Reporter<Message>>(
         }
     };
     let length = piece.len();
-    convert_piece(alloc, converter, piece, progress, output, reporter)?;
+    convert_piece(converter, piece, progress, output, reporter)?;
     second.consume(length);
     Ok(length > 0)
 }
@@ -242,7 +224,6 @@ fn convert_buffered<S: BufRead, W: Write, T: Reporter<Message>>(
 ///
 /// Errors: as [`convert_line`].
 fn end_input<W: Write, T: Reporter<Message>>(
-    alloc: Global,
     converter: &Converter,
     progress: &mut Progress,
     output: &mut W,
@@ -259,8 +240,8 @@ fn end_input<W: Write, T: Reporter<Message>>(
     if progress.start.as_slice().is_empty() {
         return Ok(());
     }
-    let line = mem::replace(&mut progress.start, Vec::new(alloc));
-    convert_line(alloc, converter, &line, progress, output, reporter)
+    let line = mem::replace(&mut progress.start, Vec::new(converter.alloc));
+    convert_line(converter, &line, progress, output, reporter)
 }
 
 /// Converts each line of the second input, up to its end or an error. What is pending is written
@@ -268,7 +249,6 @@ fn end_input<W: Write, T: Reporter<Message>>(
 ///
 /// Errors: as [`convert_buffered`]; `Input`, if the input does not end.
 fn convert_input<S: BufRead, W: Write, T: Reporter<Message>>(
-    alloc: Global,
     converter: &Converter,
     second: &mut S,
     progress: &mut Progress,
@@ -285,8 +265,8 @@ fn convert_input<S: BufRead, W: Write, T: Reporter<Message>>(
         (ReportsEach T.reported reporter.old reporter.new)) }
 {
     for _ in 0..u64::MAX {
-        if !convert_buffered(alloc, converter, second, progress, output, reporter)? {
-            return end_input(alloc, converter, progress, output, reporter);
+        if !convert_buffered(converter, second, progress, output, reporter)? {
+            return end_input(converter, progress, output, reporter);
         }
         write_beyond(output, &mut progress.pending, 0)?;
     }
@@ -299,7 +279,6 @@ fn convert_input<S: BufRead, W: Write, T: Reporter<Message>>(
 /// Errors: `Memory`, if an allocation failed; `Input`, if a read fails; `Output`, if a write or a
 /// flush fails. The lines before that were converted.
 pub fn convert_lines<S: BufRead, W: Write, T: Reporter<Message>>(
-    alloc: Global,
     converter: &Converter,
     second: &mut S,
     output: &mut W,
@@ -313,8 +292,8 @@ pub fn convert_lines<S: BufRead, W: Write, T: Reporter<Message>>(
         (W.contents output.old) (W.contents output.new)
         (ReportsEach T.reported reporter.old reporter.new)) }
 {
-    let mut progress = Progress::new(alloc);
-    match convert_input(alloc, converter, second, &mut progress, output, reporter) {
+    let mut progress = Progress::new(converter.alloc);
+    match convert_input(converter, second, &mut progress, output, reporter) {
         Ok(()) => {
             write_beyond(output, &mut progress.pending, 0)?;
             Ok(progress.is_good)

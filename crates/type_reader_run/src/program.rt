@@ -152,7 +152,7 @@ fn run_lines<R: Read, S: BufRead, W: Write, T: Reporter<Message>>(
             return 1;
         }
     };
-    match convert_lines(alloc, &converter, second, output, reporter) {
+    match convert_lines(&converter, second, output, reporter) {
         Ok(true) => 0,
         Ok(false) => 1,
         Err(error) => {
