@@ -1,17 +1,25 @@
 -- What a run did, with what is known of its converter, and by what else says of texts that they
 -- were reported.
-use Rattle.std.proofs.Common.{◌≡◌, ◌++◌, ℕ, List, [], ◌∷◌, Bool, Option, None, Some, IfSome, subst}
+use Rattle.std.proofs.Common.{◌≡◌, ◌⊎◌, ◌++◌, ℕ, List, [], ◌∷◌, Bool, true, false, Option, None, Some}
+use Rattle.std.proofs.Common.{Bor, Result, Ok, Err, IfOk, IfSome, IsFalse, IsTrue, refl, subst}
+use Rattle.std.proofs.KnownBytes.{Keeps-refl}
 use Rattle.type_reader_io.specs.Commands.{HasCommand}
 use Rattle.type_reader_io.specs.Lines.{line_of}
-use Rattle.type_reader_io.specs.Reports.{texts_of}
+use Rattle.type_reader_io.specs.Reports.{ReportsEach, texts_of}
 use Rattle.type_reader_io.specs.declared.command.Command.{Command}
 use Rattle.type_reader_io.specs.declared.command.Command.TheVariants as commands
+use Rattle.type_reader_io.specs.declared.command.Comparison.{Comparison}
 use Rattle.type_reader_io.specs.declared.command.Conversion.{Conversion}
+use Rattle.type_reader_io.specs.declared.command.Request.{Request}
 use Rattle.type_reader_io.specs.declared.error.ReaderError.{ReaderError}
-use Rattle.type_reader_run.specs.Conversions.{AreOutcomes, HasOutcomes, HasType, Outcome}
-use Rattle.type_reader_run.specs.Conversions.{reports_from}
-use Rattle.type_reader_run.specs.Runs.{ConvertsAll, Does, Refuses, StopsAfter, bad_lines}
-use Rattle.type_reader_run.specs.Runs.{has_changes, no_type, not_compared, stopped}
+use Rattle.type_reader_io.specs.declared.error.ReaderError.TheVariants as errors
+use Rattle.type_reader_run.proofs.Reports.{each_and}
+use Rattle.type_reader_run.specs.Conversions.{AreOutcomes, HasOutcomes, HasType, IsTypeError}
+use Rattle.type_reader_run.specs.Conversions.{Outcome, reports_from}
+use Rattle.type_reader_run.specs.Differences.{ExplainsDiff, WritesChanges, WritesSomeChange}
+use Rattle.type_reader_run.specs.Refusals.{Explains}
+use Rattle.type_reader_run.specs.Runs.{ConvertsAll, Does, Ends, IsRefusedFor, Refuses, StopsAfter}
+use Rattle.type_reader_run.specs.Runs.{bad_lines, has_changes, no_type, not_compared, stopped}
 use Rattle.type_reader_run.specs.Steps.{HasConvertedLines, HasStopped}
 use Rattle.type_reader_run.specs.Tables.{input_bytes}
 use Rattle.type_reader_run.specs.declared.convert.Converter.{Converter}
@@ -70,6 +78,79 @@ module _ {conversion : Conversion} {text : List ℕ} {input second old new : Opt
         have_outcomes conversion text input converter h.values h.outcomes way type h.are_outcomes;
     explains = h.explains;
   }
+
+-- all lines were converted, and that is the end of the command
+pub lines_end :
+    {conversion : Conversion} {text : Bor (List ℕ)}
+    {input second second_new old new : Option (List ℕ)} {converter : Converter}
+    {IsReported : List (List ℕ) → Type 0} (is_good : Bool)
+    → converter.conversion ≡ conversion
+    → IfSome input (λ bytes.
+    HasType (input_bytes bytes) text.now converter.registry converter.id)
+    → HasConvertedLines converter second second_new old new IsReported is_good
+    → Ends is_good (commands.Lines conversion text) input second old new IsReported
+lines_end true way type h = converts_all way type h
+lines_end false way type h = bad_lines (converts_all way type h)
+
+-- tables were compared, and that is the end of the command
+pub diff_ends :
+    {comparison : Comparison} {input second old new : Option (List ℕ)}
+    {IsReported : List (List ℕ) → Type 0} (result : Result Bool ReaderError)
+    → IfOk result (λ same. IsTrue same → WritesChanges comparison input second old new [])
+    → IfOk result (λ same. IsFalse same → WritesSomeChange comparison input second old new)
+    → IsReported []
+    → IfOk result (λ same.
+    Ends same (commands.Diff comparison) input second old new IsReported)
+diff_ends (Ok true) none some silent = (none refl, silent)
+diff_ends (Ok false) none some silent = has_changes (some refl) silent
+diff_ends (Err error) none some silent = tt
+
+module _ {T : Type 0} {reported : T → T → List ℕ → Type 0} {before : T}
+    {input second old new : Option (List ℕ)} {error : ReaderError} where
+  -- the error of a request, of which nothing was reported
+  pub once_refused :
+      {request : Request}
+      → Explains request input old new error
+      → IsRefusedFor reported (commands.Once request) input second old new before before error
+  once_refused explains = λ last small told.
+      record {
+        error = error;
+        small = small;
+        explains = explains;
+        reports = (last, told, refl);
+      }
+
+  -- the error of a comparison
+  pub diff_refused :
+      {comparison : Comparison}
+      → ExplainsDiff comparison input second old new error
+      → IsRefusedFor reported (commands.Diff comparison) input second old new before before error
+  diff_refused explains = λ last small told.
+      not_compared error small explains (last, told, refl)
+
+  -- there is no type to convert lines by
+  pub lines_refused :
+      {conversion : Conversion} {text : Bor (List ℕ)}
+      → (error ≡ errors.Input)
+      ⊎ IfSome input (λ bytes. IsTypeError (input_bytes bytes) text.now error)
+      → IsRefusedFor reported (commands.Lines conversion text) input second old old before before
+      error
+  lines_refused cause = λ last small told.
+      no_type small (record { cause = cause; keeps = Keeps-refl old }) (last, told, refl)
+
+  -- an error after some lines
+  pub lines_stopped :
+      {conversion : Conversion} {text : Bor (List ℕ)} {converter : Converter} {after : T}
+      → converter.conversion ≡ conversion
+      → IfSome input (λ bytes.
+      HasType (input_bytes bytes) text.now converter.registry converter.id)
+      → HasStopped converter second old new (ReportsEach reported before after) error
+      → IsRefusedFor reported (commands.Lines conversion text) input second old new before after
+      error
+  lines_stopped {after = after} way type h = λ last small told.
+      stopped {outcomes = h.outcomes} {error = error} (stops_after way type h)
+      (each_and reported before after last (reports_from 1 h.outcomes) (line_of error) h.reports
+      told)
 
 -- of all lines, by another word for what was reported
 converts_by :

@@ -19,7 +19,7 @@ use Rattle.type_reader_run.specs.Conversions.{output_of, reports_from}
 use Rattle.type_reader_run.specs.Differences.{ExplainsDiff, WritesChanges, WritesSomeChange}
 use Rattle.type_reader_run.specs.Outputs.{WritesWhole}
 use Rattle.type_reader_run.specs.Refusals.{Explains}
-use Rattle.type_reader_io.specs.Reports.{texts_of}
+use Rattle.type_reader_io.specs.Reports.{ReportsEach, texts_of}
 use Rattle.type_reader_run.specs.Tables.{input_bytes}
 use Rattle.type_table_io.specs.Reports.{AppendsPrefix}
 
@@ -131,6 +131,21 @@ Refuses (commands.Lines conversion text) input second old new IsReported =
     RefusesLines conversion text.now input second old new IsReported
 Refuses (commands.Diff comparison) input second old new IsReported =
     RefusesDiff comparison input second old new IsReported
+
+-- a command came to its end: all of it was done, and nothing changed; or not all, or something did
+abbrev pub Ends : Bool → Command → (input second old new : Option (List ℕ))
+    → (IsReported : List (List ℕ) → Type 0) → Type 0
+Ends true command input second old new IsReported = Does command input second old new IsReported
+Ends false command input second old new IsReported =
+    Refuses command input second old new IsReported
+
+-- The command is refused for this error, once it is reported too; `before` and `after` are the
+-- reporter before the command and after it.
+abbrev pub IsRefusedFor : {T : Type 0} → (T → T → List ℕ → Type 0) → Command
+    → (input second old new : Option (List ℕ)) → (before after : T) → ReaderError → Type 0
+IsRefusedFor {T} reported command input second old new before after error =
+    (last : T) → HasSmallNumber error → reported after last (line_of error)
+    → Refuses command input second old new (ReportsEach reported before last)
 
 -- the second input is as it was, where the command does not read it
 abbrev pub KeepsSecond : {S : Type 0} → Command → (old new : S) → Type 0

@@ -1,10 +1,8 @@
 //! Two inputs, read whole, and what changed between their tables, written whole.
-ghost use Rattle.std.specs.Prelude.{◌≡◌, ◌≤◌, [], IfErr, IfOk, IsFalse, IsTrue, OnOk};
+ghost use Rattle.std.specs.Prelude.{[], IfErr, IfOk, IsFalse, IsTrue, OnOk};
 ghost use Rattle.std.specs.Io.KnownBytes.{IsAtEnd};
-ghost use Rattle.type_reader_io.specs.Reports.{ReportsEach};
 ghost use Rattle.type_reader_run.specs.Differences.{ExplainsDiff, WritesChanges};
 ghost use Rattle.type_reader_run.specs.Differences.{WritesSomeChange};
-ghost use Rattle.type_reader_run.specs.Runs.{RefusesDiff};
 
 use crate::diff::lines_between;
 use crate::reading::read_whole;
@@ -13,13 +11,12 @@ use std::alloc::Global;
 use std::io::{Read, Write};
 use type_reader_io::command::Comparison;
 use type_reader_io::error::ReaderError;
-use type_reader_io::message::Message;
-use type_reader_io::reporter::Reporter;
 
-/// Reads both inputs whole, and writes the lines of what changed between them. Whether nothing did.
+/// Reads both inputs whole, and writes the lines of what changed between their tables. Whether
+/// nothing did.
 ///
 /// The output is made whole before anything of it is written.
-fn compare<R: Read, S: Read, W: Write>(
+pub fn compare<R: Read, S: Read, W: Write>(
     alloc: Global,
     comparison: &Comparison<'_>,
     reader: &mut R,
@@ -46,35 +43,4 @@ fn compare<R: Read, S: Read, W: Write>(
     }
     write_output(output, &lines)?;
     Ok(false)
-}
-
-/// Writes what changed between the tables of the two inputs, and returns the status.
-pub fn run_diff<R: Read, S: Read, W: Write, T: Reporter<Message>>(
-    alloc: Global,
-    comparison: &Comparison<'_>,
-    reader: &mut R,
-    second: &mut S,
-    output: &mut W,
-    reporter: &mut T,
-) -> u8
-    ensures status { result ≤ 1 }
-    ensures read { result ≡ 0 → IsAtEnd (R.remaining reader.new) }
-    ensures end { result ≡ 0 → IsAtEnd (S.remaining second.new) }
-    ensures done { result ≡ 0 → WritesChanges comparison.now
-        (R.remaining reader.old) (S.remaining second.old)
-        (W.contents output.old) (W.contents output.new) [] }
-    ensures silent { result ≡ 0 → reporter.new ≡ reporter.old }
-    ensures refused { result ≡ 1 → RefusesDiff comparison.now
-        (R.remaining reader.old) (S.remaining second.old)
-        (W.contents output.old) (W.contents output.new)
-        (ReportsEach T.reported reporter.old reporter.new) }
-{
-    match compare(alloc, comparison, reader, second, output) {
-        Ok(true) => 0,
-        Ok(false) => 1,
-        Err(error) => {
-            reporter.report(Message::Refused(error));
-            1
-        }
-    }
 }

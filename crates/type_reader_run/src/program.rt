@@ -1,6 +1,5 @@
 //! The program over any readers and any writers.
-ghost use Rattle.std.specs.Prelude.{◌≡◌, ◌≢◌, ◌≤◌, ◌⊎◌, IfSome, IfOk, IfErr, OnOk, Some, []};
-ghost use Rattle.std.specs.Prelude.{true};
+ghost use Rattle.std.specs.Prelude.{◌≡◌, ◌≢◌, ◌≤◌, ◌⊎◌, IfSome, IfOk, IfErr, OnOk};
 ghost use Rattle.std.specs.Io.KnownBytes.{IsAtEnd, Keeps};
 ghost use Rattle.type_reader_io.specs.Commands.{HasCommand, IsCommand};
 ghost use Rattle.type_reader_io.specs.Lines.{HasSmallNumber, line_of, usage_line};
@@ -10,13 +9,12 @@ ghost use Rattle.type_reader_run.specs.Conversions.{HasType, IsTypeError};
 ghost use Rattle.type_reader_run.specs.Outputs.{WritesWhole};
 ghost use Rattle.type_reader_run.specs.Refusals.{Explains};
 ghost use Rattle.type_reader_io.specs.Reports.{ReportsEach};
-ghost use Rattle.type_reader_run.specs.Runs.{ConvertsAll, Does, DoesOnce, EndsSecond};
-ghost use Rattle.type_reader_run.specs.Runs.{IsSo, KeepsSecond, Refuses, RefusesLines};
-ghost use Rattle.type_reader_run.specs.Runs.{RefusesOnce};
+ghost use Rattle.type_reader_run.specs.Runs.{Does, Ends, EndsSecond, IsRefusedFor, IsSo};
+ghost use Rattle.type_reader_run.specs.Runs.{KeepsSecond, Refuses};
 ghost use Rattle.type_reader_run.specs.Tables.{input_bytes};
 ghost use Rattle.type_table_io.specs.Reports.{AppendsPrefix, Reported};
 
-use crate::compare::run_diff;
+use crate::compare::compare;
 use crate::convert::Converter;
 use crate::lines::convert_lines;
 use crate::output::output_of;
@@ -51,37 +49,6 @@ fn perform<R: Read, W: Write>(
     let made = output_of(alloc, request, &input)?;
     write_output(output, made.bytes.as_slice())?;
     Ok(made.notes)
-}
-
-/// Does what a request asks, and returns the status.
-fn run_once<R: Read, W: Write, T: Reporter<Message>>(
-    alloc: Global,
-    request: &Request,
-    reader: &mut R,
-    output: &mut W,
-    reporter: &mut T,
-) -> u8
-    ensures status { result ≤ 1 }
-    ensures read { result ≡ 0 → IsAtEnd (R.remaining reader.new) }
-    ensures done { result ≡ 0 → DoesOnce request.now (R.remaining reader.old)
-        (W.contents output.old) (W.contents output.new)
-        (ReportsEach T.reported reporter.old reporter.new) }
-    ensures refused { result ≡ 1 → RefusesOnce request.now (R.remaining reader.old)
-        (W.contents output.old) (W.contents output.new)
-        (ReportsEach T.reported reporter.old reporter.new) }
-{
-    match perform(alloc, request, reader, output) {
-        Ok(notes) => {
-            if !notes.is_empty() {
-                reporter.report(Message::Notes(notes));
-            }
-            0
-        }
-        Err(error) => {
-            reporter.report(Message::Refused(error));
-            1
-        }
-    }
 }
 
 /// What converts values of the type that the text gives of the table of an input.
@@ -123,42 +90,43 @@ fn read_converter<R: Read>(
     converter_in(alloc, conversion, text, &input)
 }
 
-/// Converts the lines of the second input, which are values of the type that the text gives of the
-/// table of the first, and returns the status.
-fn run_lines<R: Read, S: BufRead, W: Write, T: Reporter<Message>>(
+/// Does what a command asks. It is true where that was done, no line was bad, and nothing changed.
+///
+/// Errors: why the command is refused, which is not reported yet.
+fn run_command<R: Read, S: BufRead, W: Write, T: Reporter<Message>>(
     alloc: Global,
-    conversion: Conversion,
-    text: &Text,
+    command: &Command<'_>,
     reader: &mut R,
     second: &mut S,
     output: &mut W,
     reporter: &mut T,
-) -> u8
-    ensures status { result ≤ 1 }
-    ensures read { result ≡ 0 → IsAtEnd (R.remaining reader.new) }
-    ensures end { result ≡ 0
-        → IfSome (S.remaining second.old) (λ bytes. S.remaining second.new ≡ Some []) }
-    ensures done { result ≡ 0 → ConvertsAll conversion text.now (R.remaining reader.old)
-        (S.remaining second.old) (W.contents output.old) (W.contents output.new)
-        (ReportsEach T.reported reporter.old reporter.new) true }
-    ensures refused { result ≡ 1 → RefusesLines conversion text.now (R.remaining reader.old)
-        (S.remaining second.old) (W.contents output.old) (W.contents output.new)
-        (ReportsEach T.reported reporter.old reporter.new) }
+) -> Result<bool, ReaderError>
+    ensures ok { IfOk result (λ is_done. Ends is_done command.now
+        (R.remaining reader.old) (S.remaining second.old)
+        (W.contents output.old) (W.contents output.new)
+        (ReportsEach T.reported reporter.old reporter.new)) }
+    ensures err { IfErr result (IsRefusedFor T.reported command.now
+        (R.remaining reader.old) (S.remaining second.old)
+        (W.contents output.old) (W.contents output.new)
+        reporter.old reporter.new) }
+    ensures read { OnOk result (IsAtEnd (R.remaining reader.new)) }
+    ensures second_kept { KeepsSecond command.now second.old second.new }
+    ensures second_read { OnOk result
+        (EndsSecond command.now (S.remaining second.old) (S.remaining second.new)) }
 {
-    let converter = match read_converter(alloc, conversion, text, reader) {
-        Ok(converter) => converter,
-        Err(error) => {
-            reporter.report(Message::Refused(error));
-            return 1;
+    match command {
+        Command::Once(request) => {
+            let notes = perform(alloc, request, reader, output)?;
+            if !notes.is_empty() {
+                reporter.report(Message::Notes(notes));
+            }
+            Ok(true)
         }
-    };
-    match convert_lines(&converter, second, output, reporter) {
-        Ok(true) => 0,
-        Ok(false) => 1,
-        Err(error) => {
-            reporter.report(Message::Refused(error));
-            1
+        Command::Lines(conversion, text) => {
+            let converter = read_converter(alloc, *conversion, text, reader)?;
+            convert_lines(&converter, second, output, reporter)
         }
+        Command::Diff(comparison) => compare(alloc, comparison, reader, second, output),
     }
 }
 
@@ -213,13 +181,12 @@ pub fn run_with<R: Read, S: BufRead, W: Write, T: Reporter<Message>>(
             return 2;
         }
     };
-    match command {
-        Command::Once(request) => run_once(alloc, &request, reader, output, reporter),
-        Command::Lines(conversion, text) => {
-            run_lines(alloc, conversion, text, reader, second, output, reporter)
-        }
-        Command::Diff(comparison) => {
-            run_diff(alloc, &comparison, reader, second, output, reporter)
+    match run_command(alloc, &command, reader, second, output, reporter) {
+        Ok(true) => 0,
+        Ok(false) => 1,
+        Err(error) => {
+            reporter.report(Message::Refused(error));
+            1
         }
     }
 }
