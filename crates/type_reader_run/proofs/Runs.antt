@@ -4,7 +4,7 @@ use Rattle.std.proofs.Common.{◌≡◌, ◌⊎◌, ◌++◌, ℕ, List, [], ◌
 use Rattle.std.proofs.Common.{Bor, Result, Ok, Err, IfOk, IfSome, IsFalse, IsTrue, refl, subst}
 use Rattle.std.proofs.KnownBytes.{Keeps-refl}
 use Rattle.type_reader_io.specs.Commands.{HasCommand}
-use Rattle.type_reader_io.specs.Lines.{line_of}
+use Rattle.type_reader_io.specs.Lines.{HasSmallNumber, line_of}
 use Rattle.type_reader_io.specs.Reports.{ReportsEach, texts_of}
 use Rattle.type_reader_io.specs.declared.command.Command.{Command}
 use Rattle.type_reader_io.specs.declared.command.Command.TheVariants as commands
@@ -18,8 +18,9 @@ use Rattle.type_reader_run.specs.Conversions.{AreOutcomes, HasOutcomes, HasType,
 use Rattle.type_reader_run.specs.Conversions.{Outcome, reports_from}
 use Rattle.type_reader_run.specs.Differences.{ExplainsDiff, WritesChanges, WritesSomeChange}
 use Rattle.type_reader_run.specs.Refusals.{Explains}
-use Rattle.type_reader_run.specs.Runs.{ConvertsAll, Does, Ends, IsRefusedFor, Refuses, StopsAfter}
-use Rattle.type_reader_run.specs.Runs.{bad_lines, has_changes, no_type, not_compared, stopped}
+use Rattle.type_reader_run.specs.Runs.{ConvertsAll, Does, Ends, Refuses, RefusesDiff, RefusesLines}
+use Rattle.type_reader_run.specs.Runs.{RefusesOnce, StopsAfter, bad_lines, has_changes, no_type}
+use Rattle.type_reader_run.specs.Runs.{not_compared, stopped}
 use Rattle.type_reader_run.specs.Steps.{HasConvertedLines, HasStopped}
 use Rattle.type_reader_run.specs.Tables.{input_bytes}
 use Rattle.type_reader_run.specs.declared.convert.Converter.{Converter}
@@ -105,49 +106,51 @@ diff_ends (Ok true) none some silent = (none refl, silent)
 diff_ends (Ok false) none some silent = has_changes (some refl) silent
 diff_ends (Err error) none some silent = tt
 
-module _ {T : Type 0} {reported : T → T → List ℕ → Type 0} {before : T}
-    {input second old new : Option (List ℕ)} {error : ReaderError} where
+module _ {T : Type 0} (reported : T → T → List ℕ → Type 0) (before : T) where
   -- the error of a request, of which nothing was reported
   pub once_refused :
-      {request : Request}
+      {request : Request} {input old new : Option (List ℕ)} {error : ReaderError}
       → Explains request input old new error
-      → IsRefusedFor reported (commands.Once request) input second old new before before error
-  once_refused explains = λ last small told.
-      record {
-        error = error;
-        small = small;
-        explains = explains;
-        reports = (last, told, refl);
-      }
+      → (last : T) → HasSmallNumber error → reported before last (line_of error)
+      → RefusesOnce request input old new (ReportsEach reported before last)
+  once_refused {error = error} explains last small told = record {
+    error = error;
+    small = small;
+    explains = explains;
+    reports = (last, told, refl);
+  }
 
   -- the error of a comparison
   pub diff_refused :
-      {comparison : Comparison}
+      {comparison : Comparison} {input second old new : Option (List ℕ)} {error : ReaderError}
       → ExplainsDiff comparison input second old new error
-      → IsRefusedFor reported (commands.Diff comparison) input second old new before before error
-  diff_refused explains = λ last small told.
+      → (last : T) → HasSmallNumber error → reported before last (line_of error)
+      → RefusesDiff comparison input second old new (ReportsEach reported before last)
+  diff_refused {error = error} explains last small told =
       not_compared error small explains (last, told, refl)
 
   -- there is no type to convert lines by
   pub lines_refused :
-      {conversion : Conversion} {text : Bor (List ℕ)}
-      → (error ≡ errors.Input)
-      ⊎ IfSome input (λ bytes. IsTypeError (input_bytes bytes) text.now error)
-      → IsRefusedFor reported (commands.Lines conversion text) input second old old before before
-      error
-  lines_refused cause = λ last small told.
-      no_type small (record { cause = cause; keeps = Keeps-refl old }) (last, told, refl)
+      (conversion : Conversion) (text : List ℕ) (input second output : Option (List ℕ))
+      (error : ReaderError)
+      → (error ≡ errors.Input) ⊎ IfSome input (λ bytes. IsTypeError (input_bytes bytes) text error)
+      → (last : T) → HasSmallNumber error → reported before last (line_of error)
+      → RefusesLines conversion text input second output output (ReportsEach reported before last)
+  lines_refused conversion text input second output error cause last small told =
+      no_type {error = error} small (record { cause = cause; keeps = Keeps-refl output })
+      (last, told, refl)
 
   -- an error after some lines
   pub lines_stopped :
-      {conversion : Conversion} {text : Bor (List ℕ)} {converter : Converter} {after : T}
+      {conversion : Conversion} {text : List ℕ} {input second old new : Option (List ℕ)}
+      {converter : Converter} (after : T) {error : ReaderError}
       → converter.conversion ≡ conversion
       → IfSome input (λ bytes.
-      HasType (input_bytes bytes) text.now converter.registry converter.id)
+      HasType (input_bytes bytes) text converter.registry converter.id)
       → HasStopped converter second old new (ReportsEach reported before after) error
-      → IsRefusedFor reported (commands.Lines conversion text) input second old new before after
-      error
-  lines_stopped {after = after} way type h = λ last small told.
+      → (last : T) → HasSmallNumber error → reported after last (line_of error)
+      → RefusesLines conversion text input second old new (ReportsEach reported before last)
+  lines_stopped after {error = error} way type h last small told =
       stopped {outcomes = h.outcomes} {error = error} (stops_after way type h)
       (each_and reported before after last (reports_from 1 h.outcomes) (line_of error) h.reports
       told)
