@@ -9,7 +9,7 @@ returns-in-Some-clause-ok c =
     let known = c.in-Some.ensures.some in
     let within : c.in-Some.id < length c.args.table.now.types = omega arith in
     by_id known.0 (subst (λ i. i < length c.args.table.now.types) known.1 within)
-    (c.in_ok-from_array.ensures.items ∙ ap (λ i. i ∷ []) known.1)
+    (c.in_ok-vec.ensures.items ∙ ap (λ i. i ∷ []) known.1)
 
 pub returns-clause-ok : goal.returns-clause-ok
 returns-clause-ok c =
