@@ -1,26 +1,21 @@
 -- What a run did, with what is known of its converter, and by what else says of texts that they
 -- were reported.
-use Rattle.std.proofs.Common.{◌≡◌, ◌⊎◌, ◌++◌, ℕ, List, [], ◌∷◌, Bool, true, false, Option, None, Some}
-use Rattle.std.proofs.Common.{Bor, Result, Ok, Err, IfOk, IfSome, IsFalse, IsTrue, refl, subst}
+use Rattle.std.proofs.Common.{◌≡◌, ◌⊎◌, ◌++◌, ℕ, List, [], ◌∷◌, Bool, Option, None, Some}
+use Rattle.std.proofs.Common.{IfSome, refl, subst}
 use Rattle.std.proofs.KnownBytes.{Keeps-refl}
 use Rattle.type_reader_io.specs.Commands.{HasCommand}
 use Rattle.type_reader_io.specs.Lines.{HasSmallNumber, line_of}
 use Rattle.type_reader_io.specs.Reports.{ReportsEach, texts_of}
 use Rattle.type_reader_io.specs.declared.command.Command.{Command}
 use Rattle.type_reader_io.specs.declared.command.Command.TheVariants as commands
-use Rattle.type_reader_io.specs.declared.command.Comparison.{Comparison}
 use Rattle.type_reader_io.specs.declared.command.Conversion.{Conversion}
-use Rattle.type_reader_io.specs.declared.command.Request.{Request}
 use Rattle.type_reader_io.specs.declared.error.ReaderError.{ReaderError}
 use Rattle.type_reader_io.specs.declared.error.ReaderError.TheVariants as errors
 use Rattle.type_reader_run.proofs.Reports.{each_and}
 use Rattle.type_reader_run.specs.Conversions.{AreOutcomes, HasOutcomes, HasType, IsTypeError}
 use Rattle.type_reader_run.specs.Conversions.{Outcome, reports_from}
-use Rattle.type_reader_run.specs.Differences.{ExplainsDiff, WritesChanges, WritesSomeChange}
-use Rattle.type_reader_run.specs.Refusals.{Explains}
-use Rattle.type_reader_run.specs.Runs.{ConvertsAll, Does, Ends, Refuses, RefusesDiff, RefusesLines}
-use Rattle.type_reader_run.specs.Runs.{RefusesOnce, StopsAfter, bad_lines, has_changes, no_type}
-use Rattle.type_reader_run.specs.Runs.{not_compared, stopped}
+use Rattle.type_reader_run.specs.Runs.{ConvertsAll, Does, Refuses, RefusesLines, StopsAfter}
+use Rattle.type_reader_run.specs.Runs.{bad_lines, has_changes, no_type, not_compared, stopped}
 use Rattle.type_reader_run.specs.Steps.{HasConvertedLines, HasStopped}
 use Rattle.type_reader_run.specs.Tables.{input_bytes}
 use Rattle.type_reader_run.specs.declared.convert.Converter.{Converter}
@@ -80,55 +75,7 @@ module _ {conversion : Conversion} {text : List ℕ} {input second old new : Opt
     explains = h.explains;
   }
 
--- all lines were converted, and that is the end of the command
-pub lines_end :
-    {conversion : Conversion} {text : Bor (List ℕ)}
-    {input second second_new old new : Option (List ℕ)} {converter : Converter}
-    {IsReported : List (List ℕ) → Type 0} (is_good : Bool)
-    → converter.conversion ≡ conversion
-    → IfSome input (λ bytes.
-    HasType (input_bytes bytes) text.now converter.registry converter.id)
-    → HasConvertedLines converter second second_new old new IsReported is_good
-    → Ends is_good (commands.Lines conversion text) input second old new IsReported
-lines_end true way type h = converts_all way type h
-lines_end false way type h = bad_lines (converts_all way type h)
-
--- tables were compared, and that is the end of the command
-pub diff_ends :
-    {comparison : Comparison} {input second old new : Option (List ℕ)}
-    {IsReported : List (List ℕ) → Type 0} (result : Result Bool ReaderError)
-    → IfOk result (λ same. IsTrue same → WritesChanges comparison input second old new [])
-    → IfOk result (λ same. IsFalse same → WritesSomeChange comparison input second old new)
-    → IsReported []
-    → IfOk result (λ same.
-    Ends same (commands.Diff comparison) input second old new IsReported)
-diff_ends (Ok true) none some silent = (none refl, silent)
-diff_ends (Ok false) none some silent = has_changes (some refl) silent
-diff_ends (Err error) none some silent = tt
-
 module _ {T : Type 0} (reported : T → T → List ℕ → Type 0) (before : T) where
-  -- the error of a request, of which nothing was reported
-  pub once_refused :
-      {request : Request} {input old new : Option (List ℕ)} {error : ReaderError}
-      → Explains request input old new error
-      → (last : T) → HasSmallNumber error → reported before last (line_of error)
-      → RefusesOnce request input old new (ReportsEach reported before last)
-  once_refused {error = error} explains last small told = record {
-    error = error;
-    small = small;
-    explains = explains;
-    reports = (last, told, refl);
-  }
-
-  -- the error of a comparison
-  pub diff_refused :
-      {comparison : Comparison} {input second old new : Option (List ℕ)} {error : ReaderError}
-      → ExplainsDiff comparison input second old new error
-      → (last : T) → HasSmallNumber error → reported before last (line_of error)
-      → RefusesDiff comparison input second old new (ReportsEach reported before last)
-  diff_refused {error = error} explains last small told =
-      not_compared error small explains (last, told, refl)
-
   -- there is no type to convert lines by
   pub lines_refused :
       (conversion : Conversion) (text : List ℕ) (input second output : Option (List ℕ))
