@@ -3,35 +3,37 @@ ghost use Rattle.std.specs.Prelude.{IfOk, IfErr};
 ghost use Rattle.scale_info_primitives.specs.declared.primitive.TypeDefPrimitive.{TypeDefPrimitive};
 ghost use Rattle.scale_info_bytes.specs.Encodings.{HasPrefix, HasNoPrefix, IfMalformed};
 ghost use Rattle.scale_info_grammar.specs.Ty.{EncodesArray, EncodesBitSequence};
-ghost use Rattle.scale_info_grammar.specs.Ty.{EncodesCompactType, EncodesDescription, EncodesMap};
-ghost use Rattle.scale_info_grammar.specs.Ty.{EncodesParameter, EncodesPortableType};
-ghost use Rattle.scale_info_grammar.specs.Ty.{EncodesPrimitive, EncodesSequence, EncodesTuple};
-ghost use Rattle.scale_info_grammar.specs.Ty.{EncodesTypeDef, EncodesTypeDefWithIndex};
-ghost use Rattle.scale_info_grammar.specs.Ty.{IsPrimitiveByte};
+ghost use Rattle.scale_info_grammar.specs.Ty.{EncodesCompactType, EncodesComposite};
+ghost use Rattle.scale_info_grammar.specs.Ty.{EncodesDescription, EncodesField, EncodesMap};
+ghost use Rattle.scale_info_grammar.specs.Ty.{EncodesParameter, EncodesPath};
+ghost use Rattle.scale_info_grammar.specs.Ty.{EncodesPortableType, EncodesPrimitive};
+ghost use Rattle.scale_info_grammar.specs.Ty.{EncodesSequence, EncodesTuple, EncodesTypeDef};
+ghost use Rattle.scale_info_grammar.specs.Ty.{EncodesTypeDefWithIndex, EncodesVariant};
+ghost use Rattle.scale_info_grammar.specs.Ty.{EncodesVariants, IsPrimitiveByte};
 ghost use Rattle.scale_info_grammar.specs.TyLaws.{array_law, bit_sequence_law, compact_type_law};
-ghost use Rattle.scale_info_grammar.specs.TyLaws.{description_law, map_law, parameter_law};
+ghost use Rattle.scale_info_grammar.specs.TyLaws.{composite_law, description_law, field_law};
+ghost use Rattle.scale_info_grammar.specs.TyLaws.{map_law, parameter_law, path_law};
 ghost use Rattle.scale_info_grammar.specs.TyLaws.{portable_type_law, primitive_law, sequence_law};
-ghost use Rattle.scale_info_grammar.specs.TyLaws.{tuple_law, type_def_law};
+ghost use Rattle.scale_info_grammar.specs.TyLaws.{tuple_law, type_def_law, variant_law};
+ghost use Rattle.scale_info_grammar.specs.TyLaws.{variants_law};
 
 use crate::scale::Scale;
 use crate::tuple::{encode_four, encode_two, encode_with_index};
 use scale_info_bytes::error::{DecodeError, EncodeError};
 use scale_info_collections::items::Items;
-use scale_info_grammar::{decode_primitive, description_of};
+use scale_info_collections::text::Text;
+use scale_info_grammar::{decode_primitive, description_of, field_of, variant_of};
 use scale_info_type_ids::impls::Compact;
 use scale_info_types::form::PortableForm;
 use scale_info_types::ty::composite::TypeDefComposite;
-use scale_info_types::ty::variant::TypeDefVariant;
+use scale_info_types::ty::fields::Field;
+use scale_info_types::ty::path::Path;
+use scale_info_types::ty::variant::{TypeDefVariant, Variant};
 use scale_info_types::ty::{
     Description, PortableType, TypeDef, TypeDefArray, TypeDefBitSequence, TypeDefCompact,
     TypeDefMap, TypeDefPrimitive, TypeDefSequence, TypeDefTuple, TypeParameter,
 };
 use std::alloc::Global;
-
-mod composite;
-mod fields;
-mod path;
-mod variant;
 
 impl Scale for Description<PortableForm> {
     ghost encodes = { EncodesDescription };
@@ -57,6 +59,24 @@ impl Scale for Description<PortableForm> {
     ghost law = { description_law };
 }
 
+impl Scale for Path<PortableForm> {
+    ghost encodes = { EncodesPath };
+
+    fn encode_to(&self, out: &mut Vec<u8>) -> Result<(), EncodeError> {
+        self.segments.encode_to(out)
+    }
+
+    fn decode_from(
+        alloc: Global,
+        input: &[u8],
+    ) -> Result<(Path<PortableForm>, &[u8]), DecodeError> {
+        let (segments, rest) = Items::<Text>::decode_from(alloc, input)?;
+        Ok((Path::from(segments), rest))
+    }
+
+    ghost law = { path_law };
+}
+
 impl Scale for TypeParameter<PortableForm> {
     ghost encodes = { EncodesParameter };
 
@@ -73,6 +93,80 @@ impl Scale for TypeParameter<PortableForm> {
     }
 
     ghost law = { parameter_law };
+}
+
+impl Scale for TypeDefComposite<PortableForm> {
+    ghost encodes = { EncodesComposite };
+
+    fn encode_to(&self, out: &mut Vec<u8>) -> Result<(), EncodeError> {
+        let TypeDefComposite { fields } = self;
+        fields.encode_to(out)
+    }
+
+    fn decode_from(
+        alloc: Global,
+        input: &[u8],
+    ) -> Result<(TypeDefComposite<PortableForm>, &[u8]), DecodeError> {
+        let (fields, rest) = Scale::decode_from(alloc, input)?;
+        Ok((TypeDefComposite { fields }, rest))
+    }
+
+    ghost law = { composite_law };
+}
+
+impl Scale for Field<PortableForm> {
+    ghost encodes = { EncodesField };
+
+    fn encode_to(&self, out: &mut Vec<u8>) -> Result<(), EncodeError> {
+        encode_four(&self.name, &self.ty, &self.type_name, &self.docs, out)
+    }
+
+    fn decode_from(
+        alloc: Global,
+        input: &[u8],
+    ) -> Result<(Field<PortableForm>, &[u8]), DecodeError> {
+        let (parts, rest) = Scale::decode_from(alloc, input)?;
+        Ok((field_of(parts), rest))
+    }
+
+    ghost law = { field_law };
+}
+
+impl Scale for TypeDefVariant<PortableForm> {
+    ghost encodes = { EncodesVariants };
+
+    fn encode_to(&self, out: &mut Vec<u8>) -> Result<(), EncodeError> {
+        let TypeDefVariant { variants } = self;
+        variants.encode_to(out)
+    }
+
+    fn decode_from(
+        alloc: Global,
+        input: &[u8],
+    ) -> Result<(TypeDefVariant<PortableForm>, &[u8]), DecodeError> {
+        let (variants, rest) = Scale::decode_from(alloc, input)?;
+        Ok((TypeDefVariant { variants }, rest))
+    }
+
+    ghost law = { variants_law };
+}
+
+impl Scale for Variant<PortableForm> {
+    ghost encodes = { EncodesVariant };
+
+    fn encode_to(&self, out: &mut Vec<u8>) -> Result<(), EncodeError> {
+        encode_four(&self.name, &self.fields, &self.index, &self.docs, out)
+    }
+
+    fn decode_from(
+        alloc: Global,
+        input: &[u8],
+    ) -> Result<(Variant<PortableForm>, &[u8]), DecodeError> {
+        let (parts, rest) = Scale::decode_from(alloc, input)?;
+        Ok((variant_of(parts), rest))
+    }
+
+    ghost law = { variant_law };
 }
 
 impl Scale for TypeDefSequence<PortableForm> {

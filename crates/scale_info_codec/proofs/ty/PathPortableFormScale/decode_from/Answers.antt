@@ -1,6 +1,6 @@
 use Rattle.scale_info_bytes.proofs.Errors.{passed_malformed}
 use Rattle.scale_info_bytes.proofs.Steps.{no_prefix_through}
-use Rattle.scale_info_codec.proofs.ty.path.PathPortableFormScale.decode_from.Goals as goal
+use Rattle.scale_info_codec.proofs.ty.PathPortableFormScale.decode_from.Goals as goal
 
 pub returns-in_err-segments-clause-malformed : goal.returns-in_err-segments-clause-malformed
 returns-in_err-segments-clause-malformed c =

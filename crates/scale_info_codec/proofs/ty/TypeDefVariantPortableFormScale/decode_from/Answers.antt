@@ -1,6 +1,6 @@
 use Rattle.scale_info_bytes.proofs.Errors.{passed_malformed}
 use Rattle.scale_info_bytes.proofs.Steps.{no_prefix_through}
-use Rattle.scale_info_codec.proofs.ty.variant.TypeDefVariantPortableFormScale.decode_from.Goals as goal
+use Rattle.scale_info_codec.proofs.ty.TypeDefVariantPortableFormScale.decode_from.Goals as goal
 
 pub returns-in_err-variants-clause-malformed : goal.returns-in_err-variants-clause-malformed
 returns-in_err-variants-clause-malformed c =

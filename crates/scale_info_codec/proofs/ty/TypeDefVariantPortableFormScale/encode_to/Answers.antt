@@ -1,4 +1,4 @@
-use Rattle.scale_info_codec.proofs.ty.variant.TypeDefVariantPortableFormScale.encode_to.Goals as goal
+use Rattle.scale_info_codec.proofs.ty.TypeDefVariantPortableFormScale.encode_to.Goals as goal
 
 pub returns-clause-ok : goal.returns-clause-ok
 returns-clause-ok c = c.encode_to.ensures.ok
