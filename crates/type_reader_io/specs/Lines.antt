@@ -28,18 +28,18 @@ fault_text faults.Mismatch = codes "mismatch"
 -- the line that reports an error; a number is in decimal digits
 abbrev pub line_of : ReaderError → List ℕ
 line_of errors.Malformed = codes "type_reader: malformed\n"
-line_of errors.TrailingBytes = codes "type_reader: trailing bytes\n"
 line_of (errors.Version version) =
     line_with (codes "type_reader: metadata of version ") (decimal version)
+line_of errors.TrailingBytes = codes "type_reader: trailing bytes\n"
 line_of (errors.NoSuchType id) = line_with (codes "type_reader: no such type ") (decimal id)
 line_of (errors.NoSuchPath path) = line_with (codes "type_reader: no such path ") path
 line_of (errors.SharedPath path) =
     line_with (codes "type_reader: several types with path ") path
 line_of (errors.NoValue fault) = line_with (codes "type_reader: no value: ") (fault_text fault)
 line_of (errors.Dangling id) = line_with (codes "type_reader: dangling id ") (decimal id)
-line_of errors.Memory = codes "type_reader: out of memory\n"
 line_of errors.Input = codes "type_reader: input failed\n"
 line_of errors.Output = codes "type_reader: output failed\n"
+line_of errors.Memory = codes "type_reader: out of memory\n"
 
 -- the number of an error, if it has one, is at most 255 for a version, and 4294967295 for an id
 abbrev pub HasSmallNumber : ReaderError → Type 0

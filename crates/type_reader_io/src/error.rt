@@ -36,37 +36,18 @@ pub enum ValueFault {
     Mismatch,
 }
 
-/// Why a text is not converted.
-#[derive(Clone, Copy, Debug, Drop, PartialEq, Eq, Error)]
-pub enum LineError {
-    /// It gives no value of the type.
-    #[error("no value: {0}")]
-    Fault(ValueFault),
-    /// An allocation failed.
-    #[error("out of memory")]
-    Memory,
-}
-
-impl<F: AllocationFailure> From<F> for LineError {
-    ghost from_gives = { λ _ e. e ≡ line_error.Memory };
-
-    fn from(_failure: F) -> LineError {
-        LineError::Memory
-    }
-}
-
 /// Why a command is refused. It is displayed as in its line, without the program's name.
 #[derive(Debug, Drop, PartialEq, Eq, Error)]
 pub enum ReaderError {
     /// There is no table in the input.
     #[error("malformed")]
     Malformed,
-    /// The input is no metadata, and bytes come after its table.
-    #[error("trailing bytes")]
-    TrailingBytes,
     /// The input is metadata of this version, of which no table is read.
     #[error("metadata of version {0}")]
     Version(u8),
+    /// The input is no metadata, and bytes come after its table.
+    #[error("trailing bytes")]
+    TrailingBytes,
     /// This id is no index of the table.
     #[error("no such type {0}")]
     NoSuchType(u32),
@@ -83,15 +64,15 @@ pub enum ReaderError {
     /// no index of the table.
     #[error("dangling id {0}")]
     Dangling(u32),
-    /// An allocation failed.
-    #[error("out of memory")]
-    Memory,
     /// The input could not be read to its end.
     #[error("input failed")]
     Input,
     /// The output could not be written whole.
     #[error("output failed")]
     Output,
+    /// An allocation failed.
+    #[error("out of memory")]
+    Memory,
 }
 
 impl<F: AllocationFailure> From<F> for ReaderError {
@@ -99,5 +80,24 @@ impl<F: AllocationFailure> From<F> for ReaderError {
 
     fn from(_failure: F) -> ReaderError {
         ReaderError::Memory
+    }
+}
+
+/// Why a text is not converted.
+#[derive(Clone, Copy, Debug, Drop, PartialEq, Eq, Error)]
+pub enum LineError {
+    /// An allocation failed.
+    #[error("out of memory")]
+    Memory,
+    /// It gives no value of the type.
+    #[error("no value: {0}")]
+    Fault(ValueFault),
+}
+
+impl<F: AllocationFailure> From<F> for LineError {
+    ghost from_gives = { λ _ e. e ≡ line_error.Memory };
+
+    fn from(_failure: F) -> LineError {
+        LineError::Memory
     }
 }

@@ -66,10 +66,10 @@ impl HasText for ReaderError {
     fn write_text<F: Write>(&self, errors: &mut F) -> io::Result<()> {
         match self {
             ReaderError::Malformed => report(errors, b"type_reader: malformed\n"),
-            ReaderError::TrailingBytes => report(errors, b"type_reader: trailing bytes\n"),
             ReaderError::Version(version) => {
                 report_number(errors, "type_reader: metadata of version ", *version as u32)
             }
+            ReaderError::TrailingBytes => report(errors, b"type_reader: trailing bytes\n"),
             ReaderError::NoSuchType(id) => report_number(errors, "type_reader: no such type ", *id),
             ReaderError::NoSuchPath(path) => {
                 report_line(errors, "type_reader: no such path ", path.as_str())
@@ -85,9 +85,9 @@ impl HasText for ReaderError {
                 report_line(errors, "type_reader: no value: ", fault_text(*fault))
             }
             ReaderError::Dangling(id) => report_number(errors, "type_reader: dangling id ", *id),
-            ReaderError::Memory => report(errors, b"type_reader: out of memory\n"),
             ReaderError::Input => report(errors, b"type_reader: input failed\n"),
             ReaderError::Output => report(errors, b"type_reader: output failed\n"),
+            ReaderError::Memory => report(errors, b"type_reader: out of memory\n"),
         }
     }
 }
