@@ -5,23 +5,14 @@ ghost use Rattle.scale_info_references.specs.Gathered.{targets};
 ghost use Rattle.scale_info_types.specs.MetaDescriptions.{type_term};
 ghost use Rattle.scale_info_types.specs.References.{definition_references, references};
 ghost use Rattle.scale_info_types.specs.declared.meta_type.MetaType.{MetaType};
-ghost use Rattle.scale_info_registry.specs.RegistryParts.{
-  composite_types,
-  composite_with_ids,
-  definition_with_ids,
-  enum_types,
-  enum_with_ids,
-  field_types,
-  field_with_ids,
-  list_with_ids,
-  parameter_types,
-  parameter_with_ids,
-  path_types,
-  path_with_ids,
-  type_with_ids,
-  variant_types,
-  variant_with_ids,
-};
+ghost use Rattle.scale_info_registry.specs.RegistryParts.{composite_types, composite_with_ids};
+ghost use Rattle.scale_info_registry.specs.RegistryParts.{definition_with_ids, enum_types};
+ghost use Rattle.scale_info_registry.specs.RegistryParts.{enum_with_ids, field_types};
+ghost use Rattle.scale_info_registry.specs.RegistryParts.{field_with_ids, list_with_ids};
+ghost use Rattle.scale_info_registry.specs.RegistryParts.{parameter_types, parameter_with_ids};
+ghost use Rattle.scale_info_registry.specs.RegistryParts.{path_types, path_with_ids};
+ghost use Rattle.scale_info_registry.specs.RegistryParts.{type_with_ids, variant_types};
+ghost use Rattle.scale_info_registry.specs.RegistryParts.{variant_with_ids};
 ghost use Rattle.scale_info_catalogue.specs.Discoveries.{stacked};
 ghost use Rattle.scale_info_registry.specs.Registrations.{index_in};
 

@@ -2,45 +2,25 @@
 ghost use Rattle.std.specs.Prelude.{◌≡◌, ℕ, [], ◌∷◌, List, OnOk, OnErr, IfErr, IfOk};
 ghost use Rattle.scale_info_identities.specs.TypeIds.{Term};
 ghost use Rattle.scale_info_types.specs.References.{definition_references, references};
-ghost use Rattle.scale_info_registry.specs.RegistryParts.{
-  array_types,
-  array_with_ids,
-  bit_sequence_types,
-  bit_sequence_with_ids,
-  compact_types,
-  compact_with_ids,
-  composite_types,
-  composite_with_ids,
-  definition_with_ids,
-  enum_types,
-  enum_with_ids,
-  field_types,
-  field_with_ids,
-  map_types,
-  map_with_ids,
-  parameter_types,
-  parameter_with_ids,
-  path_types,
-  path_with_ids,
-  sequence_types,
-  sequence_with_ids,
-  tuple_types,
-  tuple_with_ids,
-  type_with_ids,
-  variant_types,
-  variant_with_ids,
-};
+ghost use Rattle.scale_info_registry.specs.RegistryParts.{array_types, array_with_ids};
+ghost use Rattle.scale_info_registry.specs.RegistryParts.{bit_sequence_types};
+ghost use Rattle.scale_info_registry.specs.RegistryParts.{bit_sequence_with_ids, compact_types};
+ghost use Rattle.scale_info_registry.specs.RegistryParts.{compact_with_ids, composite_types};
+ghost use Rattle.scale_info_registry.specs.RegistryParts.{composite_with_ids};
+ghost use Rattle.scale_info_registry.specs.RegistryParts.{definition_with_ids, enum_types};
+ghost use Rattle.scale_info_registry.specs.RegistryParts.{enum_with_ids, field_types};
+ghost use Rattle.scale_info_registry.specs.RegistryParts.{field_with_ids, map_types};
+ghost use Rattle.scale_info_registry.specs.RegistryParts.{map_with_ids, parameter_types};
+ghost use Rattle.scale_info_registry.specs.RegistryParts.{parameter_with_ids, path_types};
+ghost use Rattle.scale_info_registry.specs.RegistryParts.{path_with_ids, sequence_types};
+ghost use Rattle.scale_info_registry.specs.RegistryParts.{sequence_with_ids, tuple_types};
+ghost use Rattle.scale_info_registry.specs.RegistryParts.{tuple_with_ids, type_with_ids};
+ghost use Rattle.scale_info_registry.specs.RegistryParts.{variant_types, variant_with_ids};
 ghost use Rattle.scale_info_catalogue.specs.CatalogueSystems.{catalogue_system};
 ghost use Rattle.scale_info_types.specs.MetaDescriptions.{type_term};
 ghost use Rattle.scale_info_catalogue.specs.Discoveries.{nodes_of, IsCause, roots_of};
-ghost use Rattle.scale_info_registry.specs.Registrations.{
-  Registered,
-  IsRegistration,
-  IsAsBefore,
-  Keeps,
-  IsConverted,
-  HasIds,
-};
+ghost use Rattle.scale_info_registry.specs.Registrations.{Registered, IsRegistration, IsAsBefore};
+ghost use Rattle.scale_info_registry.specs.Registrations.{Keeps, IsConverted, HasIds};
 
 use super::Registry;
 use super::conversion::TypePair;
