@@ -93,16 +93,16 @@ fn visited_as(rt: &HostRuntime, kind: &str, input: &[u8]) -> Result<Outcome, Fai
     }
 }
 
-/// Has the passes visit a part of a description, or an entry.
+/// Has the passes visit an entry, or a part of a description.
 fn visited_as_part(rt: &HostRuntime, kind: &str, input: &[u8]) -> Result<Outcome, Fail> {
     match kind {
+        "entry" => visited::<PortableType>(rt, input),
         "path" => visited::<Path<PortableForm>>(rt, input),
         "parameter" => visited::<TypeParameter<PortableForm>>(rt, input),
         "field" => visited::<Field<PortableForm>>(rt, input),
         "variant" => visited::<Variant<PortableForm>>(rt, input),
         "definition" => visited::<TypeDef<PortableForm>>(rt, input),
         "description" => visited::<Type<PortableForm>>(rt, input),
-        "entry" => visited::<PortableType>(rt, input),
         _ => Err(Fail::new("no type has this name")),
     }
 }

@@ -92,22 +92,20 @@ fn alone(alloc: Global, field: Field) -> Result<TypeDef, AllocError> {
     Ok(TypeDefComposite::from(list_of(alloc, field)?).into())
 }
 
-/// Adds or makes a field of a type.
+/// Adds or makes a field of a type, of the kind of this name.
 #[derive(Drop)]
-struct FieldOf<'a> {
-    rt: &'a HostRuntime,
-    kind: &'a str,
-}
+struct FieldOf<'a>(&'a HostRuntime, &'a str);
 
 impl Known for FieldOf<'_> {
     type Returned = Result<Outcome, Fail>;
 
     fn of<T: HasIdentity>(self) -> Result<Outcome, Fail> {
-        match self.kind {
-            "named" => named::<T>(self.rt),
-            "typed" => typed::<T>(self.rt),
-            "unnamed" => unnamed::<T>(self.rt),
-            _ => built::<T>(self.rt),
+        let FieldOf(rt, kind) = self;
+        match kind {
+            "named" => named::<T>(rt),
+            "typed" => typed::<T>(rt),
+            "unnamed" => unnamed::<T>(rt),
+            _ => built::<T>(rt),
         }
     }
 }
@@ -115,7 +113,7 @@ impl Known for FieldOf<'_> {
 /// Adds or makes a field of a kind for the type after it.
 pub fn field(rt: &HostRuntime, input: &str) -> Result<Outcome, Fail> {
     let (kind, name) = parted(input, ' ')?;
-    found(for_known_type(FieldOf { rt, kind }, name))
+    found(for_known_type(FieldOf(rt, kind), name))
 }
 
 /// Adds a field with a name and an id.

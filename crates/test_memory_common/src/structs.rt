@@ -14,8 +14,8 @@ impl<T: Identified> Identified for MyStruct<T> {
     ghost own = { applied (codes "scale_info::tests::MyStruct") T.own };
 
     fn type_id(alloc: Global) -> Result<TypeId, AllocError> {
-        let args = vec![in alloc; T::type_id(alloc)?]?;
-        Ok(TypeId::new("scale_info::tests::MyStruct", Vec::new(alloc), args))
+        let name = "scale_info::tests::MyStruct";
+        Ok(TypeId::new(name, Vec::new(alloc), vec![in alloc; T::type_id(alloc)?]?))
     }
 }
 

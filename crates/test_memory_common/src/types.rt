@@ -56,21 +56,19 @@ pub type Many = (
 
 /// Makes the type of a name.
 #[derive(Drop)]
-struct MetaTypeOf {
-    alloc: Global,
-}
+struct MetaTypeOf(Global);
 
 impl Known for MetaTypeOf {
     type Returned = Result<MetaType, Fail>;
 
     fn of<T: HasIdentity>(self) -> Result<MetaType, Fail> {
-        Ok(meta_type::<T>(self.alloc)?)
+        Ok(meta_type::<T>(self.0)?)
     }
 }
 
 /// The type of this name. There is one of each kind of definition.
 pub fn type_named(alloc: Global, name: &str) -> Result<MetaType, Fail> {
-    found(for_known_type(MetaTypeOf { alloc }, name))
+    found(for_known_type(MetaTypeOf(alloc), name))
 }
 
 /// The types of these names, in order, with ` | ` between two; none of an empty text.
@@ -86,29 +84,25 @@ pub fn types_named(alloc: Global, names: &str) -> Result<Vec<MetaType>, Fail> {
 
 /// Makes the identity that the type of a name is known by.
 #[derive(Drop)]
-struct IdentityOf {
-    alloc: Global,
-}
+struct IdentityOf(Global);
 
 impl Known for IdentityOf {
     type Returned = Result<TypeId, AllocError>;
 
     fn of<T: HasIdentity>(self) -> Result<TypeId, AllocError> {
-        T::Identity::type_id(self.alloc)
+        T::Identity::type_id(self.0)
     }
 }
 
 /// Makes the description of a standard type with a name.
 #[derive(Drop)]
-struct DescriptionOf {
-    alloc: Global,
-}
+struct DescriptionOf(Global);
 
 impl Described for DescriptionOf {
     type Returned = Result<Type, Fail>;
 
     fn of<T: TypeInfo>(self) -> Result<Type, Fail> {
-        Ok(T::type_info(self.alloc)?)
+        Ok(T::type_info(self.0)?)
     }
 }
 
@@ -116,7 +110,7 @@ impl Described for DescriptionOf {
 pub fn description_named(alloc: Global, name: &str) -> Result<Type, Fail> {
     match own_description(alloc, name)? {
         Some(description) => Ok(description),
-        None => found(for_type(DescriptionOf { alloc }, name)),
+        None => found(for_type(DescriptionOf(alloc), name)),
     }
 }
 
@@ -251,7 +245,7 @@ fn add_own_type(
     name: &str,
     description: Type,
 ) -> Result<bool, CatalogueError> {
-    match for_known_type(IdentityOf { alloc }, name) {
+    match for_known_type(IdentityOf(alloc), name) {
         Some(id) => known.add_described(id?, description),
         None => Ok(false),
     }

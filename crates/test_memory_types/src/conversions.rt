@@ -60,15 +60,13 @@ fn tuple(alloc: Global, first: MetaType, ty: MetaType) -> Result<TypeDefTuple, A
 
 /// Makes a sequence of bits in `u8`, in the order of a type with a name.
 #[derive(Drop)]
-struct BitsInOrder {
-    alloc: Global,
-}
+struct BitsInOrder(Global);
 
 impl Known for BitsInOrder {
     type Returned = Result<TypeDefBitSequence, Fail>;
 
     fn of<T: HasIdentity>(self) -> Result<TypeDefBitSequence, Fail> {
-        Ok(TypeDefBitSequence::new::<u8, T>(self.alloc)?)
+        Ok(TypeDefBitSequence::new::<u8, T>(self.0)?)
     }
 }
 
@@ -112,7 +110,7 @@ pub fn value(rt: &HostRuntime, row: &str) -> Result<Outcome, Fail> {
             convert(rt, given, Ok(described))
         }
         "a bit sequence" => {
-            let bits = BitsInOrder { alloc: rt.alloc() };
+            let bits = BitsInOrder(rt.alloc());
             convert(rt, given, Ok(found(for_known_type(bits, name))?))
         }
         _ => {
