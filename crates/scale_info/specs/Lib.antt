@@ -109,7 +109,6 @@ pub use Rattle.scale_info_lent.specs.IntegerLists
 pub use Rattle.scale_info_lent.specs.LentValues
 pub use Rattle.scale_info_lent.specs.ValueParts
 pub use Rattle.scale_info_lent_form.specs.OwnedDescriptions
-pub use Rattle.scale_info_lent_form.specs.OwnedParts
 pub use Rattle.scale_info_value_text.specs.ValueTexts
 pub use Rattle.scale_info_value_json.specs.Takers
 pub use Rattle.scale_info_value_json.specs.TreeParts

@@ -1,2 +1,1 @@
 pub mod OwnedDescriptions
-pub mod OwnedParts

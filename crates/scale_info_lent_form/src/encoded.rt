@@ -20,16 +20,12 @@ ghost use Rattle.scale_info_grammar.specs.TyLaws.{portable_type_law, primitive_l
 ghost use Rattle.scale_info_grammar.specs.TyLaws.{tuple_law, type_def_law, variant_law};
 ghost use Rattle.scale_info_grammar.specs.TyLaws.{variants_law};
 ghost use Rattle.scale_info_lent_form.specs.OwnedDescriptions.{owned_entry};
-ghost use Rattle.scale_info_lent_form.specs.OwnedParts.{owned_array, owned_bit_sequence};
-ghost use Rattle.scale_info_lent_form.specs.OwnedParts.{owned_compact, owned_composite};
-ghost use Rattle.scale_info_lent_form.specs.OwnedParts.{owned_definition, owned_description};
-ghost use Rattle.scale_info_lent_form.specs.OwnedParts.{owned_field, owned_map, owned_parameter};
-ghost use Rattle.scale_info_lent_form.specs.OwnedParts.{owned_path, owned_sequence, owned_tuple};
-ghost use Rattle.scale_info_lent_form.specs.OwnedParts.{owned_variant, owned_variants};
 ghost use Rattle.scale_info_primitives.specs.declared.primitive.TypeDefPrimitive as primitives;
 ghost use Rattle.scale_info_type_ids.specs.declared.impls.Compact as compacts;
 ghost use Rattle.scale_info_types.specs.Portable as portable;
 ghost use Rattle.scale_info_types.specs.Portable.{Id, Text};
+ghost use Rattle.scale_info_types.specs.Shapes.{map_definition, map_description, map_field};
+ghost use Rattle.scale_info_types.specs.Shapes.{map_parameter, map_path, map_variant};
 ghost use Rattle.scale_info_types.specs.declared.ty.PortableType as portable_types;
 ghost use Rattle.std.specs.Prelude.{ℕ, List, Option, map, option_map};
 
@@ -180,7 +176,7 @@ impl<F: IdForm> Encoded for Path<F> {
 
     ghost Owned = { portable.Path };
 
-    ghost owned = { owned_path F.id_of F.text };
+    ghost owned = { map_path F.id_of F.text };
 
     ghost encodes = { EncodesPath };
 
@@ -192,7 +188,7 @@ impl<F: IdForm> Encoded for Field<F> {
 
     ghost Owned = { portable.Field };
 
-    ghost owned = { owned_field F.id_of F.text };
+    ghost owned = { map_field F.id_of F.text };
 
     ghost encodes = { EncodesField };
 
@@ -204,7 +200,7 @@ impl<F: IdForm> Encoded for TypeDefComposite<F> {
 
     ghost Owned = { portable.TypeDefComposite };
 
-    ghost owned = { owned_composite F.id_of F.text };
+    ghost owned = { λ def. record { fields = map (map_field F.id_of F.text) def.fields } };
 
     ghost encodes = { EncodesComposite };
 
@@ -216,7 +212,7 @@ impl<F: IdForm> Encoded for TypeDefVariant<F> {
 
     ghost Owned = { portable.TypeDefVariant };
 
-    ghost owned = { owned_variants F.id_of F.text };
+    ghost owned = { λ def. record { variants = map (map_variant F.id_of F.text) def.variants } };
 
     ghost encodes = { EncodesVariants };
 
@@ -228,7 +224,7 @@ impl<F: IdForm> Encoded for Variant<F> {
 
     ghost Owned = { portable.Variant };
 
-    ghost owned = { owned_variant F.id_of F.text };
+    ghost owned = { map_variant F.id_of F.text };
 
     ghost encodes = { EncodesVariant };
 
@@ -240,7 +236,7 @@ impl<F: IdForm> Encoded for Description<F> {
 
     ghost Owned = { portable.Description };
 
-    ghost owned = { owned_description F.id_of F.text };
+    ghost owned = { map_description F.id_of F.text };
 
     ghost encodes = { EncodesDescription };
 
@@ -252,7 +248,7 @@ impl<F: IdForm> Encoded for TypeParameter<F> {
 
     ghost Owned = { portable.TypeParameter };
 
-    ghost owned = { owned_parameter F.id_of F.text };
+    ghost owned = { map_parameter F.id_of F.text };
 
     ghost encodes = { EncodesParameter };
 
@@ -264,7 +260,7 @@ impl<F: IdForm> Encoded for TypeDefSequence<F> {
 
     ghost Owned = { portable.TypeDefSequence };
 
-    ghost owned = { owned_sequence F.id_of F.text };
+    ghost owned = { λ def. record { type_param = F.id_of def.type_param; form = tt } };
 
     ghost encodes = { EncodesSequence };
 
@@ -276,7 +272,11 @@ impl<F: IdForm> Encoded for TypeDefArray<F> {
 
     ghost Owned = { portable.TypeDefArray };
 
-    ghost owned = { owned_array F.id_of F.text };
+    ghost owned = { λ def. record {
+      len = def.len;
+      type_param = F.id_of def.type_param;
+      form = tt;
+    } };
 
     ghost encodes = { EncodesArray };
 
@@ -288,7 +288,7 @@ impl<F: IdForm> Encoded for TypeDefTuple<F> {
 
     ghost Owned = { portable.TypeDefTuple };
 
-    ghost owned = { owned_tuple F.id_of F.text };
+    ghost owned = { λ def. record { fields = map F.id_of def.fields; form = tt } };
 
     ghost encodes = { EncodesTuple };
 
@@ -312,7 +312,7 @@ impl<F: IdForm> Encoded for TypeDefCompact<F> {
 
     ghost Owned = { portable.TypeDefCompact };
 
-    ghost owned = { owned_compact F.id_of F.text };
+    ghost owned = { λ def. record { type_param = F.id_of def.type_param; form = tt } };
 
     ghost encodes = { EncodesCompactType };
 
@@ -324,7 +324,11 @@ impl<F: IdForm> Encoded for TypeDefBitSequence<F> {
 
     ghost Owned = { portable.TypeDefBitSequence };
 
-    ghost owned = { owned_bit_sequence F.id_of F.text };
+    ghost owned = { λ def. record {
+      bit_store_type = F.id_of def.bit_store_type;
+      bit_order_type = F.id_of def.bit_order_type;
+      form = tt;
+    } };
 
     ghost encodes = { EncodesBitSequence };
 
@@ -336,7 +340,7 @@ impl<F: IdForm> Encoded for TypeDefMap<F> {
 
     ghost Owned = { portable.TypeDefMap };
 
-    ghost owned = { owned_map F.id_of F.text };
+    ghost owned = { λ def. record { key = F.id_of def.key; value = F.id_of def.value; form = tt } };
 
     ghost encodes = { EncodesMap };
 
@@ -348,7 +352,7 @@ impl<F: IdForm> Encoded for TypeDef<F> {
 
     ghost Owned = { portable.TypeDef };
 
-    ghost owned = { owned_definition F.id_of F.text };
+    ghost owned = { map_definition F.id_of F.text };
 
     ghost encodes = { EncodesTypeDef };
 

@@ -1,8 +1,7 @@
 //! Copies of lent descriptions that own their strings.
 ghost use Rattle.scale_info_lent_form.specs.OwnedDescriptions as lent;
-ghost use Rattle.scale_info_lent_form.specs.OwnedParts.{owned_definition, owned_description};
-ghost use Rattle.scale_info_lent_form.specs.OwnedParts.{owned_field, owned_parameter, owned_path};
-ghost use Rattle.scale_info_lent_form.specs.OwnedParts.{owned_variant};
+ghost use Rattle.scale_info_types.specs.Shapes.{map_definition, map_description, map_field};
+ghost use Rattle.scale_info_types.specs.Shapes.{map_parameter, map_path, map_variant};
 ghost use Rattle.std.specs.Prelude.{◌≡◌, IfOk, map, option_map};
 
 use crate::form::{IdForm, LentForm};
@@ -124,7 +123,7 @@ fn owned_optional_text<F: OwnForm>(
 impl<F: OwnForm> TryToOwned for Path<F> {
     type Owned = Path<PortableForm>;
 
-    ghost owned = { owned_path F.id_of F.text };
+    ghost owned = { map_path F.id_of F.text };
 
     fn try_to_owned(&self, alloc: Global) -> Result<Path<PortableForm>, AllocError> {
         Ok(Path::from(owned_texts::<F>(alloc, &self.segments)?))
@@ -134,7 +133,7 @@ impl<F: OwnForm> TryToOwned for Path<F> {
 impl<F: OwnForm> TryToOwned for TypeParameter<F> {
     type Owned = TypeParameter<PortableForm>;
 
-    ghost owned = { owned_parameter F.id_of F.text };
+    ghost owned = { map_parameter F.id_of F.text };
 
     fn try_to_owned(&self, alloc: Global) -> Result<TypeParameter<PortableForm>, AllocError> {
         let name = F::owned_text(alloc, &self.name)?;
@@ -149,7 +148,7 @@ impl<F: OwnForm> TryToOwned for TypeParameter<F> {
 impl<F: OwnForm> TryToOwned for Field<F> {
     type Owned = Field<PortableForm>;
 
-    ghost owned = { owned_field F.id_of F.text };
+    ghost owned = { map_field F.id_of F.text };
 
     fn try_to_owned(&self, alloc: Global) -> Result<Field<PortableForm>, AllocError> {
         Ok(Field {
@@ -164,7 +163,7 @@ impl<F: OwnForm> TryToOwned for Field<F> {
 impl<F: OwnForm> TryToOwned for Variant<F> {
     type Owned = Variant<PortableForm>;
 
-    ghost owned = { owned_variant F.id_of F.text };
+    ghost owned = { map_variant F.id_of F.text };
 
     fn try_to_owned(&self, alloc: Global) -> Result<Variant<PortableForm>, AllocError> {
         Ok(Variant {
@@ -179,7 +178,7 @@ impl<F: OwnForm> TryToOwned for Variant<F> {
 impl<F: OwnForm> TryToOwned for TypeDef<F> {
     type Owned = TypeDef<PortableForm>;
 
-    ghost owned = { owned_definition F.id_of F.text };
+    ghost owned = { map_definition F.id_of F.text };
 
     fn try_to_owned(&self, alloc: Global) -> Result<TypeDef<PortableForm>, AllocError> {
         match self {
@@ -225,7 +224,7 @@ impl<F: OwnForm> TryToOwned for TypeDef<F> {
 impl<F: OwnForm> TryToOwned for Type<F> {
     type Owned = Type<PortableForm>;
 
-    ghost owned = { owned_description F.id_of F.text };
+    ghost owned = { map_description F.id_of F.text };
 
     fn try_to_owned(&self, alloc: Global) -> Result<Type<PortableForm>, AllocError> {
         Ok(Type {

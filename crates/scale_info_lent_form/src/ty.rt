@@ -1,7 +1,7 @@
 //! Descriptions.
 ghost use Rattle.scale_info_bytes.specs.Encodings.{HasNoPrefix, HasPrefix, IfMalformed};
 ghost use Rattle.scale_info_grammar.specs.Ty.{EncodesTypeDefWithIndex};
-ghost use Rattle.scale_info_lent_form.specs.OwnedParts.{owned_definition};
+ghost use Rattle.scale_info_types.specs.Shapes.{map_definition};
 ghost use Rattle.std.specs.Prelude.{IfErr, IfOk};
 
 use crate::decode::DecodeLent;
@@ -171,7 +171,7 @@ fn decode_parts<'i, F: DecodeForm<'i>>(
     input: &'i [u8],
 ) -> Result<(TypeDef<F>, &'i [u8]), DecodeError>
     ensures ok { IfOk result (λ found.
-        HasPrefix (EncodesTypeDefWithIndex index (owned_definition F.id_of F.text found.0))
+        HasPrefix (EncodesTypeDefWithIndex index (map_definition F.id_of F.text found.0))
         input.now found.1.now) }
     ensures malformed { IfErr result
         (IfMalformed (HasNoPrefix (EncodesTypeDefWithIndex index) input.now)) }
