@@ -20,24 +20,22 @@ ghost use Rattle.scale_info_grammar.specs.TyLaws.{portable_type_law, primitive_l
 ghost use Rattle.scale_info_grammar.specs.TyLaws.{tuple_law, type_def_law, variant_law};
 ghost use Rattle.scale_info_grammar.specs.TyLaws.{variants_law};
 ghost use Rattle.scale_info_lent_form.specs.OwnedDescriptions.{owned_entry};
-ghost use Rattle.scale_info_primitives.specs.declared.primitive.TypeDefPrimitive as primitives;
-ghost use Rattle.scale_info_type_ids.specs.declared.impls.Compact as compacts;
-ghost use Rattle.scale_info_types.specs.Portable as portable;
-ghost use Rattle.scale_info_types.specs.Portable.{Id, Text};
 ghost use Rattle.scale_info_types.specs.Shapes.{map_definition, map_description, map_field};
 ghost use Rattle.scale_info_types.specs.Shapes.{map_parameter, map_path, map_variant};
-ghost use Rattle.scale_info_types.specs.declared.ty.PortableType as portable_types;
-ghost use Rattle.std.specs.Prelude.{ℕ, List, Option, map, option_map};
+ghost use Rattle.std.specs.Prelude.{ℕ, List, map, option_map};
 
 use crate::form::{IdForm, StringOf, TypeOf};
 use crate::table::LentEntry;
 use scale_info_collections::items::Items;
+use scale_info_collections::text::Text;
+use scale_info_identities::symbol::UntrackedSymbol;
+use scale_info_identities::type_id::TypeId;
 use scale_info_type_ids::impls::Compact;
-use scale_info_types::form::Form;
+use scale_info_types::form::{Form, PortableForm};
 use scale_info_types::ty::path::Path;
 use scale_info_types::ty::variant::Variant;
 use scale_info_types::ty::{
-    Description, Field, TypeDef, TypeDefArray, TypeDefBitSequence, TypeDefCompact,
+    Description, Field, PortableType, TypeDef, TypeDefArray, TypeDefBitSequence, TypeDefCompact,
     TypeDefComposite, TypeDefMap, TypeDefPrimitive, TypeDefSequence, TypeDefTuple, TypeDefVariant,
     TypeParameter,
 };
@@ -50,13 +48,13 @@ pub(crate) trait Encoded {
     type Value: Drop;
 
     /// A value that owns its strings.
-    ghost Owned: { Type 0 };
+    type Owned: Drop;
 
     /// The value with its strings owned.
-    ghost owned: { Self.Value → Owned };
+    ghost owned: { Self.Value → Self.Owned };
 
     /// The whole list of bytes encodes the value.
-    ghost encodes: { Owned → List ℕ → Type 0 };
+    ghost encodes: { Self.Owned → List ℕ → Type 0 };
 
     /// A value has one encoding at most, no encoding is a proper prefix of another, and an encoding
     /// is made of bytes.
@@ -66,7 +64,7 @@ pub(crate) trait Encoded {
 impl Encoded for u8 {
     type Value = u8;
 
-    ghost Owned = { ℕ };
+    type Owned = u8;
 
     ghost owned = { λ integer. integer };
 
@@ -78,7 +76,7 @@ impl Encoded for u8 {
 impl Encoded for u32 {
     type Value = u32;
 
-    ghost Owned = { ℕ };
+    type Owned = u32;
 
     ghost owned = { λ integer. integer };
 
@@ -90,7 +88,7 @@ impl Encoded for u32 {
 impl Encoded for Compact<u32> {
     type Value = Compact<u32>;
 
-    ghost Owned = { compacts.Compact ℕ };
+    type Owned = Compact<u32>;
 
     ghost owned = { λ integer. integer };
 
@@ -102,7 +100,7 @@ impl Encoded for Compact<u32> {
 impl<F: IdForm> Encoded for TypeOf<F> {
     type Value = F::Ty;
 
-    ghost Owned = { Id };
+    type Owned = UntrackedSymbol<TypeId>;
 
     ghost owned = { F.id_of };
 
@@ -114,7 +112,7 @@ impl<F: IdForm> Encoded for TypeOf<F> {
 impl<F: Form> Encoded for StringOf<F> {
     type Value = F::String;
 
-    ghost Owned = { Text };
+    type Owned = Text;
 
     ghost owned = { F.text };
 
@@ -126,7 +124,7 @@ impl<F: Form> Encoded for StringOf<F> {
 impl<T: Encoded> Encoded for Option<T> {
     type Value = Option<T::Value>;
 
-    ghost Owned = { Option T.Owned };
+    type Owned = Option<T::Owned>;
 
     ghost owned = { option_map T.owned };
 
@@ -138,7 +136,7 @@ impl<T: Encoded> Encoded for Option<T> {
 impl<A: Encoded, B: Encoded> Encoded for (A, B) {
     type Value = (A::Value, B::Value);
 
-    ghost Owned = { A.Owned × B.Owned };
+    type Owned = (A::Owned, B::Owned);
 
     ghost owned = { λ pair. (A.owned pair.0, B.owned pair.1) };
 
@@ -150,7 +148,7 @@ impl<A: Encoded, B: Encoded> Encoded for (A, B) {
 impl<T: Encoded> Encoded for Items<T> {
     type Value = Items<T::Value>;
 
-    ghost Owned = { List T.Owned };
+    type Owned = Items<T::Owned>;
 
     ghost owned = { map T.owned };
 
@@ -162,7 +160,7 @@ impl<T: Encoded> Encoded for Items<T> {
 impl<'i> Encoded for LentEntry<'i> {
     type Value = LentEntry<'i>;
 
-    ghost Owned = { portable_types.PortableType };
+    type Owned = PortableType;
 
     ghost owned = { owned_entry };
 
@@ -174,7 +172,7 @@ impl<'i> Encoded for LentEntry<'i> {
 impl<F: IdForm> Encoded for Path<F> {
     type Value = Path<F>;
 
-    ghost Owned = { portable.Path };
+    type Owned = Path<PortableForm>;
 
     ghost owned = { map_path F.id_of F.text };
 
@@ -186,7 +184,7 @@ impl<F: IdForm> Encoded for Path<F> {
 impl<F: IdForm> Encoded for Field<F> {
     type Value = Field<F>;
 
-    ghost Owned = { portable.Field };
+    type Owned = Field<PortableForm>;
 
     ghost owned = { map_field F.id_of F.text };
 
@@ -198,7 +196,7 @@ impl<F: IdForm> Encoded for Field<F> {
 impl<F: IdForm> Encoded for TypeDefComposite<F> {
     type Value = TypeDefComposite<F>;
 
-    ghost Owned = { portable.TypeDefComposite };
+    type Owned = TypeDefComposite<PortableForm>;
 
     ghost owned = { λ def. record { fields = map (map_field F.id_of F.text) def.fields } };
 
@@ -210,7 +208,7 @@ impl<F: IdForm> Encoded for TypeDefComposite<F> {
 impl<F: IdForm> Encoded for TypeDefVariant<F> {
     type Value = TypeDefVariant<F>;
 
-    ghost Owned = { portable.TypeDefVariant };
+    type Owned = TypeDefVariant<PortableForm>;
 
     ghost owned = { λ def. record { variants = map (map_variant F.id_of F.text) def.variants } };
 
@@ -222,7 +220,7 @@ impl<F: IdForm> Encoded for TypeDefVariant<F> {
 impl<F: IdForm> Encoded for Variant<F> {
     type Value = Variant<F>;
 
-    ghost Owned = { portable.Variant };
+    type Owned = Variant<PortableForm>;
 
     ghost owned = { map_variant F.id_of F.text };
 
@@ -234,7 +232,7 @@ impl<F: IdForm> Encoded for Variant<F> {
 impl<F: IdForm> Encoded for Description<F> {
     type Value = Description<F>;
 
-    ghost Owned = { portable.Description };
+    type Owned = Description<PortableForm>;
 
     ghost owned = { map_description F.id_of F.text };
 
@@ -246,7 +244,7 @@ impl<F: IdForm> Encoded for Description<F> {
 impl<F: IdForm> Encoded for TypeParameter<F> {
     type Value = TypeParameter<F>;
 
-    ghost Owned = { portable.TypeParameter };
+    type Owned = TypeParameter<PortableForm>;
 
     ghost owned = { map_parameter F.id_of F.text };
 
@@ -258,7 +256,7 @@ impl<F: IdForm> Encoded for TypeParameter<F> {
 impl<F: IdForm> Encoded for TypeDefSequence<F> {
     type Value = TypeDefSequence<F>;
 
-    ghost Owned = { portable.TypeDefSequence };
+    type Owned = TypeDefSequence<PortableForm>;
 
     ghost owned = { λ def. record { type_param = F.id_of def.type_param; form = tt } };
 
@@ -270,7 +268,7 @@ impl<F: IdForm> Encoded for TypeDefSequence<F> {
 impl<F: IdForm> Encoded for TypeDefArray<F> {
     type Value = TypeDefArray<F>;
 
-    ghost Owned = { portable.TypeDefArray };
+    type Owned = TypeDefArray<PortableForm>;
 
     ghost owned = { λ def. record {
       len = def.len;
@@ -286,7 +284,7 @@ impl<F: IdForm> Encoded for TypeDefArray<F> {
 impl<F: IdForm> Encoded for TypeDefTuple<F> {
     type Value = TypeDefTuple<F>;
 
-    ghost Owned = { portable.TypeDefTuple };
+    type Owned = TypeDefTuple<PortableForm>;
 
     ghost owned = { λ def. record { fields = map F.id_of def.fields; form = tt } };
 
@@ -298,7 +296,7 @@ impl<F: IdForm> Encoded for TypeDefTuple<F> {
 impl Encoded for TypeDefPrimitive {
     type Value = TypeDefPrimitive;
 
-    ghost Owned = { primitives.TypeDefPrimitive };
+    type Owned = TypeDefPrimitive;
 
     ghost owned = { λ primitive. primitive };
 
@@ -310,7 +308,7 @@ impl Encoded for TypeDefPrimitive {
 impl<F: IdForm> Encoded for TypeDefCompact<F> {
     type Value = TypeDefCompact<F>;
 
-    ghost Owned = { portable.TypeDefCompact };
+    type Owned = TypeDefCompact<PortableForm>;
 
     ghost owned = { λ def. record { type_param = F.id_of def.type_param; form = tt } };
 
@@ -322,7 +320,7 @@ impl<F: IdForm> Encoded for TypeDefCompact<F> {
 impl<F: IdForm> Encoded for TypeDefBitSequence<F> {
     type Value = TypeDefBitSequence<F>;
 
-    ghost Owned = { portable.TypeDefBitSequence };
+    type Owned = TypeDefBitSequence<PortableForm>;
 
     ghost owned = { λ def. record {
       bit_store_type = F.id_of def.bit_store_type;
@@ -338,7 +336,7 @@ impl<F: IdForm> Encoded for TypeDefBitSequence<F> {
 impl<F: IdForm> Encoded for TypeDefMap<F> {
     type Value = TypeDefMap<F>;
 
-    ghost Owned = { portable.TypeDefMap };
+    type Owned = TypeDefMap<PortableForm>;
 
     ghost owned = { λ def. record { key = F.id_of def.key; value = F.id_of def.value; form = tt } };
 
@@ -350,7 +348,7 @@ impl<F: IdForm> Encoded for TypeDefMap<F> {
 impl<F: IdForm> Encoded for TypeDef<F> {
     type Value = TypeDef<F>;
 
-    ghost Owned = { portable.TypeDef };
+    type Owned = TypeDef<PortableForm>;
 
     ghost owned = { map_definition F.id_of F.text };
 

@@ -1,10 +1,9 @@
 //! Copies of lent descriptions that own their strings.
 ghost use Rattle.scale_info_lent_form.specs.OwnedDescriptions as lent;
-ghost use Rattle.scale_info_types.specs.Shapes.{map_definition, map_description, map_field};
-ghost use Rattle.scale_info_types.specs.Shapes.{map_parameter, map_path, map_variant};
-ghost use Rattle.std.specs.Prelude.{◌≡◌, IfOk, map, option_map};
+ghost use Rattle.std.specs.Prelude.{◌≡◌, IfOk};
 
-use crate::form::{IdForm, LentForm};
+use crate::encoded::Encoded;
+use crate::form::{IdForm, LentForm, StringOf, TypeOf};
 use scale_info_collections::items::Items;
 use scale_info_collections::text::Text;
 use scale_info_identities::symbol::UntrackedSymbol;
@@ -24,7 +23,7 @@ use std::alloc::{AllocError, Global};
 pub fn owned_type(alloc: Global, ty: &Type<LentForm<'_>>) -> Result<Type<PortableForm>, AllocError>
     ensures { IfOk result (λ copy. copy ≡ lent.owned_description ty.now) }
 {
-    ty.try_to_owned(alloc)
+    Type::try_to_owned(alloc, ty)
 }
 
 /// A form whose types and strings are copied to ids and to strings that are owned.
@@ -53,141 +52,99 @@ impl<'s> OwnForm for LentForm<'s> {
 }
 
 /// A part of a description that is copied to one which owns its strings.
-pub(crate) trait TryToOwned: Drop {
-    /// The part in the form that owns its strings.
-    type Owned: Drop;
+pub(crate) trait TryToOwned: Encoded {
+    /// A copy of a value that owns its strings. Errors: `AllocError`, if an allocation failed.
+    fn try_to_owned(alloc: Global, value: &Self::Value) -> Result<Self::Owned, AllocError>
+        ensures { IfOk result (λ copy. copy ≡ Self.owned value.now) };
+}
 
-    /// The part with its strings owned.
-    ghost owned: { Self → Self.Owned };
+impl<F: OwnForm> TryToOwned for TypeOf<F> {
+    fn try_to_owned(_alloc: Global, ty: &F::Ty) -> Result<UntrackedSymbol<TypeId>, AllocError> {
+        Ok(F::owned_id(ty))
+    }
+}
 
-    /// A copy that owns its strings. Errors: `AllocError`, if an allocation failed.
-    fn try_to_owned(&self, alloc: Global) -> Result<Self::Owned, AllocError>
-        ensures { IfOk result (λ copy. copy ≡ owned self.now) };
+impl<F: OwnForm> TryToOwned for StringOf<F> {
+    fn try_to_owned(alloc: Global, text: &F::String) -> Result<Text, AllocError> {
+        F::owned_text(alloc, text)
+    }
+}
+
+impl<T: TryToOwned> TryToOwned for Option<T> {
+    fn try_to_owned(
+        alloc: Global,
+        value: &Option<T::Value>,
+    ) -> Result<Option<T::Owned>, AllocError> {
+        match value {
+            None => Ok(None),
+            Some(value) => Ok(Some(T::try_to_owned(alloc, value)?)),
+        }
+    }
 }
 
 impl<T: TryToOwned> TryToOwned for Items<T> {
-    type Owned = Items<T::Owned>;
-
-    ghost owned = { map T.owned };
-
-    fn try_to_owned(&self, alloc: Global) -> Result<Items<T::Owned>, AllocError> {
-        let mut copies = Items::with_capacity(alloc, self.len())?;
-        for item in self.as_slice() {
-            copies.push(item.try_to_owned(alloc)?)?;
+    fn try_to_owned(alloc: Global, items: &Items<T::Value>) -> Result<Items<T::Owned>, AllocError> {
+        let mut copies = Items::with_capacity(alloc, items.len())?;
+        for item in items.as_slice() {
+            copies.push(T::try_to_owned(alloc, item)?)?;
         }
         Ok(copies)
     }
 }
 
-/// Copies of strings.
-fn owned_texts<F: OwnForm>(
-    alloc: Global,
-    texts: &Items<F::String>,
-) -> Result<Items<Text>, AllocError>
-    ensures { IfOk result (λ copies. copies ≡ map F.text texts.now) }
-{
-    let mut copies = Items::with_capacity(alloc, texts.len())?;
-    for text in texts.as_slice() {
-        copies.push(F::owned_text(alloc, text)?)?;
-    }
-    Ok(copies)
-}
-
-/// The ids that types are.
-fn owned_ids<F: OwnForm>(
-    alloc: Global,
-    types: &Items<F::Ty>,
-) -> Result<Items<UntrackedSymbol<TypeId>>, AllocError>
-    ensures { IfOk result (λ copies. copies ≡ map F.id_of types.now) }
-{
-    let mut copies = Items::with_capacity(alloc, types.len())?;
-    for ty in types.as_slice() {
-        copies.push(F::owned_id(ty))?;
-    }
-    Ok(copies)
-}
-
-/// A copy of a string that may be missing.
-fn owned_optional_text<F: OwnForm>(
-    alloc: Global,
-    text: &Option<F::String>,
-) -> Result<Option<Text>, AllocError>
-    ensures { IfOk result (λ copy. copy ≡ option_map F.text text.now) }
-{
-    match text {
-        None => Ok(None),
-        Some(text) => Ok(Some(F::owned_text(alloc, text)?)),
-    }
-}
-
 impl<F: OwnForm> TryToOwned for Path<F> {
-    type Owned = Path<PortableForm>;
-
-    ghost owned = { map_path F.id_of F.text };
-
-    fn try_to_owned(&self, alloc: Global) -> Result<Path<PortableForm>, AllocError> {
-        Ok(Path::from(owned_texts::<F>(alloc, &self.segments)?))
+    fn try_to_owned(alloc: Global, path: &Path<F>) -> Result<Path<PortableForm>, AllocError> {
+        let segments = Items::<StringOf<F>>::try_to_owned(alloc, &path.segments)?;
+        Ok(Path::from(segments))
     }
 }
 
 impl<F: OwnForm> TryToOwned for TypeParameter<F> {
-    type Owned = TypeParameter<PortableForm>;
-
-    ghost owned = { map_parameter F.id_of F.text };
-
-    fn try_to_owned(&self, alloc: Global) -> Result<TypeParameter<PortableForm>, AllocError> {
-        let name = F::owned_text(alloc, &self.name)?;
-        let ty = match &self.ty {
-            None => None,
-            Some(ty) => Some(F::owned_id(ty)),
-        };
-        Ok(TypeParameter { name, ty })
+    fn try_to_owned(
+        alloc: Global,
+        parameter: &TypeParameter<F>,
+    ) -> Result<TypeParameter<PortableForm>, AllocError> {
+        Ok(TypeParameter {
+            name: F::owned_text(alloc, &parameter.name)?,
+            ty: Option::<TypeOf<F>>::try_to_owned(alloc, &parameter.ty)?,
+        })
     }
 }
 
 impl<F: OwnForm> TryToOwned for Field<F> {
-    type Owned = Field<PortableForm>;
-
-    ghost owned = { map_field F.id_of F.text };
-
-    fn try_to_owned(&self, alloc: Global) -> Result<Field<PortableForm>, AllocError> {
+    fn try_to_owned(alloc: Global, field: &Field<F>) -> Result<Field<PortableForm>, AllocError> {
         Ok(Field {
-            name: owned_optional_text::<F>(alloc, &self.name)?,
-            ty: F::owned_id(&self.ty),
-            type_name: owned_optional_text::<F>(alloc, &self.type_name)?,
-            docs: owned_texts::<F>(alloc, &self.docs)?,
+            name: Option::<StringOf<F>>::try_to_owned(alloc, &field.name)?,
+            ty: F::owned_id(&field.ty),
+            type_name: Option::<StringOf<F>>::try_to_owned(alloc, &field.type_name)?,
+            docs: Items::<StringOf<F>>::try_to_owned(alloc, &field.docs)?,
         })
     }
 }
 
 impl<F: OwnForm> TryToOwned for Variant<F> {
-    type Owned = Variant<PortableForm>;
-
-    ghost owned = { map_variant F.id_of F.text };
-
-    fn try_to_owned(&self, alloc: Global) -> Result<Variant<PortableForm>, AllocError> {
+    fn try_to_owned(
+        alloc: Global,
+        variant: &Variant<F>,
+    ) -> Result<Variant<PortableForm>, AllocError> {
         Ok(Variant {
-            name: F::owned_text(alloc, &self.name)?,
-            fields: self.fields.try_to_owned(alloc)?,
-            index: self.index,
-            docs: owned_texts::<F>(alloc, &self.docs)?,
+            name: F::owned_text(alloc, &variant.name)?,
+            fields: Items::<Field<F>>::try_to_owned(alloc, &variant.fields)?,
+            index: variant.index,
+            docs: Items::<StringOf<F>>::try_to_owned(alloc, &variant.docs)?,
         })
     }
 }
 
 impl<F: OwnForm> TryToOwned for TypeDef<F> {
-    type Owned = TypeDef<PortableForm>;
-
-    ghost owned = { map_definition F.id_of F.text };
-
-    fn try_to_owned(&self, alloc: Global) -> Result<TypeDef<PortableForm>, AllocError> {
-        match self {
+    fn try_to_owned(alloc: Global, def: &TypeDef<F>) -> Result<TypeDef<PortableForm>, AllocError> {
+        match def {
             TypeDef::Composite(def) => {
-                let fields = def.fields.try_to_owned(alloc)?;
+                let fields = Items::<Field<F>>::try_to_owned(alloc, &def.fields)?;
                 Ok(TypeDef::Composite(TypeDefComposite { fields }))
             }
             TypeDef::Variant(def) => {
-                let variants = def.variants.try_to_owned(alloc)?;
+                let variants = Items::<Variant<F>>::try_to_owned(alloc, &def.variants)?;
                 Ok(TypeDef::Variant(TypeDefVariant { variants }))
             }
             TypeDef::Sequence(def) => {
@@ -199,7 +156,7 @@ impl<F: OwnForm> TryToOwned for TypeDef<F> {
                 Ok(TypeDef::Array(TypeDefArray::new(def.len, items)))
             }
             TypeDef::Tuple(def) => {
-                let members = owned_ids::<F>(alloc, &def.fields)?;
+                let members = Items::<TypeOf<F>>::try_to_owned(alloc, &def.fields)?;
                 Ok(TypeDef::Tuple(TypeDefTuple::from(members)))
             }
             TypeDef::Primitive(primitive) => Ok(TypeDef::Primitive(*primitive)),
@@ -222,16 +179,12 @@ impl<F: OwnForm> TryToOwned for TypeDef<F> {
 }
 
 impl<F: OwnForm> TryToOwned for Type<F> {
-    type Owned = Type<PortableForm>;
-
-    ghost owned = { map_description F.id_of F.text };
-
-    fn try_to_owned(&self, alloc: Global) -> Result<Type<PortableForm>, AllocError> {
+    fn try_to_owned(alloc: Global, ty: &Type<F>) -> Result<Type<PortableForm>, AllocError> {
         Ok(Type {
-            path: self.path.try_to_owned(alloc)?,
-            type_params: self.type_params.try_to_owned(alloc)?,
-            type_def: self.type_def.try_to_owned(alloc)?,
-            docs: owned_texts::<F>(alloc, &self.docs)?,
+            path: Path::try_to_owned(alloc, &ty.path)?,
+            type_params: Items::<TypeParameter<F>>::try_to_owned(alloc, &ty.type_params)?,
+            type_def: TypeDef::try_to_owned(alloc, &ty.type_def)?,
+            docs: Items::<StringOf<F>>::try_to_owned(alloc, &ty.docs)?,
         })
     }
 }

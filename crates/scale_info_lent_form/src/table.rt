@@ -114,7 +114,7 @@ impl<'i> LentTable<'i> {
     pub fn try_to_owned(&self, alloc: Global) -> Result<Items<PortableType>, AllocError>
         ensures { IfOk result (λ types. types ≡ self.now) }
     {
-        self.types.try_to_owned(alloc)
+        Items::<LentEntry<'i>>::try_to_owned(alloc, &self.types)
     }
 
     /// The entries, in order.
@@ -138,11 +138,7 @@ impl<'i> DecodeLent<'i> for LentEntry<'i> {
 }
 
 impl<'i> TryToOwned for LentEntry<'i> {
-    type Owned = PortableType;
-
-    ghost owned = { owned_entry };
-
-    fn try_to_owned(&self, alloc: Global) -> Result<PortableType, AllocError> {
-        Ok(PortableType::new(self.id, owned_type(alloc, &self.ty)?))
+    fn try_to_owned(alloc: Global, entry: &LentEntry<'i>) -> Result<PortableType, AllocError> {
+        Ok(PortableType::new(entry.id, owned_type(alloc, &entry.ty)?))
     }
 }
