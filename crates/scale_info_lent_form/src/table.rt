@@ -93,18 +93,18 @@ impl<'i> LentTable<'i> {
         }
     }
 
-    /// The number of entries.
-    pub fn len(&self) -> usize
-        ensures { result ≡ length self.now }
-    {
-        self.types.len()
-    }
-
     /// Whether there is no entry.
     pub fn is_empty(&self) -> bool
         ensures { IsTrue result ↔ (self.now ≡ []) }
     {
         self.types.is_empty()
+    }
+
+    /// The number of entries.
+    pub fn len(&self) -> usize
+        ensures { result ≡ length self.now }
+    {
+        self.types.len()
     }
 
     /// The entries with copies of their strings: those of the table that `PortableRegistry::decode`
