@@ -118,7 +118,6 @@ pub use Rattle.scale_info_value_json.specs.TreesOfTexts
 pub use Rattle.scale_info_value_json.specs.TreeExamples
 pub use Rattle.scale_info_typed.specs.ConvertErrors
 pub use Rattle.scale_info_typed.specs.Meanings
-pub use Rattle.scale_info_typed.specs.PassedErrors
 pub use Rattle.scale_info_typed.specs.Places
 pub use Rattle.scale_info_typed.specs.StandingValues
 pub use Rattle.scale_info_typed.specs.TypedEncodings

@@ -1,11 +1,11 @@
 -- What comes of encoding a value of a program's type.
-use Rattle.std.specs.Prelude.{◌≡◌, ℕ, List, Option, Some, None}
+use Rattle.std.specs.Prelude.{◌≡◌, ℕ, Option, Some, None}
 use Rattle.scale_info_tables.specs.declared.portable.PortableRegistry.{PortableRegistry}
 use Rattle.scale_info_value.specs.declared.value.Dyn.{Dyn}
-use Rattle.scale_info_encode.specs.Writers.{Written, refused, no_such_type, unsupported, too_deep}
-use Rattle.scale_info_encode.specs.Writers.{mismatch, mismatch_at}
-use Rattle.scale_info_encode.specs.declared.path.Step.{Step}
+use Rattle.scale_info_encode.specs.Writers.{Written, refused, mismatch}
+use Rattle.scale_info_encode.specs.Writers as writers
 use Rattle.scale_info_encode.specs.Writings.{writing}
+use Rattle.scale_info_typed.specs.ConvertErrors.{IsMissing}
 use Rattle.scale_info_typed.specs.declared.error.EncodeAsError.{EncodeAsError}
 use Rattle.scale_info_typed.specs.declared.error.EncodeAsError.TheVariants as error
 
@@ -14,11 +14,8 @@ abbrev pub writing_of : PortableRegistry → ℕ → Option Dyn → Written
 writing_of table id None = refused mismatch
 writing_of table id (Some value) = writing table id 1 value
 
--- the error is the refusal of the value or, in a mismatch, of some part of it; a failed allocation
--- says nothing of the value
-abbrev pub IsErrorOf : Written → EncodeAsError → Type 0
-IsErrorOf outcome error.NoSuchType = outcome ≡ refused no_such_type
-IsErrorOf outcome error.Unsupported = outcome ≡ refused unsupported
-IsErrorOf outcome error.TooDeep = outcome ≡ refused too_deep
-IsErrorOf outcome error.Mismatch = (steps : List Step) × (outcome ≡ refused (mismatch_at steps))
-IsErrorOf outcome error.Memory = Unit {0}
+-- the error is that of encoding what stands for the value; or it says that nothing does
+abbrev pub IsErrorOf : PortableRegistry → ℕ → Option Dyn → EncodeAsError → Type 0
+IsErrorOf table id standing (error.Encode why) =
+    (value : Dyn) × (standing ≡ Some value) × writers.IsErrorOf (writing table id 1 value) why
+IsErrorOf table id standing (error.Convert why) = IsMissing standing why

@@ -36,13 +36,14 @@ pub trait DecodeAs: Shown + Drop {
 /// Decodes a value of the type with this id from the start of the input, as a value of the type
 /// `T`, and returns it with the rest.
 ///
-/// It decodes what `decode_value` decodes, with the same errors, and converts that value: see
-/// [`DecodeAs`]. So a `u32` is decoded by each unsigned width, as far as the integer fits.
+/// It decodes what `decode_value` decodes, and converts that value: see [`DecodeAs`]. So a `u32` is
+/// decoded by each unsigned width, as far as the integer fits.
 ///
-/// Errors: `TooDeep`, where a value is more than 128 deep; `NoSuchType`, where an id is no index of
-/// the table; `Unsupported`, where values of a type are not decoded; `Malformed`, where no prefix
-/// of the input is a value of the type of the table; `Mismatch`, where one is, and is no `T`;
-/// `Memory`, where an allocation failed.
+/// Errors: `Decode` with the error of `decode_value`: `TooDeep`, where a value is more than 128
+/// deep; `NoSuchType`, where an id is no index of the table; `Unsupported`, where values of a type
+/// are not decoded; `Malformed`, where no prefix of the input is a value of the type of the table.
+/// `Convert(Mismatch)`, where one is, and is no `T`. Either with `Memory`, where an allocation
+/// failed.
 ///
 /// With a table that has `Vec<u16>` at index 0:
 ///
@@ -60,8 +61,9 @@ pub fn decode_as<'i, T: DecodeAs>(
         (λ found. outcome_map T.meant (reading table.now id 1 input.now)
         ≡ decoded (Some (T.seen found.0)) found.1.now) }
     ensures err { IfErr result
-        (IsErrorOf (outcome_map T.meant (reading table.now id 1 input.now))) }
+        (IsErrorOf T.meant (reading table.now id 1 input.now)) }
 {
-    let (value, rest) = decode_lent(alloc, table, id, input)?;
-    Ok((T::from_value(alloc, &value)?, rest))
+    let (value, rest) = decode_lent(alloc, table, id, input).map_err(DecodeAsError::Decode)?;
+    let own = T::from_value(alloc, &value).map_err(DecodeAsError::Convert)?;
+    Ok((own, rest))
 }

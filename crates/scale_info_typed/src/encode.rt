@@ -52,10 +52,12 @@ pub trait EncodeAs: Shown {
 /// `decode_as` decodes what was appended to the same value, and leaves nothing. On an Err the
 /// output is as before.
 ///
-/// Errors: `Mismatch`, where no value of the type of the table stands for this one, as a `u32` that
-/// is more than 255 at `u8`, or an option at an enum without a variant `Some`; `TooDeep`, where a
-/// value is more than 128 deep; `NoSuchType`, where an id is no index of the table; `Unsupported`,
-/// where values of a type are not encoded; `Memory`, where an allocation failed.
+/// Errors: `Convert(Mismatch)`, where nothing stands for this value at the type of the table, as
+/// for an option at an enum without a variant `Some`. `Encode` with the error of `encode_value` of
+/// what stands for it: `Mismatch` with the path to a part that is none of its type, as for a `u32`
+/// that is more than 255 at `u8`; `TooDeep`, where a value is more than 128 deep; `NoSuchType`,
+/// where an id is no index of the table; `Unsupported`, where values of a type are not encoded.
+/// Either with `Memory`, where an allocation failed.
 ///
 /// With a table that has `Vec<u16>` at index 0:
 ///
@@ -76,9 +78,11 @@ pub fn encode_as<T: EncodeAs>(
         (AppendsEncoding (λ bytes. outcome_map T.meant (reading table.now id 1 bytes)
         ≡ decoded (Some (T.seen value.now)) []) out.old.items out.new.items) }
     ensures err { IfErr result
-        (IsErrorOf (writing_of table.now id (T.value_at table.now (place.Type id) value.now))) }
+        (IsErrorOf table.now id (T.value_at table.now (place.Type id) value.now)) }
     ensures same { OnErr result (out.new.items ≡ out.old.items) }
 {
-    let standing = value.to_value(alloc, table, Place::Type(id))?;
-    Ok(encode_value(table, id, &standing, out)?)
+    let standing = value
+        .to_value(alloc, table, Place::Type(id))
+        .map_err(EncodeAsError::Convert)?;
+    encode_value(table, id, &standing, out).map_err(EncodeAsError::Encode)
 }

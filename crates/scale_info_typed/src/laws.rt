@@ -5,6 +5,7 @@ ghost use Rattle.scale_info_typed.specs.declared.error.DecodeAsError as decode_e
 ghost use Rattle.scale_info_typed.specs.declared.error.EncodeAsError as encode_errors;
 
 use crate::error::{ConvertError, DecodeAsError, EncodeAsError};
+use scale_info_encode::laws::equal_encode_errors;
 
 /// Errors of conversions are equal exactly where they are one value.
 pub fn equal_convert_errors()
@@ -22,4 +23,6 @@ pub fn equal_decode_as_errors()
 pub fn equal_encode_as_errors()
     ensures { (a b : encode_errors.EncodeAsError)
         → IsTrue (⟦<EncodeAsError as PartialEq>⟧.eq a b) ↔ (a ≡ b) }
-{}
+{
+    equal_encode_errors();
+}

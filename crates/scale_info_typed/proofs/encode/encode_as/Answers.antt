@@ -1,10 +1,12 @@
-use Rattle.std.proofs.Common.{◌≡◌, ℕ, List, [], Option, Some, ap, sym, ◌∙◌}
+use Rattle.std.proofs.Common.{rules, ◌≡◌, ℕ, List, [], Option, Some, ap, sym, ◌∙◌}
+use Rattle.std.specs.Prelude.{OnOk}
 use Rattle.std.proofs.lemmas.List.{append-nil}
+use Rattle.std.proofs.lemmas.Result.{on_ok_weaker}
 use Rattle.scale_info_tables.specs.declared.portable.PortableRegistry.{PortableRegistry}
 use Rattle.scale_info_value.specs.declared.value.Dyn.{Dyn}
 use Rattle.scale_info_value.specs.Outcomes.{decoded, outcome_map}
 use Rattle.scale_info_value.specs.Readings.{reading}
-use Rattle.scale_info_encode.specs.Writers.{written}
+use Rattle.scale_info_encode.specs.Writers.{written, Appends}
 use Rattle.scale_info_encode.specs.Writings.{writing}
 use Rattle.scale_info_encode.proofs.Levels.{read_back}
 use Rattle.scale_info_typed.proofs.encode.encode_as.Goals as goal
@@ -20,11 +22,17 @@ read_as meant table id value bytes x e h =
 
 pub returns-clause-read : goal.returns-clause-read
 returns-clause-read g c =
-    let appended = c.in_ok-encode_value.ensures.ok in
-    record {
-      encoding = appended.encoding;
+    let value = c.in_ok-standing.standing in
+    let appended : OnOk c.map_err-2.result
+    (Appends (writing c.args.table.now c.args.id 1 value) c.args.out.now.items c.encode_value.new.out.items) =
+    search rules
+    in
+    on_ok_weaker c.map_err-2.result
+    (λ a. record {
+      encoding = a.encoding;
       encodes =
-          read_as g.T.Shown.meant c.args.table.now c.args.id c.in_ok-standing.standing appended.encoding
-          (g.T.Shown.seen c.args.value.now) appended.encodes c.in_ok-standing.ensures.shown;
-      parts = appended.parts;
-    }
+          read_as g.T.Shown.meant c.args.table.now c.args.id value a.encoding (g.T.Shown.seen c.args.value.now)
+          a.encodes (search rules);
+      parts = a.parts;
+    })
+    appended
