@@ -5,7 +5,7 @@ ghost use Rattle.scale_info_value.specs.Readings.{reading};
 ghost use Rattle.scale_info_lent.specs.LentValues.{dyn_of};
 ghost use Rattle.scale_info_typed.specs.ConvertErrors.{IsMissing, IsErrorOf};
 
-use crate::error::{ConvertError, DecodeAsError};
+use crate::error::{DecodeAsError, Result};
 use crate::shown::Shown;
 use scale_info_lent::lent::{Lent, decode_lent};
 use scale_info_tables::portable::PortableRegistry;
@@ -28,7 +28,7 @@ pub trait DecodeAs: Shown + Drop {
     /// The value of this type that a decoded value is.
     ///
     /// Errors: `Mismatch`, where it is none; `Memory`, where an allocation failed.
-    fn from_value(alloc: Global, value: &Lent<'_, '_>) -> Result<Self, ConvertError>
+    fn from_value(alloc: Global, value: &Lent<'_, '_>) -> Result<Self>
         ensures ok { IfOk result (λ own. Self.meant (dyn_of value.now) ≡ Some (Self.seen own)) }
         ensures err { IfErr result (IsMissing (Self.meant (dyn_of value.now))) };
 }

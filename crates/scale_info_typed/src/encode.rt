@@ -11,7 +11,7 @@ ghost use Rattle.scale_info_typed.specs.declared.place.Place.TheVariants as plac
 ghost use Rattle.scale_info_typed.specs.ConvertErrors.{IsMissing};
 ghost use Rattle.scale_info_typed.specs.TypedEncodings.{writing_of, IsErrorOf};
 
-use crate::error::{ConvertError, EncodeAsError};
+use crate::error::{EncodeAsError, Result};
 use crate::place::Place;
 use crate::shown::Shown;
 use scale_info_encode::encode::encode_value;
@@ -35,12 +35,7 @@ pub trait EncodeAs: Shown {
     /// The value at this place of the table that stands for this one.
     ///
     /// Errors: `Mismatch`, where there is none; `Memory`, where an allocation failed.
-    fn to_value<D: Definitions>(
-        &self,
-        alloc: Global,
-        table: &D,
-        place: Place,
-    ) -> Result<Dyn, ConvertError>
+    fn to_value<D: Definitions>(&self, alloc: Global, table: &D, place: Place) -> Result<Dyn>
         ensures ok { IfOk result
             (λ value. value_at (D.table table.now) place self.now ≡ Some value) }
         ensures shown { IfOk result (λ value. Self.meant value ≡ Some (Self.seen self.now)) }

@@ -26,6 +26,9 @@ impl<F: AllocationFailure> From<F> for ConvertError {
     }
 }
 
+/// What a conversion returns: a value, or why there is none.
+pub type Result<T, E = ConvertError> = std::result::Result<T, E>;
+
 /// Why bytes are not decoded as a value of a program's type. It is displayed as its cause.
 #[derive(Debug, Drop, PartialEq, Eq, Error)]
 pub enum DecodeAsError {

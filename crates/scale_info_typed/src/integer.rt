@@ -7,7 +7,7 @@ ghost use Rattle.scale_info_typed.specs.Meanings.{unsigned, signed};
 
 use crate::decode::DecodeAs;
 use crate::encode::EncodeAs;
-use crate::error::ConvertError;
+use crate::error::{ConvertError, Result};
 use crate::place::Place;
 use crate::shown::Shown;
 use scale_info_lent::lent::Lent;
@@ -16,7 +16,7 @@ use scale_info_value::value::Dyn;
 use std::alloc::Global;
 
 /// The integer of an unsigned type, where it is at most this one.
-fn unsigned_up_to(most: u128, value: &Lent<'_, '_>) -> Result<u128, ConvertError>
+fn unsigned_up_to(most: u128, value: &Lent<'_, '_>) -> Result<u128>
     ensures ok { IfOk result (λ n. unsigned (most + 1) (dyn_of value.now) ≡ Some n) }
     ensures bound { IfOk result (λ n. n ≤ most) }
     ensures err { IfErr result (IsMissing (unsigned (most + 1) (dyn_of value.now))) }
@@ -28,7 +28,7 @@ fn unsigned_up_to(most: u128, value: &Lent<'_, '_>) -> Result<u128, ConvertError
 }
 
 /// The integer of a signed type, where it is in this range.
-fn signed_between(least: i128, most: i128, value: &Lent<'_, '_>) -> Result<i128, ConvertError>
+fn signed_between(least: i128, most: i128, value: &Lent<'_, '_>) -> Result<i128>
     ensures ok { IfOk result (λ n. signed least most (dyn_of value.now) ≡ Some n) }
     ensures least { IfOk result (λ n. least ≤ℤ n) }
     ensures most { IfOk result (λ n. n ≤ℤ most) }
@@ -73,7 +73,7 @@ impl Shown for u8 {
 }
 
 impl DecodeAs for u8 {
-    fn from_value(_alloc: Global, value: &Lent<'_, '_>) -> Result<u8, ConvertError> {
+    fn from_value(_alloc: Global, value: &Lent<'_, '_>) -> Result<u8> {
         let n = unsigned_up_to(u8::MAX as u128, value)?;
         Ok(n as u8)
     }
@@ -88,7 +88,7 @@ impl Shown for u16 {
 }
 
 impl DecodeAs for u16 {
-    fn from_value(_alloc: Global, value: &Lent<'_, '_>) -> Result<u16, ConvertError> {
+    fn from_value(_alloc: Global, value: &Lent<'_, '_>) -> Result<u16> {
         let n = unsigned_up_to(u16::MAX as u128, value)?;
         Ok(n as u16)
     }
@@ -103,7 +103,7 @@ impl Shown for u32 {
 }
 
 impl DecodeAs for u32 {
-    fn from_value(_alloc: Global, value: &Lent<'_, '_>) -> Result<u32, ConvertError> {
+    fn from_value(_alloc: Global, value: &Lent<'_, '_>) -> Result<u32> {
         let n = unsigned_up_to(u32::MAX as u128, value)?;
         Ok(n as u32)
     }
@@ -118,7 +118,7 @@ impl Shown for u64 {
 }
 
 impl DecodeAs for u64 {
-    fn from_value(_alloc: Global, value: &Lent<'_, '_>) -> Result<u64, ConvertError> {
+    fn from_value(_alloc: Global, value: &Lent<'_, '_>) -> Result<u64> {
         let n = unsigned_up_to(u64::MAX as u128, value)?;
         Ok(n as u64)
     }
@@ -133,7 +133,7 @@ impl Shown for u128 {
 }
 
 impl DecodeAs for u128 {
-    fn from_value(_alloc: Global, value: &Lent<'_, '_>) -> Result<u128, ConvertError> {
+    fn from_value(_alloc: Global, value: &Lent<'_, '_>) -> Result<u128> {
         let n = unsigned_up_to(u128::MAX, value)?;
         Ok(n)
     }
@@ -148,7 +148,7 @@ impl Shown for i8 {
 }
 
 impl DecodeAs for i8 {
-    fn from_value(_alloc: Global, value: &Lent<'_, '_>) -> Result<i8, ConvertError> {
+    fn from_value(_alloc: Global, value: &Lent<'_, '_>) -> Result<i8> {
         let n = signed_between(i8::MIN as i128, i8::MAX as i128, value)?;
         Ok(n as i8)
     }
@@ -163,7 +163,7 @@ impl Shown for i16 {
 }
 
 impl DecodeAs for i16 {
-    fn from_value(_alloc: Global, value: &Lent<'_, '_>) -> Result<i16, ConvertError> {
+    fn from_value(_alloc: Global, value: &Lent<'_, '_>) -> Result<i16> {
         let n = signed_between(i16::MIN as i128, i16::MAX as i128, value)?;
         Ok(n as i16)
     }
@@ -178,7 +178,7 @@ impl Shown for i32 {
 }
 
 impl DecodeAs for i32 {
-    fn from_value(_alloc: Global, value: &Lent<'_, '_>) -> Result<i32, ConvertError> {
+    fn from_value(_alloc: Global, value: &Lent<'_, '_>) -> Result<i32> {
         let n = signed_between(i32::MIN as i128, i32::MAX as i128, value)?;
         Ok(n as i32)
     }
@@ -193,7 +193,7 @@ impl Shown for i64 {
 }
 
 impl DecodeAs for i64 {
-    fn from_value(_alloc: Global, value: &Lent<'_, '_>) -> Result<i64, ConvertError> {
+    fn from_value(_alloc: Global, value: &Lent<'_, '_>) -> Result<i64> {
         let n = signed_between(i64::MIN as i128, i64::MAX as i128, value)?;
         Ok(n as i64)
     }
@@ -209,7 +209,7 @@ impl Shown for i128 {
 }
 
 impl DecodeAs for i128 {
-    fn from_value(_alloc: Global, value: &Lent<'_, '_>) -> Result<i128, ConvertError> {
+    fn from_value(_alloc: Global, value: &Lent<'_, '_>) -> Result<i128> {
         let n = signed_between(i128::MIN, i128::MAX, value)?;
         Ok(n)
     }
@@ -218,12 +218,7 @@ impl DecodeAs for i128 {
 impl EncodeAs for u8 {
     ghost value_at = { λ _ _ n. Some (dyn.Unsigned n) };
 
-    fn to_value<D: Definitions>(
-        &self,
-        _alloc: Global,
-        _table: &D,
-        _place: Place,
-    ) -> Result<Dyn, ConvertError> {
+    fn to_value<D: Definitions>(&self, _alloc: Global, _table: &D, _place: Place) -> Result<Dyn> {
         Ok(unsigned_value(u8::MAX as u128, *self as u128))
     }
 }
@@ -231,12 +226,7 @@ impl EncodeAs for u8 {
 impl EncodeAs for u16 {
     ghost value_at = { λ _ _ n. Some (dyn.Unsigned n) };
 
-    fn to_value<D: Definitions>(
-        &self,
-        _alloc: Global,
-        _table: &D,
-        _place: Place,
-    ) -> Result<Dyn, ConvertError> {
+    fn to_value<D: Definitions>(&self, _alloc: Global, _table: &D, _place: Place) -> Result<Dyn> {
         Ok(unsigned_value(u16::MAX as u128, *self as u128))
     }
 }
@@ -244,12 +234,7 @@ impl EncodeAs for u16 {
 impl EncodeAs for u32 {
     ghost value_at = { λ _ _ n. Some (dyn.Unsigned n) };
 
-    fn to_value<D: Definitions>(
-        &self,
-        _alloc: Global,
-        _table: &D,
-        _place: Place,
-    ) -> Result<Dyn, ConvertError> {
+    fn to_value<D: Definitions>(&self, _alloc: Global, _table: &D, _place: Place) -> Result<Dyn> {
         Ok(unsigned_value(u32::MAX as u128, *self as u128))
     }
 }
@@ -257,12 +242,7 @@ impl EncodeAs for u32 {
 impl EncodeAs for u64 {
     ghost value_at = { λ _ _ n. Some (dyn.Unsigned n) };
 
-    fn to_value<D: Definitions>(
-        &self,
-        _alloc: Global,
-        _table: &D,
-        _place: Place,
-    ) -> Result<Dyn, ConvertError> {
+    fn to_value<D: Definitions>(&self, _alloc: Global, _table: &D, _place: Place) -> Result<Dyn> {
         Ok(unsigned_value(u64::MAX as u128, *self as u128))
     }
 }
@@ -270,12 +250,7 @@ impl EncodeAs for u64 {
 impl EncodeAs for u128 {
     ghost value_at = { λ _ _ n. Some (dyn.Unsigned n) };
 
-    fn to_value<D: Definitions>(
-        &self,
-        _alloc: Global,
-        _table: &D,
-        _place: Place,
-    ) -> Result<Dyn, ConvertError> {
+    fn to_value<D: Definitions>(&self, _alloc: Global, _table: &D, _place: Place) -> Result<Dyn> {
         Ok(unsigned_value(u128::MAX, *self))
     }
 }
@@ -283,12 +258,7 @@ impl EncodeAs for u128 {
 impl EncodeAs for i8 {
     ghost value_at = { λ _ _ n. Some (dyn.Signed n) };
 
-    fn to_value<D: Definitions>(
-        &self,
-        _alloc: Global,
-        _table: &D,
-        _place: Place,
-    ) -> Result<Dyn, ConvertError> {
+    fn to_value<D: Definitions>(&self, _alloc: Global, _table: &D, _place: Place) -> Result<Dyn> {
         Ok(signed_value(i8::MIN as i128, i8::MAX as i128, *self as i128))
     }
 }
@@ -296,12 +266,7 @@ impl EncodeAs for i8 {
 impl EncodeAs for i16 {
     ghost value_at = { λ _ _ n. Some (dyn.Signed n) };
 
-    fn to_value<D: Definitions>(
-        &self,
-        _alloc: Global,
-        _table: &D,
-        _place: Place,
-    ) -> Result<Dyn, ConvertError> {
+    fn to_value<D: Definitions>(&self, _alloc: Global, _table: &D, _place: Place) -> Result<Dyn> {
         Ok(signed_value(i16::MIN as i128, i16::MAX as i128, *self as i128))
     }
 }
@@ -309,12 +274,7 @@ impl EncodeAs for i16 {
 impl EncodeAs for i32 {
     ghost value_at = { λ _ _ n. Some (dyn.Signed n) };
 
-    fn to_value<D: Definitions>(
-        &self,
-        _alloc: Global,
-        _table: &D,
-        _place: Place,
-    ) -> Result<Dyn, ConvertError> {
+    fn to_value<D: Definitions>(&self, _alloc: Global, _table: &D, _place: Place) -> Result<Dyn> {
         Ok(signed_value(i32::MIN as i128, i32::MAX as i128, *self as i128))
     }
 }
@@ -322,12 +282,7 @@ impl EncodeAs for i32 {
 impl EncodeAs for i64 {
     ghost value_at = { λ _ _ n. Some (dyn.Signed n) };
 
-    fn to_value<D: Definitions>(
-        &self,
-        _alloc: Global,
-        _table: &D,
-        _place: Place,
-    ) -> Result<Dyn, ConvertError> {
+    fn to_value<D: Definitions>(&self, _alloc: Global, _table: &D, _place: Place) -> Result<Dyn> {
         Ok(signed_value(i64::MIN as i128, i64::MAX as i128, *self as i128))
     }
 }
@@ -335,12 +290,7 @@ impl EncodeAs for i64 {
 impl EncodeAs for i128 {
     ghost value_at = { λ _ _ n. Some (dyn.Signed n) };
 
-    fn to_value<D: Definitions>(
-        &self,
-        _alloc: Global,
-        _table: &D,
-        _place: Place,
-    ) -> Result<Dyn, ConvertError> {
+    fn to_value<D: Definitions>(&self, _alloc: Global, _table: &D, _place: Place) -> Result<Dyn> {
         Ok(signed_value(i128::MIN, i128::MAX, *self))
     }
 }

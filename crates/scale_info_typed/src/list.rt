@@ -7,7 +7,7 @@ ghost use Rattle.scale_info_typed.specs.StandingValues.{list_at};
 
 use crate::decode::DecodeAs;
 use crate::encode::EncodeAs;
-use crate::error::ConvertError;
+use crate::error::{ConvertError, Result};
 use crate::place::Place;
 use crate::shown::Shown;
 use scale_info_collections::items::Items;
@@ -17,7 +17,7 @@ use scale_info_value::value::Dyn;
 use std::alloc::Global;
 
 /// The items of a list, each as a value of the type `T`.
-fn items<T: DecodeAs>(alloc: Global, value: &Lent<'_, '_>) -> Result<Items<T>, ConvertError>
+fn items<T: DecodeAs>(alloc: Global, value: &Lent<'_, '_>) -> Result<Items<T>>
     ensures ok { IfOk result (λ all. list T.meant (dyn_of value.now) ≡ Some (map T.seen all)) }
     ensures err { IfErr result (IsMissing (list T.meant (dyn_of value.now))) }
 {
@@ -40,7 +40,7 @@ fn list_value<T: EncodeAs, D: Definitions>(
     table: &D,
     place: Place,
     all: &[T],
-) -> Result<Dyn, ConvertError>
+) -> Result<Dyn>
     ensures ok { IfOk result
         (λ value. list_at T.value_at (D.table table.now) place all.now ≡ Some value) }
     ensures shown { IfOk result (λ value. list T.meant value ≡ Some (map T.seen all.now)) }
@@ -62,7 +62,7 @@ impl<T: Shown> Shown for Items<T> {
 }
 
 impl<T: DecodeAs> DecodeAs for Items<T> {
-    fn from_value(alloc: Global, value: &Lent<'_, '_>) -> Result<Items<T>, ConvertError> {
+    fn from_value(alloc: Global, value: &Lent<'_, '_>) -> Result<Items<T>> {
         items(alloc, value)
     }
 }
@@ -76,7 +76,7 @@ impl<T: Shown> Shown for Vec<T> {
 }
 
 impl<T: DecodeAs> DecodeAs for Vec<T> {
-    fn from_value(alloc: Global, value: &Lent<'_, '_>) -> Result<Vec<T>, ConvertError> {
+    fn from_value(alloc: Global, value: &Lent<'_, '_>) -> Result<Vec<T>> {
         Ok(items(alloc, value)?.into_vec())
     }
 }
@@ -90,7 +90,7 @@ impl<T: Shown, const N: usize> Shown for [T; N] {
 }
 
 impl<T: DecodeAs, const N: usize> DecodeAs for [T; N] {
-    fn from_value(alloc: Global, value: &Lent<'_, '_>) -> Result<[T; N], ConvertError> {
+    fn from_value(alloc: Global, value: &Lent<'_, '_>) -> Result<[T; N]> {
         let all: Vec<T> = items(alloc, value)?.into_vec();
         match <[T; N]>::try_from(all) {
             Ok(all) => Ok(all),
@@ -110,12 +110,7 @@ impl<T: Shown> Shown for &[T] {
 impl<T: EncodeAs> EncodeAs for Items<T> {
     ghost value_at = { list_at T.value_at };
 
-    fn to_value<D: Definitions>(
-        &self,
-        alloc: Global,
-        table: &D,
-        place: Place,
-    ) -> Result<Dyn, ConvertError> {
+    fn to_value<D: Definitions>(&self, alloc: Global, table: &D, place: Place) -> Result<Dyn> {
         list_value(alloc, table, place, self.as_slice())
     }
 }
@@ -123,12 +118,7 @@ impl<T: EncodeAs> EncodeAs for Items<T> {
 impl<T: EncodeAs> EncodeAs for Vec<T> {
     ghost value_at = { λ table place all. list_at T.value_at table place all.items };
 
-    fn to_value<D: Definitions>(
-        &self,
-        alloc: Global,
-        table: &D,
-        place: Place,
-    ) -> Result<Dyn, ConvertError> {
+    fn to_value<D: Definitions>(&self, alloc: Global, table: &D, place: Place) -> Result<Dyn> {
         list_value(alloc, table, place, self)
     }
 }
@@ -136,12 +126,7 @@ impl<T: EncodeAs> EncodeAs for Vec<T> {
 impl<T: EncodeAs, const N: usize> EncodeAs for [T; N] {
     ghost value_at = { list_at T.value_at };
 
-    fn to_value<D: Definitions>(
-        &self,
-        alloc: Global,
-        table: &D,
-        place: Place,
-    ) -> Result<Dyn, ConvertError> {
+    fn to_value<D: Definitions>(&self, alloc: Global, table: &D, place: Place) -> Result<Dyn> {
         list_value(alloc, table, place, self)
     }
 }
@@ -149,12 +134,7 @@ impl<T: EncodeAs, const N: usize> EncodeAs for [T; N] {
 impl<T: EncodeAs> EncodeAs for &[T] {
     ghost value_at = { λ table place all. list_at T.value_at table place all.now };
 
-    fn to_value<D: Definitions>(
-        &self,
-        alloc: Global,
-        table: &D,
-        place: Place,
-    ) -> Result<Dyn, ConvertError> {
+    fn to_value<D: Definitions>(&self, alloc: Global, table: &D, place: Place) -> Result<Dyn> {
         list_value(alloc, table, place, self)
     }
 }

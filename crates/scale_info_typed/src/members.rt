@@ -13,7 +13,7 @@ ghost use Rattle.scale_info_typed.specs.StandingValues.{AppendsValues, tuple_at}
 
 use crate::decode::DecodeAs;
 use crate::encode::EncodeAs;
-use crate::error::ConvertError;
+use crate::error::{ConvertError, Result};
 use crate::place::Place;
 use scale_info_collections::items::Items;
 use scale_info_lent::lent::Lent;
@@ -33,7 +33,7 @@ pub(crate) trait Members: Drop {
     ghost meant: { List Dyn → Option Seen };
 
     /// The items of a list from this index on, as members.
-    fn from_items(alloc: Global, value: &Lent<'_, '_>, index: usize) -> Result<Self, ConvertError>
+    fn from_items(alloc: Global, value: &Lent<'_, '_>, index: usize) -> Result<Self>
         ensures ok { IfOk result (λ own.
             option_and_then (λ all. meant (drop index all)) (items_in (dyn_of value.now))
             ≡ Some (seen own)) }
@@ -48,7 +48,7 @@ impl Members for () {
 
     ghost meant = { no_members };
 
-    fn from_items(_alloc: Global, value: &Lent<'_, '_>, index: usize) -> Result<(), ConvertError> {
+    fn from_items(_alloc: Global, value: &Lent<'_, '_>, index: usize) -> Result<()> {
         let Some(count) = value.len() else {
             return Err(ConvertError::Mismatch);
         };
@@ -66,11 +66,7 @@ impl<A: DecodeAs, B: Members> Members for (A, B) {
 
     ghost meant = { member_and A.meant B.meant };
 
-    fn from_items(
-        alloc: Global,
-        value: &Lent<'_, '_>,
-        index: usize,
-    ) -> Result<(A, B), ConvertError> {
+    fn from_items(alloc: Global, value: &Lent<'_, '_>, index: usize) -> Result<(A, B)> {
         let Some(count) = value.len() else {
             return Err(ConvertError::Mismatch);
         };
@@ -86,7 +82,7 @@ impl<A: DecodeAs, B: Members> Members for (A, B) {
 }
 
 /// The members of a tuple, which are all items of a list.
-pub(crate) fn tuple_of<M: Members>(alloc: Global, value: &Lent<'_, '_>) -> Result<M, ConvertError>
+pub(crate) fn tuple_of<M: Members>(alloc: Global, value: &Lent<'_, '_>) -> Result<M>
     ensures ok { IfOk result (λ all. tuple M.meant (dyn_of value.now) ≡ Some (M.seen all)) }
     ensures err { IfErr result (IsMissing (tuple M.meant (dyn_of value.now))) }
 {
@@ -115,7 +111,7 @@ pub(crate) trait MemberValues {
         table: &D,
         place: Place,
         values: &mut Items<Dyn>,
-    ) -> Result<(), ConvertError>
+    ) -> Result<()>
         ensures ok { OnOk result (AppendsValues
             (λ own. all_of (values_at (D.table table.now) place (length values.old) self.now)
             ≡ Some own)
@@ -141,7 +137,7 @@ impl MemberValues for () {
         _table: &D,
         _place: Place,
         _values: &mut Items<Dyn>,
-    ) -> Result<(), ConvertError> {
+    ) -> Result<()> {
         Ok(())
     }
 }
@@ -163,7 +159,7 @@ impl<A: EncodeAs, B: MemberValues> MemberValues for (&A, B) {
         table: &D,
         place: Place,
         values: &mut Items<Dyn>,
-    ) -> Result<(), ConvertError> {
+    ) -> Result<()> {
         let first = self
             .0
             .to_value(alloc, table, place.part(table, values.len()))?;
@@ -178,7 +174,7 @@ pub(crate) fn tuple_value<M: MemberValues, D: Definitions>(
     table: &D,
     place: Place,
     members: &M,
-) -> Result<Dyn, ConvertError>
+) -> Result<Dyn>
     ensures ok { IfOk result
         (λ value. tuple_at (M.values_at (D.table table.now) place 0 members.now) ≡ Some value) }
     ensures shown { IfOk result (λ value. tuple M.meant value ≡ Some (M.seen members.now)) }

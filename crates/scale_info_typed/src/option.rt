@@ -10,7 +10,7 @@ ghost use Rattle.scale_info_typed.specs.StandingValues.{optional_at, with_first,
 
 use crate::decode::DecodeAs;
 use crate::encode::EncodeAs;
-use crate::error::ConvertError;
+use crate::error::{ConvertError, Result};
 use crate::place::Place;
 use crate::shown::Shown;
 use scale_info_collections::items::Items;
@@ -59,7 +59,7 @@ fn held<'v, 't, 'i>(value: &'v Lent<'t, 'i>) -> Option<Option<&'v Lent<'t, 'i>>>
 }
 
 /// The variant `None` with no field.
-fn nothing<T: EncodeAs>(alloc: Global, variant: &Variant<PortableForm>) -> Result<Dyn, ConvertError>
+fn nothing<T: EncodeAs>(alloc: Global, variant: &Variant<PortableForm>) -> Result<Dyn>
     requires { variant.now.name ≡ codes "None" }
     ensures ok { IfOk result (λ value. value ≡ alone variant.now) }
     ensures shown { IfOk result (λ value. optional T.meant value ≡ Some None) }
@@ -98,7 +98,7 @@ fn something<T: EncodeAs, D: Definitions>(
     table: &D,
     variant: &Variant<PortableForm>,
     inner: &T,
-) -> Result<Dyn, ConvertError>
+) -> Result<Dyn>
     requires { variant.now.name ≡ codes "Some" }
     ensures ok { IfOk result (λ value.
         with_first T.value_at (D.table table.now) inner.now variant.now variant.now.fields
@@ -126,7 +126,7 @@ impl<T: Shown> Shown for Option<T> {
 }
 
 impl<T: DecodeAs> DecodeAs for Option<T> {
-    fn from_value(alloc: Global, value: &Lent<'_, '_>) -> Result<Option<T>, ConvertError> {
+    fn from_value(alloc: Global, value: &Lent<'_, '_>) -> Result<Option<T>> {
         match held(value) {
             Some(Some(inner)) => Ok(Some(T::from_value(alloc, inner)?)),
             Some(None) => Ok(None),
@@ -138,12 +138,7 @@ impl<T: DecodeAs> DecodeAs for Option<T> {
 impl<T: EncodeAs> EncodeAs for Option<T> {
     ghost value_at = { optional_at T.value_at };
 
-    fn to_value<D: Definitions>(
-        &self,
-        alloc: Global,
-        table: &D,
-        place: Place,
-    ) -> Result<Dyn, ConvertError> {
+    fn to_value<D: Definitions>(&self, alloc: Global, table: &D, place: Place) -> Result<Dyn> {
         match self {
             None => match place.variant(table, "None") {
                 Some(variant) => nothing::<T>(alloc, variant),

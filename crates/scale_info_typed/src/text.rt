@@ -6,7 +6,7 @@ ghost use Rattle.scale_info_typed.specs.declared.error.ConvertError.TheVariants 
 
 use crate::decode::DecodeAs;
 use crate::encode::EncodeAs;
-use crate::error::ConvertError;
+use crate::error::{ConvertError, Result};
 use crate::place::Place;
 use crate::shown::Shown;
 use scale_info_collections::text::Text;
@@ -16,7 +16,7 @@ use scale_info_value::value::Dyn;
 use std::alloc::Global;
 
 /// The text as a value.
-fn text_value(alloc: Global, chars: &str) -> Result<Dyn, ConvertError>
+fn text_value(alloc: Global, chars: &str) -> Result<Dyn>
     ensures value { IfOk result (λ value. value ≡ dyn.Text chars.now) }
     ensures shown { IfOk result (λ value. text_in value ≡ Some chars.now) }
     ensures err { IfErr result (λ e. e ≡ convert.Memory) }
@@ -33,7 +33,7 @@ impl Shown for bool {
 }
 
 impl DecodeAs for bool {
-    fn from_value(_alloc: Global, value: &Lent<'_, '_>) -> Result<bool, ConvertError> {
+    fn from_value(_alloc: Global, value: &Lent<'_, '_>) -> Result<bool> {
         match value.as_bool() {
             Some(truth) => Ok(truth),
             None => Err(ConvertError::Mismatch),
@@ -50,7 +50,7 @@ impl Shown for Text {
 }
 
 impl DecodeAs for Text {
-    fn from_value(alloc: Global, value: &Lent<'_, '_>) -> Result<Text, ConvertError> {
+    fn from_value(alloc: Global, value: &Lent<'_, '_>) -> Result<Text> {
         match value.as_str() {
             Some(chars) => Ok(Text::from_str(alloc, chars)?),
             None => Err(ConvertError::Mismatch),
@@ -67,7 +67,7 @@ impl Shown for String {
 }
 
 impl DecodeAs for String {
-    fn from_value(alloc: Global, value: &Lent<'_, '_>) -> Result<String, ConvertError> {
+    fn from_value(alloc: Global, value: &Lent<'_, '_>) -> Result<String> {
         Ok(Text::from_value(alloc, value)?.into_string())
     }
 }
@@ -83,12 +83,7 @@ impl Shown for &str {
 impl EncodeAs for bool {
     ghost value_at = { λ _ _ b. Some (dyn.Bool b) };
 
-    fn to_value<D: Definitions>(
-        &self,
-        _alloc: Global,
-        _table: &D,
-        _place: Place,
-    ) -> Result<Dyn, ConvertError> {
+    fn to_value<D: Definitions>(&self, _alloc: Global, _table: &D, _place: Place) -> Result<Dyn> {
         Ok(Dyn::Bool(*self))
     }
 }
@@ -96,12 +91,7 @@ impl EncodeAs for bool {
 impl EncodeAs for Text {
     ghost value_at = { λ _ _ t. Some (dyn.Text t) };
 
-    fn to_value<D: Definitions>(
-        &self,
-        alloc: Global,
-        _table: &D,
-        _place: Place,
-    ) -> Result<Dyn, ConvertError> {
+    fn to_value<D: Definitions>(&self, alloc: Global, _table: &D, _place: Place) -> Result<Dyn> {
         text_value(alloc, self.as_str())
     }
 }
@@ -109,12 +99,7 @@ impl EncodeAs for Text {
 impl EncodeAs for String {
     ghost value_at = { λ _ _ t. Some (dyn.Text (string_bytes t)) };
 
-    fn to_value<D: Definitions>(
-        &self,
-        alloc: Global,
-        _table: &D,
-        _place: Place,
-    ) -> Result<Dyn, ConvertError> {
+    fn to_value<D: Definitions>(&self, alloc: Global, _table: &D, _place: Place) -> Result<Dyn> {
         text_value(alloc, self)
     }
 }
@@ -122,12 +107,7 @@ impl EncodeAs for String {
 impl EncodeAs for &str {
     ghost value_at = { λ _ _ t. Some (dyn.Text t.now) };
 
-    fn to_value<D: Definitions>(
-        &self,
-        alloc: Global,
-        _table: &D,
-        _place: Place,
-    ) -> Result<Dyn, ConvertError> {
+    fn to_value<D: Definitions>(&self, alloc: Global, _table: &D, _place: Place) -> Result<Dyn> {
         text_value(alloc, self)
     }
 }

@@ -6,7 +6,7 @@ ghost use Rattle.scale_info_typed.specs.StandingValues.{tuple_at};
 
 use crate::decode::DecodeAs;
 use crate::encode::EncodeAs;
-use crate::error::ConvertError;
+use crate::error::Result;
 use crate::members::{tuple_of, tuple_value};
 use crate::place::Place;
 use crate::shown::Shown;
@@ -24,7 +24,7 @@ impl Shown for () {
 }
 
 impl DecodeAs for () {
-    fn from_value(alloc: Global, value: &Lent<'_, '_>) -> Result<(), ConvertError> {
+    fn from_value(alloc: Global, value: &Lent<'_, '_>) -> Result<()> {
         tuple_of(alloc, value)
     }
 }
@@ -32,12 +32,7 @@ impl DecodeAs for () {
 impl EncodeAs for () {
     ghost value_at = { λ _ _ _. tuple_at [] };
 
-    fn to_value<T: Definitions>(
-        &self,
-        alloc: Global,
-        table: &T,
-        place: Place,
-    ) -> Result<Dyn, ConvertError> {
+    fn to_value<T: Definitions>(&self, alloc: Global, table: &T, place: Place) -> Result<Dyn> {
         tuple_value(alloc, table, place, &())
     }
 }
@@ -51,7 +46,7 @@ impl<A: Shown> Shown for (A,) {
 }
 
 impl<A: DecodeAs> DecodeAs for (A,) {
-    fn from_value(alloc: Global, value: &Lent<'_, '_>) -> Result<(A,), ConvertError> {
+    fn from_value(alloc: Global, value: &Lent<'_, '_>) -> Result<(A,)> {
         let (a, ()) = tuple_of::<(A, ())>(alloc, value)?;
         Ok((a,))
     }
@@ -61,12 +56,7 @@ impl<A: EncodeAs> EncodeAs for (A,) {
     ghost value_at = { λ table place t. tuple_at (A.value_at table (part_at table place 0) t.0 ∷
         []) };
 
-    fn to_value<T: Definitions>(
-        &self,
-        alloc: Global,
-        table: &T,
-        place: Place,
-    ) -> Result<Dyn, ConvertError> {
+    fn to_value<T: Definitions>(&self, alloc: Global, table: &T, place: Place) -> Result<Dyn> {
         tuple_value(alloc, table, place, &(&self.0, ()))
     }
 }
@@ -80,7 +70,7 @@ impl<A: Shown, B: Shown> Shown for (A, B) {
 }
 
 impl<A: DecodeAs, B: DecodeAs> DecodeAs for (A, B) {
-    fn from_value(alloc: Global, value: &Lent<'_, '_>) -> Result<(A, B), ConvertError> {
+    fn from_value(alloc: Global, value: &Lent<'_, '_>) -> Result<(A, B)> {
         let (a, (b, ())) = tuple_of::<(A, (B, ()))>(alloc, value)?;
         Ok((a, b))
     }
@@ -90,12 +80,7 @@ impl<A: EncodeAs, B: EncodeAs> EncodeAs for (A, B) {
     ghost value_at = { λ table place t. tuple_at (A.value_at table (part_at table place 0) t.0 ∷
         B.value_at table (part_at table place 1) t.1 ∷ []) };
 
-    fn to_value<T: Definitions>(
-        &self,
-        alloc: Global,
-        table: &T,
-        place: Place,
-    ) -> Result<Dyn, ConvertError> {
+    fn to_value<T: Definitions>(&self, alloc: Global, table: &T, place: Place) -> Result<Dyn> {
         tuple_value(alloc, table, place, &(&self.0, (&self.1, ())))
     }
 }
@@ -110,7 +95,7 @@ impl<A: Shown, B: Shown, C: Shown> Shown for (A, B, C) {
 }
 
 impl<A: DecodeAs, B: DecodeAs, C: DecodeAs> DecodeAs for (A, B, C) {
-    fn from_value(alloc: Global, value: &Lent<'_, '_>) -> Result<(A, B, C), ConvertError> {
+    fn from_value(alloc: Global, value: &Lent<'_, '_>) -> Result<(A, B, C)> {
         let (a, (b, (c, ()))) = tuple_of::<(A, (B, (C, ())))>(alloc, value)?;
         Ok((a, b, c))
     }
@@ -121,12 +106,7 @@ impl<A: EncodeAs, B: EncodeAs, C: EncodeAs> EncodeAs for (A, B, C) {
         B.value_at table (part_at table place 1) t.1 ∷ C.value_at table (part_at table place 2)
         t.2 ∷ []) };
 
-    fn to_value<T: Definitions>(
-        &self,
-        alloc: Global,
-        table: &T,
-        place: Place,
-    ) -> Result<Dyn, ConvertError> {
+    fn to_value<T: Definitions>(&self, alloc: Global, table: &T, place: Place) -> Result<Dyn> {
         tuple_value(alloc, table, place, &(&self.0, (&self.1, (&self.2, ()))))
     }
 }
@@ -141,7 +121,7 @@ impl<A: Shown, B: Shown, C: Shown, D: Shown> Shown for (A, B, C, D) {
 }
 
 impl<A: DecodeAs, B: DecodeAs, C: DecodeAs, D: DecodeAs> DecodeAs for (A, B, C, D) {
-    fn from_value(alloc: Global, value: &Lent<'_, '_>) -> Result<(A, B, C, D), ConvertError> {
+    fn from_value(alloc: Global, value: &Lent<'_, '_>) -> Result<(A, B, C, D)> {
         let (a, (b, (c, (d, ())))) = tuple_of::<(A, (B, (C, (D, ()))))>(alloc, value)?;
         Ok((a, b, c, d))
     }
@@ -152,12 +132,7 @@ impl<A: EncodeAs, B: EncodeAs, C: EncodeAs, D: EncodeAs> EncodeAs for (A, B, C, 
         B.value_at table (part_at table place 1) t.1 ∷ C.value_at table (part_at table place 2)
         t.2 ∷ D.value_at table (part_at table place 3) t.3 ∷ []) };
 
-    fn to_value<T: Definitions>(
-        &self,
-        alloc: Global,
-        table: &T,
-        place: Place,
-    ) -> Result<Dyn, ConvertError> {
+    fn to_value<T: Definitions>(&self, alloc: Global, table: &T, place: Place) -> Result<Dyn> {
         tuple_value(
             alloc,
             table,
@@ -177,7 +152,7 @@ impl<A: Shown, B: Shown, C: Shown, D: Shown, E: Shown> Shown for (A, B, C, D, E)
 }
 
 impl<A: DecodeAs, B: DecodeAs, C: DecodeAs, D: DecodeAs, E: DecodeAs> DecodeAs for (A, B, C, D, E) {
-    fn from_value(alloc: Global, value: &Lent<'_, '_>) -> Result<(A, B, C, D, E), ConvertError> {
+    fn from_value(alloc: Global, value: &Lent<'_, '_>) -> Result<(A, B, C, D, E)> {
         let (a, (b, (c, (d, (e, ()))))) = tuple_of::<(A, (B, (C, (D, (E, ())))))>(alloc, value)?;
         Ok((a, b, c, d, e))
     }
@@ -189,12 +164,7 @@ impl<A: EncodeAs, B: EncodeAs, C: EncodeAs, D: EncodeAs, E: EncodeAs> EncodeAs f
         t.2 ∷ D.value_at table (part_at table place 3) t.3 ∷ E.value_at table (part_at table place
         4) t.4 ∷ []) };
 
-    fn to_value<T: Definitions>(
-        &self,
-        alloc: Global,
-        table: &T,
-        place: Place,
-    ) -> Result<Dyn, ConvertError> {
+    fn to_value<T: Definitions>(&self, alloc: Global, table: &T, place: Place) -> Result<Dyn> {
         tuple_value(
             alloc,
             table,
@@ -234,7 +204,7 @@ impl<A: Shown, B: Shown, C: Shown, D: Shown, E: Shown, F: Shown> Shown for (A, B
 
 impl<A: DecodeAs, B: DecodeAs, C: DecodeAs, D: DecodeAs, E: DecodeAs, F: DecodeAs> DecodeAs
     for (A, B, C, D, E, F) {
-    fn from_value(alloc: Global, value: &Lent<'_, '_>) -> Result<(A, B, C, D, E, F), ConvertError> {
+    fn from_value(alloc: Global, value: &Lent<'_, '_>) -> Result<(A, B, C, D, E, F)> {
         let (a, (b, (c, (d, (e, (f, ())))))) = tuple_of::<(A, (B, (C, (D, (E, (F, ()))))))>(
             alloc, value,
         )?;
@@ -249,12 +219,7 @@ impl<A: EncodeAs, B: EncodeAs, C: EncodeAs, D: EncodeAs, E: EncodeAs, F: EncodeA
         t.2 ∷ D.value_at table (part_at table place 3) t.3 ∷ E.value_at table (part_at table place
         4) t.4 ∷ F.value_at table (part_at table place 5) t.5 ∷ []) };
 
-    fn to_value<T: Definitions>(
-        &self,
-        alloc: Global,
-        table: &T,
-        place: Place,
-    ) -> Result<Dyn, ConvertError> {
+    fn to_value<T: Definitions>(&self, alloc: Global, table: &T, place: Place) -> Result<Dyn> {
         tuple_value(
             alloc,
             table,
@@ -306,10 +271,7 @@ impl<
     F: DecodeAs,
     G: DecodeAs,
 > DecodeAs for (A, B, C, D, E, F, G) {
-    fn from_value(
-        alloc: Global,
-        value: &Lent<'_, '_>,
-    ) -> Result<(A, B, C, D, E, F, G), ConvertError> {
+    fn from_value(alloc: Global, value: &Lent<'_, '_>) -> Result<(A, B, C, D, E, F, G)> {
         let (a, (b, (c, (d, (e, (f, (g, ()))))))) = tuple_of::<
             (A, (B, (C, (D, (E, (F, (G, ()))))))),
         >(alloc, value)?;
@@ -332,12 +294,7 @@ impl<
         4) t.4 ∷ F.value_at table (part_at table place 5) t.5 ∷ G.value_at table (part_at table
         place 6) t.6 ∷ []) };
 
-    fn to_value<T: Definitions>(
-        &self,
-        alloc: Global,
-        table: &T,
-        place: Place,
-    ) -> Result<Dyn, ConvertError> {
+    fn to_value<T: Definitions>(&self, alloc: Global, table: &T, place: Place) -> Result<Dyn> {
         tuple_value(
             alloc,
             table,
@@ -394,10 +351,7 @@ impl<
     G: DecodeAs,
     H: DecodeAs,
 > DecodeAs for (A, B, C, D, E, F, G, H) {
-    fn from_value(
-        alloc: Global,
-        value: &Lent<'_, '_>,
-    ) -> Result<(A, B, C, D, E, F, G, H), ConvertError> {
+    fn from_value(alloc: Global, value: &Lent<'_, '_>) -> Result<(A, B, C, D, E, F, G, H)> {
         let (a, (b, (c, (d, (e, (f, (g, (h, ())))))))) = tuple_of::<
             (A, (B, (C, (D, (E, (F, (G, (H, ())))))))),
         >(alloc, value)?;
@@ -421,12 +375,7 @@ impl<
         4) t.4 ∷ F.value_at table (part_at table place 5) t.5 ∷ G.value_at table (part_at table
         place 6) t.6 ∷ H.value_at table (part_at table place 7) t.7 ∷ []) };
 
-    fn to_value<T: Definitions>(
-        &self,
-        alloc: Global,
-        table: &T,
-        place: Place,
-    ) -> Result<Dyn, ConvertError> {
+    fn to_value<T: Definitions>(&self, alloc: Global, table: &T, place: Place) -> Result<Dyn> {
         tuple_value(
             alloc,
             table,
@@ -487,10 +436,7 @@ impl<
     H: DecodeAs,
     I: DecodeAs,
 > DecodeAs for (A, B, C, D, E, F, G, H, I) {
-    fn from_value(
-        alloc: Global,
-        value: &Lent<'_, '_>,
-    ) -> Result<(A, B, C, D, E, F, G, H, I), ConvertError> {
+    fn from_value(alloc: Global, value: &Lent<'_, '_>) -> Result<(A, B, C, D, E, F, G, H, I)> {
         let (a, (b, (c, (d, (e, (f, (g, (h, (i, ()))))))))) = tuple_of::<
             (A, (B, (C, (D, (E, (F, (G, (H, (I, ()))))))))),
         >(alloc, value)?;
@@ -551,10 +497,7 @@ impl<
     I: DecodeAs,
     J: DecodeAs,
 > DecodeAs for (A, B, C, D, E, F, G, H, I, J) {
-    fn from_value(
-        alloc: Global,
-        value: &Lent<'_, '_>,
-    ) -> Result<(A, B, C, D, E, F, G, H, I, J), ConvertError> {
+    fn from_value(alloc: Global, value: &Lent<'_, '_>) -> Result<(A, B, C, D, E, F, G, H, I, J)> {
         let (a, (b, (c, (d, (e, (f, (g, (h, (i, (j, ())))))))))) = tuple_of::<
             (A, (B, (C, (D, (E, (F, (G, (H, (I, (J, ())))))))))),
         >(alloc, value)?;
@@ -620,7 +563,7 @@ impl<
     fn from_value(
         alloc: Global,
         value: &Lent<'_, '_>,
-    ) -> Result<(A, B, C, D, E, F, G, H, I, J, K), ConvertError> {
+    ) -> Result<(A, B, C, D, E, F, G, H, I, J, K)> {
         let (a, (b, (c, (d, (e, (f, (g, (h, (i, (j, (k, ()))))))))))) = tuple_of::<
             (A, (B, (C, (D, (E, (F, (G, (H, (I, (J, (K, ()))))))))))),
         >(alloc, value)?;
@@ -707,7 +650,7 @@ impl<
     fn from_value(
         alloc: Global,
         value: &Lent<'_, '_>,
-    ) -> Result<(A, B, C, D, E, F, G, H, I, J, K, L), ConvertError> {
+    ) -> Result<(A, B, C, D, E, F, G, H, I, J, K, L)> {
         let (a, (b, (c, (d, (e, (f, (g, (h, (i, (j, (k, (l, ())))))))))))) = tuple_of::<
             (A, (B, (C, (D, (E, (F, (G, (H, (I, (J, (K, (L, ())))))))))))),
         >(alloc, value)?;
