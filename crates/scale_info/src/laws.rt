@@ -103,7 +103,6 @@ pub use scale_info_value::laws::reads_alike;
 pub use scale_info_value::laws::texts_as_in_tables;
 pub use scale_info_value::laws::unfolding_decides;
 pub use scale_info_value_json::laws::encoded_text_taken_back;
-pub use scale_info_value_json::laws::equal_tree_refusals;
 pub use scale_info_value_json::laws::equal_value_json_errors;
 pub use scale_info_value_json::laws::json_and_bytes;
 pub use scale_info_value_json::laws::one_tree;

@@ -19,8 +19,7 @@ use Rattle.scale_info_value.specs.declared.value.Dyn.{Dyn}
 use Rattle.scale_info_value.specs.declared.value.Dyn.TheVariants as dyn
 use Rattle.scale_info_value.specs.Readings.{type_at, value_at, compact_at, compact_defined_at}
 use Rattle.scale_info_visit.specs.Events.{definition_at, is_byte, names}
-use Rattle.scale_info_value_json.specs.declared.error.TreeRefusal.{TreeRefusal}
-use Rattle.scale_info_value_json.specs.Takers.{taken, refused, mismatch, too_deep, taken_map, if_found}
+use Rattle.scale_info_value_json.specs.Takers.{Refusal, taken, refused, mismatch, too_deep, taken_map, if_found}
 use Rattle.scale_info_value_json.specs.TreeParts.{bytes_in, list_in, items_in, is_object_of, without_prefix}
 use Rattle.scale_info_value_json.specs.DefinitionTakers.{Takers, value_by, each, counted, compact_field}
 use Rattle.scale_info_value_json.specs.Takings.{takings, part_within, items_within, is_count_of}
@@ -89,7 +88,7 @@ module _ (left : ℕ) (table : PortableRegistry) (ty : Id) (count : Option ℕ) 
 
   -- a text that writes none is refused
   pub no_bytes :
-      (why : TreeRefusal) → if_found (bytes_in text) taken ≡ refused why → items_within left table ty count (string text) ≡ refused why
+      (why : Refusal) → if_found (bytes_in text) taken ≡ refused why → items_within left table ty count (string text) ≡ refused why
   no_bytes why e = by_bytes (bytes_in text) refl e
     where
       by_bytes :

@@ -4,11 +4,9 @@ use Rattle.std.proofs.Common.{Result, Ok, Err}
 use Rattle.std.proofs.lemmas.List.{append-nil}
 use Rattle.std.specs.Prelude.{IfErr}
 use Rattle.std.specs.Result.{IsErrAnd}
-use Rattle.scale_info_value_json.specs.declared.error.TreeRefusal.{TreeRefusal}
-use Rattle.scale_info_value_json.specs.declared.error.TreeRefusal.TheVariants as refusal
 use Rattle.scale_info_value_json.specs.declared.error.ValueJsonError.{ValueJsonError}
 use Rattle.scale_info_value_json.specs.declared.error.ValueJsonError.TheVariants as error
-use Rattle.scale_info_value_json.specs.Takers.{Taken, taken, refused, taken_map, and_then, IsErrorOf, error_of}
+use Rattle.scale_info_value_json.specs.Takers.{Refusal, Taken, taken, refused, taken_map, and_then, IsErrorOf}
 
 -- what is taken, where these values come before
 abbrev pub preceded : {A : Type 0} → List A → Taken (List A) → Taken (List A)
@@ -52,13 +50,13 @@ pub ends : {A : Type 0} (whole left : Taken (List A)) (done : List A) → SoFar 
 ends whole left done s e = s.is ∙ ap (preceded done) e ∙ ap taken (append-nil done)
 
 -- a refusal of what is left is one of the whole
-pub stops : {A : Type 0} (whole left : Taken (List A)) (done : List A) (why : TreeRefusal) → SoFar whole left done → left ≡ refused why → whole ≡ refused why
+pub stops : {A : Type 0} (whole left : Taken (List A)) (done : List A) (why : Refusal) → SoFar whole left done → left ≡ refused why → whole ≡ refused why
 stops whole left done why s e = s.is ∙ ap (preceded done) e
 
 -- an error of a part is one of the whole, where its refusal is
 pub passes :
     {A B : Type 0} (part : Taken A) (whole : Taken B) (e : ValueJsonError)
-    → ((why : TreeRefusal) → part ≡ refused why → whole ≡ refused why) → IsErrorOf part e → IsErrorOf whole e
+    → ((why : Refusal) → part ≡ refused why → whole ≡ refused why) → IsErrorOf part e → IsErrorOf whole e
 passes part whole error.Memory f h = tt
 passes part whole _ f h = f _ h
 
@@ -68,11 +66,6 @@ pub fails :
     → SoFar whole left done → left ≡ then_more first more → IsErrorOf first e → IsErrorOf whole e
 fails whole left more first done e s is h =
     passes first whole e (λ why r. stops whole left done why s (is ∙ ap (λ o. then_more o more) r)) h
-
--- a refusal is the error that it becomes
-refused_as : {A : Type 0} (whole : Taken A) (why : TreeRefusal) → whole ≡ refused why → IsErrorOf whole (error_of why)
-refused_as whole refusal.Mismatch e = e
-refused_as whole _ e = e
 
 -- what holds of an error that is passed on
 pub passed_on : {X E : Type 0} (r : Result X E) (e : E) (P : E → Type 0) → IsErrAnd r (λ d. d ≡ e) → P e → IfErr r P
@@ -84,9 +77,3 @@ pub passed :
     {A X : Type 0} (r : Result X ValueJsonError) (e : ValueJsonError) (whole : Taken A) → IsErrAnd r (λ d. d ≡ e)
     → IsErrorOf whole e → IfErr r (IsErrorOf whole)
 passed r e whole h p = passed_on r e (IsErrorOf whole) h p
-
--- a refusal that is passed on as an error
-pub passed_as :
-    {A X : Type 0} (r : Result X ValueJsonError) (why : TreeRefusal) (whole : Taken A)
-    → IsErrAnd r (λ d. d ≡ error_of why) → whole ≡ refused why → IfErr r (IsErrorOf whole)
-passed_as r why whole h e = passed r (error_of why) whole h (refused_as whole why e)

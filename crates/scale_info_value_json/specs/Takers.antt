@@ -1,31 +1,21 @@
 -- What comes of taking a value from a tree. A tree is what `serde_json` shows of a `Value`.
 use Rattle.std.specs.Prelude.{◌≡◌, List, [], ◌∷◌, Option, Some, None}
 use Rattle.serde_json.specs.Data.{Data}
-use Rattle.scale_info_value_json.specs.declared.error.TreeRefusal.{TreeRefusal}
-use Rattle.scale_info_value_json.specs.declared.error.TreeRefusal.TheVariants as refusal
 use Rattle.scale_info_value_json.specs.declared.error.ValueJsonError.{ValueJsonError}
 use Rattle.scale_info_value_json.specs.declared.error.ValueJsonError.TheVariants as error
 
--- an id is no index of the table
-abbrev pub no_such_type : TreeRefusal
-no_such_type = refusal.NoSuchType
-
--- values of a type are not taken
-abbrev pub unsupported : TreeRefusal
-unsupported = refusal.Unsupported
-
--- a value is more than 128 deep
-abbrev pub too_deep : TreeRefusal
-too_deep = refusal.TooDeep
-
--- the tree is no value of the type
-abbrev pub mismatch : TreeRefusal
-mismatch = refusal.Mismatch
+-- Why no value is taken from a tree: an id is no index of the table, values of a type are not
+-- taken, a value is more than 128 deep, or the tree is no value of the type.
+pub data Refusal : Type 0 where
+  no_such_type : Refusal
+  unsupported : Refusal
+  too_deep : Refusal
+  mismatch : Refusal
 
 -- what was taken from a tree, or why nothing was
 pub data Taken (A : Type 0) : Type 0 where
   taken : A → Taken A
-  refused : TreeRefusal → Taken A
+  refused : Refusal → Taken A
 
 -- what comes of each tree
 abbrev pub Taker : Type 0 → Type 0
@@ -68,10 +58,3 @@ IsErrorOf outcome error.Unsupported = outcome ≡ refused unsupported
 IsErrorOf outcome error.TooDeep = outcome ≡ refused too_deep
 IsErrorOf outcome error.Mismatch = outcome ≡ refused mismatch
 IsErrorOf outcome error.Memory = Unit {0}
-
--- the refusal as an error
-abbrev pub error_of : TreeRefusal → ValueJsonError
-error_of refusal.NoSuchType = error.NoSuchType
-error_of refusal.Unsupported = error.Unsupported
-error_of refusal.TooDeep = error.TooDeep
-error_of refusal.Mismatch = error.Mismatch

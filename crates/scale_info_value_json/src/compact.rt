@@ -1,14 +1,15 @@
 //! Compact integers, by the type that they are compact forms of.
-ghost use Rattle.std.specs.Prelude.{◌≡◌, IfOk, IfErr};
+ghost use Rattle.std.specs.Prelude.{◌≡◌, ◌≢◌, IfOk, IfErr};
 ghost use Rattle.serde_json.specs.Data.{Data};
 ghost use Rattle.serde_json.specs.View.{view};
 ghost use Rattle.scale_info_value.specs.Readings.{compact_at};
-ghost use Rattle.scale_info_value_json.specs.Takers.{IsErrorOf, taken, refused};
+ghost use Rattle.scale_info_value_json.specs.declared.error.ValueJsonError.TheVariants as error;
+ghost use Rattle.scale_info_value_json.specs.Takers.{IsErrorOf, taken};
 ghost use Rattle.scale_info_value_json.specs.DefinitionTakers.{compact_primitive};
 ghost use Rattle.scale_info_value_json.specs.Takings.{takings};
 
 use crate::definition::definition_of;
-use crate::error::{TreeRefusal, ValueJsonError};
+use crate::error::ValueJsonError;
 use crate::primitive::unsigned;
 use scale_info_tables::portable::PortableRegistry;
 use scale_info_types::ty::{TypeDef, TypeDefPrimitive};
@@ -41,19 +42,20 @@ pub fn compact_kind(
     table: &PortableRegistry,
     id: u32,
     left: u8,
-) -> Result<&TypeDefPrimitive, TreeRefusal>
+) -> Result<&TypeDefPrimitive, ValueJsonError>
     ensures ok { IfOk result (λ kind. (tree : Data)
         → compact_at takings left table.now id tree ≡ compact_primitive kind.now tree) }
     ensures err { IfErr result (λ why. (tree : Data)
-        → compact_at takings left table.now id tree ≡ refused why) }
+        → IsErrorOf (compact_at takings left table.now id tree) why) }
+    ensures not_memory { IfErr result (λ why. why ≢ error.Memory) }
 {
     let definition = definition_of(table, id, left)?;
     match definition {
         TypeDef::Composite(composite) => match composite.fields.as_slice() {
             [field] => compact_kind(table, field.ty.id, left - 1),
-            _ => Err(TreeRefusal::Unsupported),
+            _ => Err(ValueJsonError::Unsupported),
         },
         TypeDef::Primitive(kind) => Ok(kind),
-        _ => Err(TreeRefusal::Unsupported),
+        _ => Err(ValueJsonError::Unsupported),
     }
 }

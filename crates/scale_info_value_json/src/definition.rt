@@ -1,13 +1,14 @@
 //! The definitions that ids stand for.
-ghost use Rattle.std.specs.Prelude.{◌≡◌, ◌≤◌, IfOk, IfErr};
+ghost use Rattle.std.specs.Prelude.{◌≡◌, ◌≢◌, ◌≤◌, IfOk, IfErr};
 ghost use Rattle.serde_json.specs.Data.{Data};
 ghost use Rattle.scale_info_visit.specs.Events.{definition_at, is_byte};
 ghost use Rattle.scale_info_value.specs.Readings.{value_at, defined_at};
 ghost use Rattle.scale_info_value.specs.Readings.{compact_at, compact_defined_at};
-ghost use Rattle.scale_info_value_json.specs.Takers.{refused};
+ghost use Rattle.scale_info_value_json.specs.declared.error.ValueJsonError.TheVariants as error;
+ghost use Rattle.scale_info_value_json.specs.Takers.{IsErrorOf};
 ghost use Rattle.scale_info_value_json.specs.Takings.{takings};
 
-use crate::error::TreeRefusal;
+use crate::error::ValueJsonError;
 use scale_info_tables::portable::PortableRegistry;
 use scale_info_types::form::PortableForm;
 use scale_info_types::ty::{TypeDef, TypeDefPrimitive};
@@ -20,7 +21,7 @@ pub fn definition_of(
     table: &PortableRegistry,
     id: u32,
     left: u8,
-) -> Result<&TypeDef<PortableForm>, TreeRefusal>
+) -> Result<&TypeDef<PortableForm>, ValueJsonError>
     ensures level { IfOk result (λ _. 1 ≤ left) }
     ensures known { IfOk result (λ found. (tree : Data)
         → (value_at takings left table.now id tree
@@ -28,14 +29,15 @@ pub fn definition_of(
         × (compact_at takings left table.now id tree
         ≡ compact_defined_at takings left table.now found.now tree)) }
     ensures unknown { IfErr result (λ why. (tree : Data)
-        → (value_at takings left table.now id tree ≡ refused why)
-        × (compact_at takings left table.now id tree ≡ refused why)) }
+        → IsErrorOf (value_at takings left table.now id tree) why
+        × IsErrorOf (compact_at takings left table.now id tree) why) }
+    ensures not_memory { IfErr result (λ why. why ≢ error.Memory) }
 {
     if left == 0 {
-        return Err(TreeRefusal::TooDeep);
+        return Err(ValueJsonError::TooDeep);
     }
     match table.resolve(id) {
-        None => Err(TreeRefusal::NoSuchType),
+        None => Err(ValueJsonError::NoSuchType),
         Some(ty) => Ok(&ty.type_def),
     }
 }

@@ -21,7 +21,7 @@ ghost use Rattle.scale_info_value_text.specs.ValueTexts.{value_text};
 
 pub mod examples;
 
-use crate::error::{TreeRefusal, ValueJsonError};
+use crate::error::ValueJsonError;
 
 /// The tree of the text of a value that was decoded is taken as that value, where each name comes
 /// once among the fields of each record and of each variant in it.
@@ -77,9 +77,4 @@ pub fn taken_is_encoded()
 /// Errors of taking values are equal exactly where they are one value.
 pub fn equal_value_json_errors()
     ensures { DecidesValues ⟦<ValueJsonError as PartialEq>⟧.eq }
-{}
-
-/// Refusals of trees are equal exactly where they are one value.
-pub fn equal_tree_refusals()
-    ensures { DecidesValues ⟦<TreeRefusal as PartialEq>⟧.eq }
 {}

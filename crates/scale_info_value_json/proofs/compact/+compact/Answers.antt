@@ -1,7 +1,18 @@
-use Rattle.std.proofs.Common.{◌∙◌}
+use Rattle.std.proofs.Common.{◌∙◌, subst, sym}
 use Rattle.std.proofs.lemmas.Result.{IfOk-weaker, IfErr-weaker}
+use Rattle.serde_json.specs.Data.{Data}
+use Rattle.scale_info_value.specs.Readings.{compact_at}
+use Rattle.scale_info_value_json.specs.Takers.{IsErrorOf}
+use Rattle.scale_info_value_json.specs.Takings.{takings}
 use Rattle.scale_info_value_json.proofs.OneLevel.{compact_of_field}
+use Rattle.scale_info_value_json.proofs.SoFar.{passed_on}
 use Rattle.scale_info_value_json.proofs.compact.+compact.Goals as goal
+
+pub returns-in_err-definition-clause-err : goal.returns-in_err-definition-clause-err
+returns-in_err-definition-clause-err t c =
+    passed_on c.from_residual.result c.in_err-definition.field-0.0
+    (λ why. (tree : Data) → IsErrorOf (compact_at takings c.args.left c.args.table.now c.args.id tree) why)
+    c.from_residual.ensures.1 (λ tree. (c.in_err-definition.ensures.unknown tree).1)
 
 pub returns-in-len1 : goal.returns-in-len1
 returns-in-len1 t c =
@@ -11,5 +22,9 @@ returns-in-len1 t c =
     let result = c.compact_kind.result in
     record {
       ok = IfOk-weaker result _ _ (λ kind h tree. (c.in_ok-definition.ensures.known tree).1 ∙ inner tree ∙ h tree) c.compact_kind.ensures.ok;
-      err = IfErr-weaker result _ _ (λ why h tree. (c.in_ok-definition.ensures.known tree).1 ∙ inner tree ∙ h tree) c.compact_kind.ensures.err;
+      err =
+          IfErr-weaker result _ _
+          (λ why h tree. subst (λ w. IsErrorOf w why) (sym ((c.in_ok-definition.ensures.known tree).1 ∙ inner tree)) (h tree))
+          c.compact_kind.ensures.err;
+      not_memory = c.compact_kind.ensures.not_memory;
     }

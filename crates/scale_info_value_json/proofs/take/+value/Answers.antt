@@ -6,7 +6,8 @@ use Rattle.serde_json.specs.View.{view}
 use Rattle.std.proofs.lemmas.Result.{IfOk-weaker}
 use Rattle.scale_info_value_json.specs.Takers.{taken, taken_map, if_found, in_turn, IsErrorOf}
 use Rattle.scale_info_value_json.specs.DefinitionTakers.{chosen}
-use Rattle.scale_info_value_json.specs.Takings.{part_within, seen, fields_within, takers_within, variant_fields_within}
+use Rattle.scale_info_value.specs.Readings.{defined_at}
+use Rattle.scale_info_value_json.specs.Takings.{takings, part_within, seen, fields_within, takers_within, variant_fields_within}
 use Rattle.scale_info_value_json.proofs.ShownVariants.{variant_unmeant, variant_missing, variant_misnamed, variant_named}
 use Rattle.scale_info_value_json.proofs.SoFar.{passed, passes}
 use Rattle.scale_info_value_json.proofs.OneLevel.{object_is, array_items_are, no_array}
@@ -95,6 +96,11 @@ variant_value-returns-clause-ok t c =
     ∙ c.in_ok-fields.ensures.ok)
     ∙ ap (λ n. taken (dyn.Variant n c.in-Some-chosen.index c.in_ok-fields.fields)) (sym c.in_ok-name.ensures)
 
+pub value_within-returns-in_err-definition-clause-err : goal.value_within-returns-in_err-definition-clause-err
+value_within-returns-in_err-definition-clause-err t c =
+    passed c.from_residual.result c.in_err-definition.field-0.0 _ c.from_residual.ensures.1
+    (c.in_err-definition.ensures.unknown (view c.args.tree.now)).0
+
 pub value_within-returns-clause-ok : goal.value_within-returns-clause-ok
 value_within-returns-clause-ok t c =
     IfOk-weaker c.value_by.result _ _ (λ value e. (c.in_ok-definition.ensures.known (view c.args.tree.now)).0 ∙ e)
@@ -104,6 +110,13 @@ pub value_within-returns-clause-err : goal.value_within-returns-clause-err
 value_within-returns-clause-err t c =
     subst (λ w. IfErr c.value_by.result (IsErrorOf w)) (sym (c.in_ok-definition.ensures.known (view c.args.tree.now)).0)
     c.value_by.ensures.err
+
+pub value_by-returns-in_err-kind-in-Compact-clause-err : goal.value_by-returns-in_err-kind-in-Compact-clause-err
+value_by-returns-in_err-kind-in-Compact-clause-err t c =
+    let why = c.in_err-kind-in-Compact.field-0.0 in
+    passed c.from_residual.result why _ c.from_residual.ensures.1
+    (subst (λ d. IsErrorOf (defined_at takings c.args.left c.args.table.now d (view c.args.tree.now)) why) (sym c.in-Compact.is)
+    (c.in_err-kind-in-Compact.ensures.err (view c.args.tree.now)))
 
 pub composite_value-returns-clause-ok : goal.composite_value-returns-clause-ok
 composite_value-returns-clause-ok t c =
