@@ -34,10 +34,10 @@ pub type Result<T, E = ConvertError> = std::result::Result<T, E>;
 pub enum DecodeAsError {
     /// No value is decoded from the input by the table, for this reason.
     #[error("{0}")]
-    Decode(#[from] ValueError),
+    Decode(ValueError),
     /// A value is decoded, and not converted to the program's type, for this reason.
     #[error("{0}")]
-    Convert(#[from] ConvertError),
+    Convert(ConvertError),
 }
 
 /// Why a value of a program's type is not encoded. It is displayed as its cause.
@@ -45,8 +45,8 @@ pub enum DecodeAsError {
 pub enum EncodeAsError {
     /// What stands for the value is not encoded by the table, for this reason.
     #[error("{0}")]
-    Encode(#[from] EncodeValueError),
+    Encode(EncodeValueError),
     /// Nothing stands for the value at the type of the table, or an allocation failed.
     #[error("{0}")]
-    Convert(#[from] ConvertError),
+    Convert(ConvertError),
 }
