@@ -3,6 +3,7 @@ pub mod Types
 pub use Rattle.scale_info_types.specs.declared.ty.TypeDef.TheVariants as TypeDefs
 pub use Rattle.scale_info_numberings.specs.Systems
 pub use Rattle.scale_info_numberings.specs.Numberings
+pub use Rattle.scale_info_numberings.specs.Paths
 pub use Rattle.scale_info_numberings.specs.Tables
 pub use Rattle.scale_info_numberings.specs.Matches
 pub use Rattle.scale_info_numberings.specs.Unfoldings
@@ -43,6 +44,7 @@ pub use Rattle.scale_info_grammar.specs.Limits
 pub use Rattle.scale_info_grammar.specs.WithoutMaps
 pub use Rattle.scale_info_references.specs.Closed
 pub use Rattle.scale_info_references.specs.Conversions
+pub use Rattle.scale_info_references.specs.Gathered
 pub use Rattle.scale_info_walk.specs.TypeSystems
 pub use Rattle.scale_info_walk.specs.Walks
 pub use Rattle.scale_info_prune.specs.Prunes
@@ -56,6 +58,7 @@ pub use Rattle.scale_info_metadata.specs.Metadata
 pub use Rattle.scale_info_metadata.specs.TablesFound
 pub use Rattle.scale_info_catalogue.specs.CatalogueSystems
 pub use Rattle.scale_info_catalogue.specs.Discoveries
+pub use Rattle.scale_info_registry.specs.LentTypes
 pub use Rattle.scale_info_registry.specs.Registrations
 pub use Rattle.scale_info_registry.specs.RegistryLaws
 pub use Rattle.scale_info_registry.specs.RegistryParts

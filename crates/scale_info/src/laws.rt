@@ -48,6 +48,7 @@ pub use scale_info_numberings::laws::any_registrations;
 pub use scale_info_numberings::laws::closed;
 pub use scale_info_numberings::laws::extension_composes;
 pub use scale_info_numberings::laws::extension_unfolds;
+pub use scale_info_numberings::laws::first_outside;
 pub use scale_info_numberings::laws::fresh_equals_pruned;
 pub use scale_info_numberings::laws::growth_keeps;
 pub use scale_info_numberings::laws::keep_all_is_identity;

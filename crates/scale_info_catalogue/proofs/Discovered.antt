@@ -6,7 +6,7 @@ use Rattle.std.proofs.lemmas.List.{map-append, reverse-append, length_push, leng
 use Rattle.std.proofs.lemmas.List.{length-reverse}
 use Rattle.std.proofs.lemmas.List.Elements.{Contains-get_or}
 use Rattle.std.specs.List.{AllZip}
-use Rattle.scale_info_numberings.specs.Systems.{IsReachedPast}
+use Rattle.scale_info_numberings.specs.Systems.{IsFirstOutside, here}
 use Rattle.scale_info_numberings.specs.Numberings.{AreDistinct}
 use Rattle.scale_info_numberings.specs.Extensions.{IsExtension}
 use Rattle.scale_info_interner.specs.Interned.{IsKnown, IsNew}
@@ -26,7 +26,7 @@ use Rattle.scale_info_catalogue.specs.declared.discovery.RegisterError.TheVarian
 use Rattle.scale_info_catalogue.specs.declared.discovery.RegisterError.TheVariants.{Undescribed}
 use Rattle.scale_info_references.specs.Gathered.{targets}
 use Rattle.scale_info_catalogue.proofs.Terms.{known, length_nodes}
-use Rattle.scale_info_numberings.proofs.WorkLists.{IsWalking, walk_adds, walk_meets, walk_passes}
+use Rattle.scale_info_numberings.proofs.WorkLists.{IsWalking, walk_adds, walk_passes}
 use Rattle.scale_info_numberings.proofs.WorkLists.{walk_ends}
 use Rattle.scale_info_numberings.proofs.WorkLists.{kept_below, distinct_push}
 use Rattle.scale_info_catalogue.proofs.CatalogueWeights.{work_left, adds_less}
@@ -117,15 +117,19 @@ module _ (c : Catalogue) (before : List TypeId) (roots : List (Bor MetaType)) wh
       → ¬ (Contains (nodes_of ids) (type_term r.now))
   fresh ids r id e u k = u ((known ids id).1 (subst (λ i. Contains (nodes_of ids) (term_of i)) (sym e) k))
 
-  -- a type on top of the stack whose identity is not known is reached from the roots
+  -- a type on top of the stack whose identity is not known and has no description is the first such
+  -- that is met from the roots
   pub meets :
       (ids : List TypeId) (pending ss : List (Bor MetaType)) (r : Bor MetaType) (id : TypeId)
       → pending ≡ ss ++ r ∷ [] → id ≡ r.now.identity
-      → IsNew equals.eq ids id → Walking ids pending
-      → IsReachedPast (catalogue_system c) (nodes_of before) (stacked roots) (term_of id)
-  meets ids pending ss r id p e u x =
-      subst (λ i. IsReachedPast (catalogue_system c) (nodes_of before) (stacked roots) (term_of i)) (sym e)
-      (walk_meets (catalogue_system c) (nodes_of before) (stacked roots) (nodes_of ids) (stacked ss) (type_term r.now) (fresh ids r id e u) (shown ids pending ss r p x))
+      → IsNew equals.eq ids id → described c (term_of id) ≡ None → Walking ids pending
+      → IsFirstOutside (catalogue_system c) (nodes_of before) (stacked roots) (term_of id)
+  meets ids pending ss r id p e u s x =
+      let none : catalogue_system c (type_term r.now) ≡ None =
+      ap (λ i. catalogue_system c (term_of i)) (sym e) ∙ ap (option_map catalogue_entry) s in
+      subst (λ i. IsFirstOutside (catalogue_system c) (nodes_of before) (stacked roots) (term_of i)) (sym e)
+      ((shown ids pending ss r p x).first (type_term r.now)
+      (here (nodes_of ids) (stacked ss) (type_term r.now) (fresh ids r id e u) none))
 
   -- an unknown identity is appended, and what its description refers to is pushed
   pub adds :
@@ -188,8 +192,8 @@ module _ (c : Catalogue) (before : List TypeId) (roots : List (Bor MetaType)) wh
       → IsCause (catalogue_system c) (nodes_of before) (stacked roots) e
   fails ids pending ss r id Memory p s h x = tt
   fails ids pending ss r id (Undescribed other) p s h x =
-      subst (λ i. IsReachedPast (catalogue_system c) (nodes_of before) (stacked roots) (term_of i) × (catalogue_system c (term_of i) ≡ None)) (sym h.0)
-      (meets ids pending ss r id p s h.1 x, ap (option_map catalogue_entry) h.2)
+      subst (λ i. IsFirstOutside (catalogue_system c) (nodes_of before) (stacked roots) (term_of i) × (catalogue_system c (term_of i) ≡ None)) (sym h.0)
+      (meets ids pending ss r id p s h.1 h.2 x, ap (option_map catalogue_entry) h.2)
   fails ids pending ss r id Full p s h x = overflows ids pending ss r id p s h.0 h.1 x
 
 -- a stack of what a value holds

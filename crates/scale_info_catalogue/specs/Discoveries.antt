@@ -8,7 +8,7 @@ use Rattle.scale_info_identities.specs.TypeIds.{Term, term_of}
 use Rattle.scale_info_identities.specs.contracts.type_id.TypeIdPartialEq.TheImpl.{ghosts as equals}
 use Rattle.scale_info_identities.specs.declared.type_id.TypeId.{TypeId}
 use Rattle.scale_info_numberings.specs.Numberings.{AreDistinct}
-use Rattle.scale_info_numberings.specs.Systems.{System, IsReachedPast}
+use Rattle.scale_info_numberings.specs.Systems.{System, IsFirstOutside, IsReachedPast}
 use Rattle.scale_info_types.specs.Shapes.{Shape}
 use Rattle.scale_info_types.specs.declared.meta_type.MetaType.{MetaType}
 use Rattle.scale_info_types.specs.MetaDescriptions.{MetaDescription, type_term}
@@ -34,12 +34,12 @@ abbrev pub stacked : List (Bor MetaType) → List Term
 stacked pending = map (λ r. type_term r.now) (reverse pending)
 
 -- Why a registration of the roots may fail, where these terms are known. `Memory`: any allocation
--- may fail. `Undescribed`: a term that is reached past the known ones has no description. `Full`:
+-- may fail. `Undescribed`: the first term without a description that is met from the roots. `Full`:
 -- the known terms and those reached past them are more than 4294967295.
 abbrev pub IsCause : System Shape Term → List Term → List Term → RegisterError → Type 0
 IsCause S known roots Memory = ⊤
 IsCause S known roots (Undescribed id) =
-    IsReachedPast S known roots (term_of id) × (S (term_of id) ≡ None)
+    IsFirstOutside S known roots (term_of id) × (S (term_of id) ≡ None)
 IsCause S known roots Full =
     (all : List Term) × AreDistinct all
     × All (λ n. Contains known n ⊎ IsReachedPast S known roots n) all

@@ -14,7 +14,8 @@ use Rattle.scale_info_describe.specs.PathSearches.{indices_from}
 use Rattle.scale_info_grammar.specs.Ty.{EncodesTypes}
 use Rattle.scale_info_grammar.specs.TyLaws.{portable_type_law}
 use Rattle.scale_info_numberings.proofs.Places.{at_seam, contains_at}
-use Rattle.scale_info_numberings.specs.Systems.{Entry, IsReached, next, root}
+use Rattle.scale_info_numberings.proofs.FirstOutside.{outside_reached}
+use Rattle.scale_info_numberings.specs.Systems.{Entry, IsFirstOutside, IsReached, next, root}
 use Rattle.scale_info_prune.specs.SameTypes.{IsRenumberingError}
 use Rattle.scale_info_prune.specs.TableIndexes.{HasTrailing}
 use Rattle.scale_info_prune.specs.declared.prune.PruneError.{PruneError}
@@ -150,7 +151,8 @@ one_error types input ids x within (NoSuchType id) h =
 one_error types input ids x within (Retain (retain.Dangling id)) h =
     let same = one_table h.types types input h.encodes x in
     dangling types ids within id
-    (subst (λ ts. IsReached (types_system ts) ids id) same h.reached)
+    (outside_reached _ [] ids id
+    (subst (λ ts. IsFirstOutside (types_system ts) [] ids id) same h.first))
     (subst (λ (ts : List PortableType). length ts ≤ id) same h.outside)
 one_error types input ids x within (Retain retain.TooManyTypes) h = h
 one_error types input ids x within (Retain retain.Memory) h = h

@@ -1,6 +1,6 @@
 //! Laws of the values that are encoded by a table. A law does nothing when it runs: its contract is
 //! the law.
-ghost use Rattle.std.specs.Prelude.{◌≡◌, ◌↔◌, ◌++◌, List, ℕ, [], Some, map, slice_get};
+ghost use Rattle.std.specs.Prelude.{◌≡◌, ◌++◌, List, ℕ, [], Some, map, slice_get};
 ghost use Rattle.std.specs.List.{AllByRecursion};
 ghost use Rattle.scale_info_bytes.specs.Encodings.{HasPrefix, IsByte};
 ghost use Rattle.scale_info_numberings.specs.Tables.{IsTable};
@@ -49,8 +49,8 @@ pub fn never_read()
 {}
 
 /// Pruning a table changes no encoding. Where a new table is the table of a list of nodes of an old
-/// one, bytes are the encoding of a value by the new table, at the index of a node in that list,
-/// exactly where they are by the old table at the node.
+/// one, what comes of a value by the new table, at the index of a node in that list, is what comes
+/// of it by the old table at the node: the same bytes, or the same refusal, with the same path.
 ///
 /// `[bool, Vec<u32>, text, u32]` pruned to the vector is `[Vec<u32>, u32]`. There a value is
 /// encoded at id 0 as it was at id 1 before.
@@ -58,9 +58,8 @@ pub fn writes_alike()
     ensures { (old new : PortableRegistry) (kept : List ℕ)
         → IsTable (system_of old) kept (map entry_of new.types)
         → (index id : ℕ) → slice_get kept index ≡ Some id
-        → (depth : ℕ) (value : Dyn) (bytes : List ℕ) → AllByRecursion IsByte bytes
-        → (writing new index depth value ≡ written bytes)
-        ↔ (writing old id depth value ≡ written bytes) }
+        → (depth : ℕ) (value : Dyn)
+        → writing new index depth value ≡ writing old id depth value }
 {}
 
 /// Errors of encoding values are equal exactly where they are one value.

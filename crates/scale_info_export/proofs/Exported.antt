@@ -8,7 +8,8 @@ use Rattle.std.specs.BTreeMap.{BTreeMap}
 use Rattle.scale_info_identities.specs.TypeIds.{Term}
 use Rattle.std.proofs.lemmas.List.{length-map}
 use Rattle.scale_info_numberings.specs.Numberings.{AreDistinct, IsNumbering}
-use Rattle.scale_info_numberings.specs.Systems.{Entry, System, IsReached, root, next}
+use Rattle.scale_info_numberings.proofs.FirstOutside.{outside_reached}
+use Rattle.scale_info_numberings.specs.Systems.{Entry, System, IsFirstOutside, IsReached, root, next}
 use Rattle.scale_info_numberings.specs.Tables.{ArePlaces, IsTable, table_system}
 use Rattle.scale_info_numberings.proofs.Places.{contains_cases, place_of}
 use Rattle.scale_info_numberings.proofs.Pruned.{pruned_reading, pruned_numbering, pruned_table}
@@ -122,13 +123,14 @@ pub retain_error :
     {F : Type 0} (step : F → ℕ → Bool → F → Type 0) (filter : F) → IsRegisteredTable S roots ids whole
     → (e : RetainError) → IsRetainError step filter whole.types e
     → IsExportError S roots step filter (of_retain e)
-retain_error S roots ids whole step filter r (retain.Dangling id) (chosen, last, asked, reached, outside) =
+retain_error S roots ids whole step filter r (retain.Dangling id) (chosen, last, asked, first, outside) =
     let T = map entry_of whole.types in
     let count = length-map whole.types entry_of in
     let below : (i : ℕ) → Contains chosen i → i < length T =
     λ i k. subst (λ n. i < n) (sym count) (chosen_below step filter (length whole.types) chosen last asked i k) in
     let inside = reached_below S r.order T r.entries chosen below id
-    (subst (λ s. IsReached s chosen id) (one_system whole.types) reached) in
+    (outside_reached _ [] chosen id
+    (subst (λ s. IsFirstOutside s [] chosen id) (one_system whole.types) first)) in
     absurd (omega (inside, outside, count, arith))
 retain_error S roots ids whole step filter r retain.TooManyTypes many = absurd (omega (many, r.few, arith))
 retain_error S roots ids whole step filter r retain.Memory c = tt

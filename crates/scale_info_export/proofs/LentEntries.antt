@@ -22,7 +22,7 @@ use Rattle.scale_info_export.proofs.Exported.{exported}
 use Rattle.scale_info_export.specs.Exports.{IsExported, IsRegisteredTable}
 use Rattle.scale_info_identities.specs.TypeIds.{Term}
 use Rattle.scale_info_numberings.specs.Numberings.{IsNumbering}
-use Rattle.scale_info_numberings.specs.Systems.{IsReached, System}
+use Rattle.scale_info_numberings.specs.Systems.{IsFirstOutside, System}
 use Rattle.scale_info_numberings.specs.Tables.{ArePlaces, IsTable}
 use Rattle.scale_info_references.proofs.Replaced.{ids_replaced, join_description}
 use Rattle.scale_info_references.specs.Conversions.{ids_in, number_of, symbol, with_ids}
@@ -224,7 +224,7 @@ walk_error step first last types count chosen roots (retain.Dangling id) long x 
   chosen,
   last,
   subst (λ n. IsChosen step first n chosen last) long x,
-  subst (λ rs. IsReached (types_system types) rs id) same c.0,
+  subst (λ rs. IsFirstOutside (types_system types) [] rs id) same c.0,
   subst (λ n. n ≤ id) long c.1,
 )
 walk_error step first last types count chosen roots retain.TooManyTypes long x same c =

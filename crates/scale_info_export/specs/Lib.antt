@@ -1,3 +1,4 @@
 pub mod Exports
 pub mod Headline
 pub mod LentEntries
+pub mod LentLaws

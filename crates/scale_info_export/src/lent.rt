@@ -5,6 +5,7 @@ ghost use Rattle.scale_info_bytes.specs.Encodings.{AppendsEncoding, HasNoEncodin
 ghost use Rattle.scale_info_bytes.specs.Encodings.{IsPrefix};
 ghost use Rattle.scale_info_bytes.specs.Parts.{EncodesItems};
 ghost use Rattle.scale_info_export.specs.LentEntries.{lent_entries, new_id, picked};
+ghost use Rattle.scale_info_export.specs.LentLaws.{nothing_past_lent};
 ghost use Rattle.scale_info_export.specs.LentEntries.{renumbered_entries, renumbered_entry};
 ghost use Rattle.scale_info_grammar.specs.Ty.{EncodesPortableType, EncodesTypes};
 ghost use Rattle.scale_info_references.specs.Conversions.{number_of};
@@ -44,6 +45,8 @@ impl<'c> References for LentEntries<'c> {
     ghost system = { λ lent. types_system (lent_entries lent.numbers lent.descriptions.items) };
 
     ghost count = { λ lent. length lent.descriptions.items };
+
+    ghost outside = { λ lent id past. nothing_past_lent lent.numbers lent.descriptions.items id past };
 
     fn len(&self) -> usize {
         self.descriptions.len()

@@ -1,4 +1,3 @@
 pub mod Cuts
 pub mod Edges
-pub mod Inside
 pub mod Labels

@@ -7,7 +7,7 @@ use Rattle.scale_info_graph.specs.declared.error.GraphError.{GraphError}
 use Rattle.scale_info_graph.specs.declared.error.GraphError.TheVariants.{Dangling, TooManyTypes}
 use Rattle.scale_info_graph.specs.declared.error.GraphError.TheVariants.{Memory}
 use Rattle.scale_info_numberings.specs.Numberings.{IsNumbering}
-use Rattle.scale_info_numberings.specs.Systems.{IsReached, refs_in}
+use Rattle.scale_info_numberings.specs.Systems.{IsFirstOutside, refs_in}
 use Rattle.scale_info_tables.specs.declared.portable.PortableRegistry.{PortableRegistry}
 use Rattle.scale_info_walk.specs.TypeSystems.{types_system}
 
@@ -56,10 +56,10 @@ pub record GoesOn (old new : List ℕ) : Type 0 where
   pub more : List ℕ
   pub parts : new ≡ old ++ more
 
--- why there is no graph of what the chosen ids reach: an id is reached that is no index; there are
--- more than 4294967295 entries; or an allocation failed
+-- why there is no graph of what the chosen ids reach: an id is met that is no index, and it is the
+-- first such; there are more than 4294967295 entries; or an allocation failed
 abbrev pub IsGraphError : PortableRegistry → List ℕ → GraphError → Type 0
 IsGraphError table chosen (Dangling id) =
-    IsReached (types_system table.types) chosen id × (length table.types ≤ id)
+    IsFirstOutside (types_system table.types) [] chosen id × (length table.types ≤ id)
 IsGraphError table chosen TooManyTypes = 4294967295 < length table.types
 IsGraphError table chosen Memory = ⊤

@@ -109,7 +109,8 @@ impl<'t, 'i> Lent<'t, 'i> {
     }
 
     /// The items of a sequence or an array of `u8`, which stay in the input; None where the value
-    /// is another.
+    /// is another. That `decode_lent` keeps such a list in one piece is tested, and promised by no
+    /// clause: a value of it may hold each byte by itself, and has none here.
     pub fn as_bytes(&self) -> Option<&'i [u8]>
         ensures bytes { result ≡ bytes_in self.now }
         ensures items { IfSome result

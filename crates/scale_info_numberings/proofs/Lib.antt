@@ -2,6 +2,7 @@ pub mod Transfer
 pub mod ExtensionOfExtension
 pub mod FourComposites
 pub mod Extensions
+pub mod FirstOutside
 pub mod FirstReference
 pub mod ByEnumeration
 pub mod Loops

@@ -14,7 +14,8 @@ use Rattle.scale_info_numberings.specs.NumberingExamples.{leads_inside}
 use Rattle.scale_info_numberings.specs.NumberingExamples.{leads_outside, self_reference}
 use Rattle.scale_info_numberings.specs.Matches.{AreAlike, IsMatch, Pairs}
 use Rattle.scale_info_numberings.specs.Numberings.{IsNumbering, IsNumberingWith}
-use Rattle.scale_info_numberings.specs.Systems.{Entry, IsReached, next, root}
+use Rattle.scale_info_numberings.specs.Systems.{Entry, IsFirstOutside, IsReached, after_node, here}
+use Rattle.scale_info_numberings.specs.Systems.{next, root}
 use Rattle.scale_info_numberings.specs.Unfoldings.{no_trees, node, tree, unfold_to}
 
 -- from 2 on to 0 and 1
@@ -68,6 +69,25 @@ pub two_reached : IsReached leads_outside (0 ∷ []) 2
 two_reached =
     next 0 2 (entry 7 (2 ∷ [])) (root 0 (contains_head 0 []) (not_contained 0 [] tt)) refl
     (contains_head 2 []) (not_contained 2 [] tt)
+
+-- after 1, which refers to nothing, and 0
+pub two_first : IsFirstOutside leads_outside [] (1 ∷ 0 ∷ []) 2
+two_first =
+    let zero_new : ¬ (Contains (1 ∷ []) 0) = not_contained 0 (1 ∷ []) (zero_apart, tt) in
+    let two_new : ¬ (Contains (1 ∷ 0 ∷ []) 2) =
+    not_contained 2 (1 ∷ 0 ∷ []) (two_apart, (two_off, tt)) in
+    after_node [] (0 ∷ []) 1 2 (entry 7 []) (not_contained 1 [] tt) refl
+    (after_node (1 ∷ []) [] 0 2 (entry 7 (2 ∷ [])) zero_new refl
+    (here (1 ∷ 0 ∷ []) [] 2 two_new refl))
+  where
+    zero_apart : ◌≡◌ {A = ℕ} 0 1 → ⊥
+    zero_apart e = omega arith
+
+    two_apart : ◌≡◌ {A = ℕ} 2 1 → ⊥
+    two_apart e = omega arith
+
+    two_off : ◌≡◌ {A = ℕ} 2 0 → ⊥
+    two_off e = omega arith
 
 -- a numbering would have 2 in the system
 pub none_from_zero : (L : List ℕ) → ¬ (IsNumbering leads_outside (0 ∷ []) L)

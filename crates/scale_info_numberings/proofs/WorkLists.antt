@@ -7,6 +7,7 @@ use Rattle.std.proofs.lemmas.List.{length_push}
 use Rattle.std.proofs.lemmas.List.Elements.{Contains-append_left, Contains-append_cases}
 use Rattle.std.proofs.lemmas.Option.{slice_get_within, same_Some, none-some}
 use Rattle.scale_info_numberings.specs.Systems.{Entry, System, IsReachedPast, root, next}
+use Rattle.scale_info_numberings.specs.Systems.{IsFirstOutside, after_known, after_node}
 use Rattle.scale_info_numberings.specs.Numberings.{AreDistinct}
 use Rattle.scale_info_numberings.specs.Extensions.{IsExtension}
 use Rattle.scale_info_numberings.proofs.Places.{place_of, contains_at, contains_head, contains_tail}
@@ -43,12 +44,20 @@ pub record IsWalking {Sh N : Type 0} (S : System Sh N) (old roots order pending 
   pub grown : (n : N) → Contains old n → Contains order n
   pub held : (n : N) → Contains order n → Contains old n ⊎ IsReachedPast S old roots n
   pub reached : (n : N) → Contains pending n → ¬ (Contains old n) → IsReachedPast S old roots n
+  pub first : (n : N) → IsFirstOutside S order pending n → IsFirstOutside S old roots n
 
 module _ {Sh N : Type 0} (S : System Sh N) (old roots : List N) where
   -- a walk starts with what is known, and the roots pending
   pub walk_starts : AreDistinct old → IsWalking S old roots old roots
   walk_starts distinct =
-      record { distinct = distinct; then = λ M x. x; grown = λ n c. c; held = λ n c. inl c; reached = λ n c u. root n c u }
+      record {
+        distinct = distinct;
+        then = λ M x. x;
+        grown = λ n c. c;
+        held = λ n c. inl c;
+        reached = λ n c u. root n c u;
+        first = λ n f. f;
+      }
 
   -- a pending node that is in the order is passed over
   pub walk_passes :
@@ -61,6 +70,7 @@ module _ {Sh N : Type 0} (S : System Sh N) (old roots : List N) where
         grown = x.grown;
         held = x.held;
         reached = λ m k u. x.reached m (contains_tail n rest m k) u;
+        first = λ m f. x.first m (after_known order rest n m c f);
       }
 
   -- what is met and not yet numbered is reached
@@ -101,6 +111,7 @@ module _ {Sh N : Type 0} (S : System Sh N) (old roots : List N) where
               | inl k ↦ next n m d (walk_meets order rest n fresh x) s k u
               | inr k ↦ x.reached m (contains_tail n rest m k) u
             ];
+        first = λ m f. x.first m (after_node order rest n m d fresh s f);
       }
 
   -- with nothing pending, the order extends what is known by the roots

@@ -1,6 +1,7 @@
 -- Reference systems, which are directed graphs: what stands at each node, and what is reached from
 -- a list of roots.
-use Rattle.std.specs.Prelude.{◌≡◌, ℕ, List, [], Option, Some, None, Contains, length, sum_by}
+use Rattle.std.specs.Prelude.{◌≡◌, ℕ, List, [], ◌∷◌, ◌++◌, Option, Some, None, Contains, length}
+use Rattle.std.specs.Prelude.{sum_by}
 
 -- what stands at a node: its shape, which is all but the references, and its references in order
 pub record Entry (Sh N : Type 0) : Type 0 where
@@ -28,6 +29,21 @@ pub data IsReachedPast {Sh N : Type 0} (S : System Sh N) (known roots : List N) 
 -- n is reached from the roots along references of S; n itself may lie outside S
 abbrev pub IsReached : {Sh N : Type 0} → System Sh N → List N → N → Type 0
 IsReached S roots n = IsReachedPast S [] roots n
+
+-- n is the first name outside S that is met from the roots, depth first, where some names are
+-- known. The roots are met in turn: one that is known is passed over; and a node of S becomes
+-- known, and its references are met before the roots that are left.
+pub data IsFirstOutside {Sh N : Type 0} (S : System Sh N) : List N → List N → N → Type 0 where
+  here :
+      (known roots : List N) (n : N) → ¬ (Contains known n) → S n ≡ None
+      → IsFirstOutside S known (n ∷ roots) n
+  after_known :
+      (known roots : List N) (m n : N) → Contains known m → IsFirstOutside S known roots n
+      → IsFirstOutside S known (m ∷ roots) n
+  after_node :
+      (known roots : List N) (m n : N) (d : Entry Sh N) → ¬ (Contains known m) → S m ≡ Some d
+      → IsFirstOutside S (known ++ m ∷ []) (d.refs ++ roots) n
+      → IsFirstOutside S known (m ∷ roots) n
 
 -- the references of an entry, if there is one
 abbrev pub refs_in : {Sh N : Type 0} → Option (Entry Sh N) → List N

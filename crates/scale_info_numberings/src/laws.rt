@@ -18,7 +18,7 @@ ghost use Rattle.scale_info_numberings.specs.RegistrationLists.{
   last_registration,
 };
 ghost use Rattle.scale_info_numberings.specs.Systems.{Entry, Grows, IsReached, IsReachedPast};
-ghost use Rattle.scale_info_numberings.specs.Systems.{System};
+ghost use Rattle.scale_info_numberings.specs.Systems.{IsFirstOutside, System};
 ghost use Rattle.scale_info_numberings.specs.Tables.{ArePlaces, IsTable, all_places, table_system};
 ghost use Rattle.scale_info_numberings.specs.Unfoldings.{unfold_to};
 ghost use Rattle.std.specs.List.{AllZip};
@@ -32,6 +32,7 @@ ghost use Rattle.std.specs.Prelude.{
   [],
   Contains,
   List,
+  None,
   Some,
   length,
   slice_get,
@@ -51,6 +52,19 @@ pub fn reached_by_path<Shape, Node>()
         → IsReached S roots n ↔ ((names : List Node) × IsPath S roots names n) }
     ensures past { (S : System Shape Node) (known roots : List Node) (n : Node)
         → IsReachedPast S known roots n ↔ ((names : List Node) × IsPathPast S known roots names n) }
+{}
+
+/// The first name outside the system that is met from the roots is reached past what is known, lies
+/// outside, and is one.
+///
+/// Where D is missing, it is the first from A, after B; where B and C are missing, it is B.
+pub fn first_outside<Shape, Node>()
+    ensures reached { (S : System Shape Node) (known roots : List Node) (n : Node)
+        → IsFirstOutside S known roots n → IsReachedPast S known roots n }
+    ensures outside { (S : System Shape Node) (known roots : List Node) (n : Node)
+        → IsFirstOutside S known roots n → S n ≡ None }
+    ensures one { (S : System Shape Node) (known roots : List Node) (n m : Node)
+        → IsFirstOutside S known roots n → IsFirstOutside S known roots m → n ≡ m }
 {}
 
 /// Two numberings of one system from one list of roots are equal, with cycles too: the references

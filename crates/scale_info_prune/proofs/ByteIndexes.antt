@@ -12,7 +12,8 @@ use Rattle.std.proofs.lemmas.List.{length-drop}
 use Rattle.std.proofs.lemmas.Option.{same_Some, none-some, slice_get_within}
 use Rattle.scale_info_numberings.proofs.Places.{element_at}
 use Rattle.scale_info_numberings.specs.Numberings.{IsNumbering, Walks}
-use Rattle.scale_info_numberings.specs.Systems.{Entry, System, IsReachedPast, root, next}
+use Rattle.scale_info_numberings.specs.Systems.{Entry, System, IsFirstOutside, here}
+use Rattle.scale_info_numberings.specs.Systems.{after_known, after_node}
 use Rattle.scale_info_passes.specs.Entries.{AreStarts, reference_ids}
 use Rattle.scale_info_types.specs.Shapes.{Shape}
 use Rattle.scale_info_types.specs.declared.ty.PortableType.{PortableType}
@@ -88,12 +89,18 @@ module _ {Sh Sh' : Type 0} (S : System Sh ℕ) (T : System Sh' ℕ) (alike : Has
     },
   )
 
-  -- what is reached in the first system is reached in the second
-  pub same_reached : (K R : List ℕ) (n : ℕ) → IsReachedPast S K R n → IsReachedPast T K R n
-  same_reached K R n (root m c u) = root m c u
-  same_reached K R n (next m k d x s c u) =
+  -- the first name outside the first system is that outside the second, if it lies outside it
+  pub same_first :
+      (known roots : List ℕ) (n : ℕ) → T n ≡ None → IsFirstOutside S known roots n
+      → IsFirstOutside T known roots n
+  same_first known roots n none (here k rs m fresh out) = here k rs m fresh none
+  same_first known roots n none (after_known k rs m o c x) =
+      after_known k rs m o c (same_first k rs o none x)
+  same_first known roots n none (after_node k rs m o d fresh s x) =
       let e = alike m d s in
-      next m k e.0 (same_reached K R m x) e.1 (subst (λ (rs : List ℕ). Contains rs k) e.2 c) u
+      after_node k rs m o e.0 fresh e.1
+      (subst (λ (refs : List ℕ). IsFirstOutside T (k ++ m ∷ []) (refs ++ rs) o) e.2
+      (same_first (k ++ m ∷ []) (d.refs ++ rs) o none x))
 
 -- the references of the entry at index i, after those of what comes before
 cut :

@@ -17,7 +17,8 @@ use Rattle.scale_info_walk.specs.Kept.{AreKept}
 use Rattle.scale_info_walk.specs.TypeSystems.{entry_of, types_system}
 use Rattle.scale_info_walk.specs.declared.walk.RetainError.TheVariants as retain
 use Rattle.scale_info_prune.proofs.ByteIndexes.{index_alike, index_long, same_numbering}
-use Rattle.scale_info_prune.proofs.ByteIndexes.{same_reached}
+use Rattle.scale_info_prune.proofs.ByteIndexes.{same_first}
+use Rattle.scale_info_walk.specs.SystemLaws.{nothing_past}
 use Rattle.scale_info_prune.proofs.TableIndexes.{kept_entries, written_agrees, written_number}
 use Rattle.scale_info_prune.specs.ByteIndexes.{index_system}
 use Rattle.scale_info_prune.specs.Prunes.{HasNewIds, IsIndexError, IsIndexNumbering, IsPruneError}
@@ -65,9 +66,10 @@ module _ (count : ℕ) (input body offsets starts references : List ℕ)
         encodes = x.encodes;
         roots = h.0;
         are_roots = subst (λ n. AreRoots n given h.0) (sym x.long) h.1;
-        reached =
-            same_reached (index_system starts references) (types_system x.types)
-            (index_alike x.types starts references x.are_starts x.are_references) [] h.0 id h.2;
+        first =
+            same_first (index_system starts references) (types_system x.types)
+            (index_alike x.types starts references x.are_starts x.are_references) [] h.0 id
+            (nothing_past x.types id (omega arith)) h.2;
         outside = omega arith;
       }
   index_error given (Retain retain.TooManyTypes) h = h

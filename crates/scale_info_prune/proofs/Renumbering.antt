@@ -24,7 +24,9 @@ use Rattle.scale_info_walk.specs.Walks.{AreNumbers}
 use Rattle.scale_info_prune.proofs.AscendingRoots.{split}
 use Rattle.scale_info_prune.proofs.Pruning.{ids_of_kept, numbering_of, table_of}
 use Rattle.scale_info_prune.proofs.SameTables.{PartsLaw, same_types}
-use Rattle.scale_info_prune.proofs.ByteIndexes.{index_alike, index_long, same_reached}
+use Rattle.scale_info_prune.proofs.ByteIndexes.{index_alike, index_long, same_first}
+use Rattle.scale_info_walk.proofs.Inside.{inside}
+use Rattle.scale_info_walk.specs.SystemLaws.{nothing_past}
 use Rattle.scale_info_prune.specs.ByteIndexes.{index_system}
 use Rattle.scale_info_prune.specs.declared.prune.PruneError.{PruneError}
 use Rattle.scale_info_prune.specs.declared.prune.PruneError.TheVariants.{Decode, Trailing}
@@ -33,7 +35,8 @@ use Rattle.scale_info_prune.specs.declared.prune.PruneError.TheVariants.{Memory}
 use Rattle.scale_info_walk.specs.declared.walk.RetainError.TheVariants as retain
 use Rattle.scale_info_prune.specs.Prunes.{HasNoSuchType, IsNumberedFrom, IsRootsNumberingError}
 use Rattle.scale_info_prune.specs.Roots.{IsNoSuchType}
-use Rattle.scale_info_prune.specs.SameTypes.{IsRenumbered, IsRenumberingError, TellsMatch}
+use Rattle.scale_info_prune.specs.SameTypes.{IsRenumbered, IsRenumberingError, ReachesIndices}
+use Rattle.scale_info_prune.specs.SameTypes.{TellsMatch}
 use Rattle.scale_info_prune.specs.TableIndexes.{AppendsKeptTable, IsTableIndex}
 
 -- the new id of one more id is its place
@@ -106,6 +109,16 @@ module _ {count : ℕ} {input body offsets starts references ids order numbers :
         places = places order z.dense (roots_inside (types_system x.types) ids order numbering);
       }
 
+-- where a table was numbered from ids, each id that is reached from them is an index
+pub reaches_indices :
+    {input ids bytes new_ids : List ℕ} → IsRenumbered input ids bytes new_ids
+    → ReachesIndices input ids
+reaches_indices {ids = ids} x = record {
+  types = x.types;
+  encodes = x.encodes;
+  inside = inside x.types ids x.order x.numbering;
+}
+
 -- the tables of two numberings from ids, and the new ids, are equal exactly where a match exists
 pub tells_match :
     PartsLaw → {first ids second others bytes new_ids other_bytes other_ids : List ℕ}
@@ -158,9 +171,10 @@ renumbering_error {starts = starts} {references = references} ids x (Retain (ret
     record {
       types = x.types;
       encodes = x.encodes;
-      reached =
-          same_reached (index_system starts references) (types_system x.types)
-          (index_alike x.types starts references x.are_starts x.are_references) [] ids id h.0;
+      first =
+          same_first (index_system starts references) (types_system x.types)
+          (index_alike x.types starts references x.are_starts x.are_references) [] ids id
+          (nothing_past x.types id (omega arith)) h.0;
       outside = omega arith;
     }
 renumbering_error ids x (Retain retain.TooManyTypes) h = h

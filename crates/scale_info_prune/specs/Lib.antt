@@ -1,3 +1,4 @@
+pub mod ByteIndexLaws
 pub mod ByteIndexes
 pub mod Prunes
 pub mod Roots

@@ -1,11 +1,12 @@
 -- Tables that are pruned as bytes.
-use Rattle.std.specs.Prelude.{◌≡◌, ◌≢◌, ◌↔◌, ◌<◌, ◌≤◌, ℕ, List, All, Some, length, map, slice_get}
+use Rattle.std.specs.Prelude.{◌≡◌, ◌≢◌, ◌↔◌, ◌<◌, ◌≤◌, ℕ, List, [], All, Some, length, map}
+use Rattle.std.specs.Prelude.{slice_get}
 use Rattle.std.specs.BTreeMap.{BTreeMap, get}
 use Rattle.std.specs.Ordering.{nat_cmp}
 use Rattle.scale_info_bytes.specs.Encodings.{AppendsEncoding, HasNoPrefix}
 use Rattle.scale_info_bytes.specs.declared.error.DecodeError.TheVariants as decode
 use Rattle.scale_info_numberings.specs.Numberings.{IsNumbering}
-use Rattle.scale_info_numberings.specs.Systems.{IsReached}
+use Rattle.scale_info_numberings.specs.Systems.{IsFirstOutside}
 use Rattle.scale_info_numberings.specs.Tables.{IsTable}
 use Rattle.scale_info_types.specs.declared.ty.PortableType.{PortableType}
 use Rattle.scale_info_walk.specs.TypeSystems.{entry_of, types_system}
@@ -38,13 +39,14 @@ pub record HasNoSuchType (input given : List ℕ) (id : ℕ) : Type 0 where
   pub encodes : EncodesTypes types input
   pub no_such_type : IsNoSuchType (length types) given id
 
--- the input encodes a table, of which this id is no index, though it is reached from the given ones
+-- the input encodes a table, of which this id is no index, and it is the first such that is met from
+-- the given ones
 pub record HasDangling (input given : List ℕ) (id : ℕ) : Type 0 where
   pub types : List PortableType
   pub encodes : EncodesTypes types input
   pub roots : List ℕ
   pub are_roots : AreRoots (length types) given roots
-  pub reached : IsReached (types_system types) roots id
+  pub first : IsFirstOutside (types_system types) [] roots id
   pub outside : length types ≤ id
 
 -- why the input is not numbered from the given ids, where `Outside` says which id is reached that
@@ -118,7 +120,7 @@ pub record IsNumberedTable (input given body offsets order numbers : List ℕ) :
 -- why an index is not numbered from these roots
 abbrev pub IsRootsNumberingError : List ℕ → List ℕ → List ℕ → PruneError → Type 0
 IsRootsNumberingError starts references roots (Retain (retain.Dangling id)) =
-    IsReached (index_system starts references) roots id × (length starts ≤ id)
+    IsFirstOutside (index_system starts references) [] roots id × (length starts ≤ id)
 IsRootsNumberingError starts references roots (Retain retain.TooManyTypes) = ⊥
 IsRootsNumberingError starts references roots (Retain retain.Memory) = ⊥
 IsRootsNumberingError starts references roots (Decode e) = ⊥
@@ -134,7 +136,7 @@ IsIndexError count starts references given Trailing = ⊥
 IsIndexError count starts references given (NoSuchType id) = IsNoSuchType count given id
 IsIndexError count starts references given (Retain (retain.Dangling id)) =
     (roots : List ℕ) × AreRoots count given roots
-    × IsReached (index_system starts references) roots id × (length starts ≤ id)
+    × IsFirstOutside (index_system starts references) [] roots id × (length starts ≤ id)
 IsIndexError count starts references given (Retain retain.TooManyTypes) = ⊥
 IsIndexError count starts references given (Retain retain.Memory) = ⊥
 IsIndexError count starts references given (Encode e) = ⊥

@@ -1,9 +1,10 @@
 -- Types of two tables, compared.
-use Rattle.std.specs.Prelude.{◌≡◌, ◌↔◌, ◌≤◌, ℕ, List, Some, Bool, IsTrue, length, map, slice_get}
+use Rattle.std.specs.Prelude.{◌≡◌, ◌↔◌, ◌<◌, ◌≤◌, ◌⊎◌, ℕ, List, [], Some, Bool, IsTrue, length, map}
+use Rattle.std.specs.Prelude.{slice_get}
 use Rattle.scale_info_grammar.specs.Ty.{EncodesTypes}
 use Rattle.scale_info_numberings.specs.Matches.{IsMatch}
 use Rattle.scale_info_numberings.specs.Numberings.{IsNumbering}
-use Rattle.scale_info_numberings.specs.Systems.{IsReached}
+use Rattle.scale_info_numberings.specs.Systems.{IsFirstOutside, IsReached}
 use Rattle.scale_info_numberings.specs.Tables.{ArePlaces, IsTable}
 use Rattle.scale_info_types.specs.declared.ty.PortableType.{PortableType}
 use Rattle.scale_info_walk.specs.TypeSystems.{entry_of, types_system}
@@ -23,16 +24,30 @@ pub record IsRenumbered (input ids bytes new_ids : List ℕ) : Type 0 where
   pub written : EncodesTypes kept bytes
   pub places : ArePlaces order ids new_ids
 
--- the input encodes a table, of which this id is no index, though it is reached from the given ones
+-- the input encodes a table, of which this id is no index, and it is the first such that is met from
+-- the given ones
 pub record ReachesOutside (input ids : List ℕ) (id : ℕ) : Type 0 where
   pub types : List PortableType
   pub encodes : EncodesTypes types input
-  pub reached : IsReached (types_system types) ids id
+  pub first : IsFirstOutside (types_system types) [] ids id
   pub outside : length types ≤ id
+
+-- the input encodes a table, and each id that is reached from the given ones is an index of it
+pub record ReachesIndices (input ids : List ℕ) : Type 0 where
+  pub types : List PortableType
+  pub encodes : EncodesTypes types input
+  pub inside : (id : ℕ) → IsReached (types_system types) ids id → id < length types
 
 -- why the input is not numbered from the ids
 abbrev pub IsRenumberingError : List ℕ → List ℕ → PruneError → Type 0
 IsRenumberingError input ids error = IsErrorFrom input ids (ReachesOutside input ids) error
+
+-- why types of two tables are not compared: the first input is not numbered from its ids; or it is,
+-- and the second is not numbered from the others
+abbrev pub IsSameTypesError : (first ids second others : List ℕ) → PruneError → Type 0
+IsSameTypesError first ids second others error =
+    IsRenumberingError first ids error
+    ⊎ (ReachesIndices first ids × IsRenumberingError second others error)
 
 -- whether a match takes what the ids reach in the table that the first input encodes to what the
 -- others reach in that of the second, one to one and in order

@@ -1,5 +1,6 @@
 //! The index of a table's bytes, as something that has references.
 ghost use Rattle.std.specs.Prelude.{length};
+ghost use Rattle.scale_info_prune.specs.ByteIndexLaws.{nothing_past_index};
 ghost use Rattle.scale_info_prune.specs.ByteIndexes.{index_system};
 
 use scale_info_walk::graph::References;
@@ -21,6 +22,9 @@ impl<'a> References for ByteReferences<'a> {
     ghost system = { λ index. index_system index.starts.now index.references.now };
 
     ghost count = { λ index. length index.starts.now };
+
+    ghost outside = { λ index id past.
+        nothing_past_index index.starts.now index.references.now id past };
 
     fn len(&self) -> usize {
         self.starts.len()

@@ -1,8 +1,9 @@
 //! Whether types of two tables are the same.
-ghost use Rattle.std.specs.Prelude.{◌≡◌, ◌<◌, ◌⊎◌, ◌↔◌, ℕ, List, All, Contains, IsTrue};
-ghost use Rattle.std.specs.Prelude.{IfOk, IfErr, IfSome, IfNone, slice_index_or};
+ghost use Rattle.std.specs.Prelude.{◌≡◌, ◌<◌, ◌↔◌, ℕ, List, All, Contains, IsTrue};
+ghost use Rattle.std.specs.Prelude.{IfOk, IfErr, IfSome, IfNone, OnOk, slice_index_or};
 ghost use Rattle.scale_info_numberings.specs.Tables.{ArePlaces};
 ghost use Rattle.scale_info_prune.specs.SameTypes.{IsRenumbered, IsRenumberingError, TellsMatch};
+ghost use Rattle.scale_info_prune.specs.SameTypes.{IsSameTypesError, ReachesIndices};
 ghost use Rattle.scale_info_walk.specs.Walks.{AreNumbers};
 
 use crate::prune::{PruneError, number_from};
@@ -91,8 +92,9 @@ pub fn same_types(
     others: &[u32],
 ) -> Result<bool, PruneError>
     ensures ok { IfOk result (TellsMatch first.now ids.now second.now others.now) }
-    ensures cause { IfErr result (λ error. IsRenumberingError first.now ids.now error
-        ⊎ IsRenumberingError second.now others.now error) }
+    ensures inside { OnOk result (ReachesIndices first.now ids.now) }
+    ensures others_inside { OnOk result (ReachesIndices second.now others.now) }
+    ensures cause { IfErr result (IsSameTypesError first.now ids.now second.now others.now) }
 {
     shape_and_references();
     let (bytes, new_ids) = renumbered_from(alloc, first, ids)?;

@@ -14,9 +14,10 @@ use Rattle.std.specs.Vec.Iter.{into_iter_items, into_iter_steps}
 use Rattle.std.specs.declared.vec.IntoIter.{IntoIter}
 use Rattle.scale_info_types.specs.Portable as portable
 use Rattle.scale_info_types.specs.Shapes.{Shape}
-use Rattle.scale_info_identities.specs.TypeIds.{Term}
+use Rattle.scale_info_identities.specs.TypeIds.{Term, term_of}
 use Rattle.scale_info_types.specs.declared.meta_type.MetaType.{MetaType}
-use Rattle.scale_info_numberings.specs.Systems.{System, Grows, IsReachedPast, root, next}
+use Rattle.scale_info_numberings.specs.Systems.{System, Grows, IsFirstOutside, IsReachedPast, root, next}
+use Rattle.scale_info_numberings.proofs.FirstOutside.{first_after, first_of_more}
 use Rattle.scale_info_numberings.specs.Numberings.{IsNumbering}
 use Rattle.scale_info_numberings.specs.Tables.{ArePlaces, IsTable}
 use Rattle.scale_info_numberings.proofs.Extensions.{extension_grows, numbering_of_extension}
@@ -121,17 +122,30 @@ reached_before S K L Q R f g n (next m p d h s c u) = next m p d (reached_before
 
 -- the cause of a later refusal, targets from the start
 pub cause_before :
-    (S : System Shape Term) (a b : Registered) (done Q all : List Term) (e : RegisterError) → IsRegistration S a done b
-    → ((n : Term) → Contains done n → Contains all n) → ((n : Term) → Contains Q n → Contains all n)
+    (S : System Shape Term) (a b : Registered) (done Q left all : List Term) (e : RegisterError) → IsRegistration S a done b
+    → all ≡ done ++ (Q ++ left)
     → IsCause S (nodes_of b.identities) Q e → IsCause S (nodes_of a.identities) all e
-cause_before S a b done Q all e x f g = by e
+cause_before S a b done Q left all e x parts = by e
   where
+    f : (n : Term) → Contains done n → Contains all n
+    f n k = subst (λ (ys : List Term). Contains ys n) (sym parts) (Contains-append_left done (Q ++ left) n k)
+
+    g : (n : Term) → Contains Q n → Contains all n
+    g n k =
+        subst (λ (ys : List Term). Contains ys n) (sym parts)
+        (Contains-append_right done (Q ++ left) n (Contains-append_left Q left n k))
+
     old : (n : Term) → Contains (nodes_of a.identities) n → Contains (nodes_of b.identities) n
     old n k = (extension_holds S (nodes_of a.identities) done (nodes_of b.identities) x.nodes n).1 (inl k)
 
     by : (e : RegisterError) → IsCause S (nodes_of b.identities) Q e → IsCause S (nodes_of a.identities) all e
     by Memory c = tt
-    by (Undescribed id) c = (reached_before S (nodes_of a.identities) (nodes_of b.identities) Q all old g _ c.0, c.1)
+    by (Undescribed id) c = (
+      subst (λ rs. IsFirstOutside S (nodes_of a.identities) rs (term_of id)) (sym parts)
+          (first_after S (nodes_of a.identities) done (nodes_of b.identities) (Q ++ left) (term_of id) x.nodes
+          (first_of_more S (nodes_of b.identities) Q left (term_of id) c.0)),
+      c.1,
+    )
     by Full c = (
       c.0,
       c.1,
@@ -154,14 +168,10 @@ pub taken_front :
 taken_front s [] t y = ap into_iter_items y
 taken_front s (x ∷ xs) t y = y.1.0 ∙ ap (λ ys. x ∷ ys) (taken_front y.0 xs t y.2)
 
--- the roots of the values so far, and those of the next value, are among the roots of all
+-- the roots of all values are those of the values so far, those of the next value, and the others
 pub roots_so_far : {X : Type 0} (f : X → List Term) (all xs rest : List X) (x : X) → all ≡ xs ++ x ∷ rest
-    → ((n : Term) → Contains (flat_map f xs) n → Contains (flat_map f all) n) × ((n : Term) → Contains (f x) n → Contains (flat_map f all) n)
-roots_so_far f all xs rest x e =
-    let same : flat_map f all ≡ flat_map f xs ++ (f x ++ flat_map f rest) = ap (flat_map f) e ∙ flat_map-append f xs (x ∷ rest) in (
-      (λ n k. subst (λ (ys : List Term). Contains ys n) (sym same) (Contains-append_left (flat_map f xs) (f x ++ flat_map f rest) n k)),
-      (λ n k. subst (λ (ys : List Term). Contains ys n) (sym same) (Contains-append_right (flat_map f xs) (f x ++ flat_map f rest) n (Contains-append_left (f x) (flat_map f rest) n k))),
-    )
+    → flat_map f all ≡ flat_map f xs ++ (f x ++ flat_map f rest)
+roots_so_far f all xs rest x e = ap (flat_map f) e ∙ flat_map-append f xs (x ∷ rest)
 
 -- a registration over a system is one over each system that grows it
 pub registration_grows :
@@ -275,9 +285,7 @@ module _ (S : System Shape Term) (old : Registered) (all : List MetaType) (k : �
       → IsCause S (nodes_of old.identities) (roots_of (drop k all)) e
       → IsCause S (nodes_of old.identities) (roots_of all) e
   rest_cause e cause =
-      let split = sym (roots_split all k) in
-      cause_before S old old (roots_of (take k all)) (roots_of (drop k all)) (roots_of all) e
+      cause_before S old old (roots_of (take k all)) (roots_of (drop k all)) [] (roots_of all) e
       first_registered
-      (λ n c. subst (λ rs. Contains rs n) split (Contains-append_left (roots_of (take k all)) (roots_of (drop k all)) n c))
-      (λ n c. subst (λ rs. Contains rs n) split (Contains-append_right (roots_of (take k all)) (roots_of (drop k all)) n c))
+      (roots_split all k ∙ ap (λ rs. roots_of (take k all) ++ rs) (sym (append-nil (roots_of (drop k all)))))
       cause

@@ -5,7 +5,7 @@ use Rattle.std.specs.BTreeMap.{BTreeMap, get}
 use Rattle.std.specs.Ordering.{nat_cmp}
 use Rattle.scale_info_types.specs.declared.ty.PortableType.{PortableType}
 use Rattle.scale_info_numberings.specs.Numberings.{IsNumbering}
-use Rattle.scale_info_numberings.specs.Systems.{IsReached}
+use Rattle.scale_info_numberings.specs.Systems.{IsFirstOutside}
 use Rattle.scale_info_numberings.specs.Tables.{IsTable}
 use Rattle.scale_info_walk.specs.TypeSystems.{entry_of, types_system}
 use Rattle.scale_info_walk.specs.declared.walk.RetainError.{RetainError}
@@ -33,13 +33,13 @@ pub record IsPruned (types : List PortableType) (roots : List ℕ) (kept : List 
   pub indices :
       (old new : ℕ) → (get nat_cmp new_ids old ≡ Some new) ↔ (slice_get order new ≡ Some old)
 
--- why a table is not pruned to what a filter chooses: an id is reached from the chosen ones that is
--- no index; there are more than 4294967295 entries; or an allocation failed
+-- why a table is not pruned to what a filter chooses: an id is met from the chosen ones that is no
+-- index, and it is the first such; there are more than 4294967295 entries; or an allocation failed
 abbrev pub IsRetainError :
     {F : Type 0}
     → (F → ℕ → Bool → F → Type 0) → F → List PortableType → RetainError → Type 0
 IsRetainError {F} step first types (Dangling id) =
     (chosen : List ℕ) × (last : F) × IsChosen step first (length types) chosen last
-    × IsReached (types_system types) chosen id × (length types ≤ id)
+    × IsFirstOutside (types_system types) [] chosen id × (length types ≤ id)
 IsRetainError step first types TooManyTypes = 4294967295 < length types
 IsRetainError step first types Memory = ⊤

@@ -18,12 +18,14 @@ use std::alloc::Global;
 /// | `u8` to `u128` | integers of unsigned types, compact or not, that fit it |
 /// | `i8` to `i128` | integers of signed types that fit it |
 /// | `bool`, `Text`, `String` | truth values, texts |
-/// | `Vec<T>`, `Items<T>` | lists, each of whose items is a `T`; a map is a list of pairs |
+/// | `Vec<T>`, `Items<T>` | lists, each of whose items is a `T`; a `TypeDef::Map` is a list of pairs |
 /// | `[T; N]` | such lists of `N` items |
 /// | `(A, B, ..)` | lists of just these members |
 /// | `Option<T>` | the variant `None` with no field, and `Some` with one field that is a `T` |
 ///
-/// A struct of a program implements it by the fields of the value: see [`Lent::field`].
+/// A composite is none of these, also where it has one field: a `BTreeMap`, a bounded list or an
+/// account as the Rust crate describes it, a composite around a list. A struct of a program
+/// implements it by the fields of the value: see [`Lent::field`].
 pub trait DecodeAs: Shown + Drop {
     /// The value of this type that a decoded value is.
     ///

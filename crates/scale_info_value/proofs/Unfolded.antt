@@ -1,4 +1,4 @@
--- What unfolds alike is decoded alike.
+-- What unfolds alike is decoded alike, and whatever else comes of values by a table is the same.
 use Rattle.std.proofs.Common.{◌≡◌, ℕ, zero, suc, ◌-◌, List, [], ◌∷◌, map, Option, Some, None}
 use Rattle.std.proofs.Common.{option_map, slice_get, refl, ap, sym, subst, ◌∙◌, arith}
 use Rattle.scale_info_numberings.specs.Tables.{IsTable, table_system}
@@ -14,9 +14,8 @@ use Rattle.scale_info_numberings.specs.Unfoldings.{Tree, node, tree, trees, tree
 use Rattle.scale_info_tables.specs.TableSystems.{system_of}
 use Rattle.scale_info_walk.specs.TypeSystems.{entry_of}
 use Rattle.scale_info_tables.specs.declared.portable.PortableRegistry.{PortableRegistry}
-use Rattle.scale_info_value.specs.Outcomes.{failed, too_deep}
-use Rattle.scale_info_value.specs.ValueDefinitions.{value_by, compact_by}
-use Rattle.scale_info_value.specs.Readings.{by_type, missing, compact_at, value_at, compact_within, value_within, reading}
+use Rattle.scale_info_value.specs.Readings.{Levels, by_type, compact_at, value_at, readings}
+use Rattle.scale_info_value.specs.Readings.{value_within, reading}
 use Rattle.scale_info_types.proofs.ShapeAndReferences.{shape_and_references}
 
 -- references that unfold alike are decoded alike, one by one
@@ -60,20 +59,6 @@ same_definitions none by f g read other law (Some d) None h = cc
 same_definitions none by f g read other law (Some d) (Some e) h =
     ap by (same_entries f g read other law d e h)
 
--- where two ids unfold alike, compact integers are decoded alike
-pub compact_unfolded :
-    (left : ℕ) (table other : PortableRegistry) (m n : ℕ)
-    → unfold_to left (system_of table) m ≡ unfold_to left (system_of other) n
-    → compact_within left table m ≡ compact_within left other n
-unfolding compact_within compact_at
-compact_unfolded zero table other m n h = refl
-compact_unfolded (suc left) table other m n h =
-    let e = same_definitions missing compact_by
-    (unfold_to left (system_of table)) (unfold_to left (system_of other))
-    (compact_within left table) (compact_within left other)
-    (compact_unfolded left table other) (slice_get table.types m) (slice_get other.types n) h in
-    λ i input. e i input
-
 same_kids :
     (f g f' g' : ℕ → Tree Shape) → ((m n : ℕ) → f m ≡ g n → f' m ≡ g' n) → (ms ns : List ℕ) → trees f ms
     ≡ trees g ns → trees f' ms ≡ trees g' ns
@@ -107,88 +92,114 @@ less_deep zero S U m n h = refl
 less_deep (suc k) S U m n h = same_trees (unfold_to (suc k) S) (unfold_to (suc k) U) (unfold_to k S) (unfold_to k U)
     (less_deep k S U) (S m) (U n) h
 
--- where two ids unfold alike one level deeper, values are decoded alike
-pub value_unfolded :
-    (left : ℕ) (table other : PortableRegistry) (m n : ℕ)
-    → unfold_to (suc left) (system_of table) m ≡ unfold_to (suc left) (system_of other) n
-    → value_within left table m ≡ value_within left other n
-unfolding value_within value_at compact_within
-value_unfolded zero table other m n h = refl
-value_unfolded (suc zero) table other m n h =
-    let e = same_definitions missing value_by
-    (unfold_to 1 (system_of table)) (unfold_to 1 (system_of other))
-    (λ r. record {
-      value = λ bytes. failed too_deep;
-      inner = λ bytes. failed too_deep;
-      compact = compact_within 1 table
-          r;
-    })
-    (λ r. record {
-      value = λ bytes. failed too_deep;
-      inner = λ bytes. failed too_deep;
-      compact = compact_within 1 other
-          r;
-    })
-    (λ r s same.
-    let level = compact_unfolded 1 table other r s same in
-    λ i. record { value = λ bytes. failed too_deep; inner = λ bytes. failed too_deep; compact = level i })
-    (slice_get table.types m) (slice_get other.types n) h in
-    λ i input. e i input
-value_unfolded (suc (suc left)) table other m n h =
-    let e = same_definitions missing value_by
-    (unfold_to (suc (suc left)) (system_of table)) (unfold_to (suc (suc left)) (system_of other))
-    (λ r. record {
-      value = value_within (suc left) table r;
-      inner = value_within left table r;
-      compact = compact_within
-          (suc (suc left)) table r;
-    })
-    (λ r. record {
-      value = value_within (suc left) other r;
-      inner = value_within left other r;
-      compact = compact_within
-          (suc (suc left)) other r;
-    })
-    (λ r s same.
-    let deeper = value_unfolded (suc left) table other r s same in
-    let inner = value_unfolded left table other r s (less_deep (suc left) (system_of table) (system_of other) r s same)
-    in
-    let level = compact_unfolded (suc (suc left)) table other r s same in
-    λ i. record { value = deeper i; inner = inner i; compact = level i })
-    (slice_get table.types m) (slice_get other.types n) h in
-    λ i input. e i input
+-- a table and the list of its pairs are one system
+one_system : (table : PortableRegistry) → system_of table ≡ table_system (map entry_of table.types)
+one_system table = λ i index. sym (slice_get-map entry_of table.types index) i
 
-by_levels :
-    (table other : PortableRegistry) (id index left more : ℕ) → ((k : ℕ) → left ≡ suc k → more ≡ suc (suc k))
-    → unfold_to more (system_of table) id ≡ unfold_to more (system_of other) index
-    → (input : List ℕ) → value_within left table id input ≡ value_within left other index input
-unfolding value_within value_at
-by_levels table other id index zero more e h input = refl
-by_levels table other id index (suc k) more e h input =
-    let same = value_unfolded (suc k) table other id index (subst (λ n. unfold_to n (system_of table) id
-    ≡ unfold_to n (system_of other) index) (e k refl) h) in
-    λ i. same i input
+-- What comes of values by a table, where what an id stands for is made of what comes at its levels,
+-- whatever the table and the id are.
+module _ {V C X : Type 0} (levels : Levels V C X)
+    (of_levels :
+    (table other : PortableRegistry) (r s : ℕ) (value inner : V) (compact : C)
+    → levels.part table r value inner compact ≡ levels.part other s value inner compact) where
+  same_part :
+      (table other : PortableRegistry) (r s : ℕ) {value value' inner inner' : V}
+      {compact compact' : C}
+      → value ≡ value' → inner ≡ inner' → compact ≡ compact'
+      → levels.part table r value inner compact ≡ levels.part other s value' inner' compact'
+  same_part table other r s {value' = value'} {inner' = inner'} {compact' = compact'} v w c =
+      (λ i. levels.part table r (v i) (w i) (c i)) ∙ of_levels table other r s value' inner' compact'
 
--- the same at a depth
+  -- where two ids unfold alike, the same comes of compact integers
+  pub compact_unfolded :
+      (left : ℕ) (table other : PortableRegistry) (m n : ℕ)
+      → unfold_to left (system_of table) m ≡ unfold_to left (system_of other) n
+      → compact_at levels left table m ≡ compact_at levels left other n
+  unfolding compact_at
+  compact_unfolded zero table other m n h = refl
+  compact_unfolded (suc left) table other m n h =
+      same_definitions levels.compact_none levels.compact_by
+      (unfold_to left (system_of table)) (unfold_to left (system_of other))
+      (compact_at levels left table) (compact_at levels left other)
+      (compact_unfolded left table other) (slice_get table.types m) (slice_get other.types n) h
+
+  -- where two ids unfold alike one level deeper, the same comes of values
+  pub value_unfolded :
+      (left : ℕ) (table other : PortableRegistry) (m n : ℕ)
+      → unfold_to (suc left) (system_of table) m ≡ unfold_to (suc left) (system_of other) n
+      → value_at levels left table m ≡ value_at levels left other n
+  unfolding value_at
+  value_unfolded zero table other m n h = refl
+  value_unfolded (suc zero) table other m n h =
+      same_definitions levels.none levels.by
+      (unfold_to 1 (system_of table)) (unfold_to 1 (system_of other))
+      (λ r. levels.part table r levels.deep levels.deep (compact_at levels 1 table r))
+      (λ r. levels.part other r levels.deep levels.deep (compact_at levels 1 other r))
+      (λ r s same.
+      same_part table other r s refl refl (compact_unfolded 1 table other r s same))
+      (slice_get table.types m) (slice_get other.types n) h
+  value_unfolded (suc (suc left)) table other m n h =
+      same_definitions levels.none levels.by
+      (unfold_to (suc (suc left)) (system_of table)) (unfold_to (suc (suc left)) (system_of other))
+      (λ r. levels.part table r (value_at levels (suc left) table r) (value_at levels left table r)
+      (compact_at levels (suc (suc left)) table r))
+      (λ r. levels.part other r (value_at levels (suc left) other r) (value_at levels left other r)
+      (compact_at levels (suc (suc left)) other r))
+      (λ r s same.
+      same_part table other r s (value_unfolded (suc left) table other r s same)
+      (value_unfolded left table other r s
+      (less_deep (suc left) (system_of table) (system_of other) r s same))
+      (compact_unfolded (suc (suc left)) table other r s same))
+      (slice_get table.types m) (slice_get other.types n) h
+
+  by_levels :
+      (table other : PortableRegistry) (id index left more : ℕ)
+      → ((k : ℕ) → left ≡ suc k → more ≡ suc (suc k))
+      → unfold_to more (system_of table) id ≡ unfold_to more (system_of other) index
+      → value_at levels left table id ≡ value_at levels left other index
+  unfolding value_at
+  by_levels table other id index zero more e h = refl
+  by_levels table other id index (suc k) more e h =
+      value_unfolded (suc k) table other id index
+      (subst (λ n. unfold_to n (system_of table) id ≡ unfold_to n (system_of other) index) (e k refl) h)
+
+  -- the same at a depth
+  pub same_at_depth :
+      (table other : PortableRegistry) (id index depth : ℕ)
+      → unfold_to (130 - depth) (system_of table) id ≡ unfold_to (130 - depth) (system_of other) index
+      → value_at levels (129 - depth) table id ≡ value_at levels (129 - depth) other index
+  same_at_depth table other id index depth h =
+      by_levels table other id index (129 - depth) (130 - depth) (λ k e. omega arith) h
+
+  -- and of a table of nodes, at the index of a node
+  pub same_in_table :
+      (old new : PortableRegistry) (kept : List ℕ)
+      → IsTable (system_of old) kept (map entry_of new.types)
+      → (index id : ℕ) → slice_get kept index ≡ Some id
+      → (depth : ℕ) → value_at levels (129 - depth) new index ≡ value_at levels (129 - depth) old id
+  same_in_table old new kept table index id at depth =
+      let alike = unfolds_alike (system_of old) kept (map entry_of new.types) table (130 - depth) index id at in
+      let here : unfold_to (130 - depth) (system_of new) index ≡ unfold_to (130 - depth) (system_of old) id =
+      ap (λ S. unfold_to (130 - depth) S index) (one_system new) ∙ sym alike
+      in
+      same_at_depth new old index id depth here
+
+-- what unfolds alike is decoded alike
 pub unfolding_decides :
     (table other : PortableRegistry) (id index depth : ℕ)
     → unfold_to (130 - depth) (system_of table) id ≡ unfold_to (130 - depth) (system_of other) index
     → (input : List ℕ) → reading table id depth input ≡ reading other index depth input
-unfolding_decides table other id index depth h input = by_levels table other id index (129 - depth) (130 - depth)
-    (λ k e. omega arith) h input
-
--- a table and the list of its pairs are one system
-one_system : (table : PortableRegistry) → system_of table ≡ table_system (map entry_of table.types)
-one_system table = λ i index. sym (slice_get-map entry_of table.types index) i
+unfolding value_within
+unfolding_decides table other id index depth h input =
+    ap (λ read. read input)
+    (same_at_depth readings (λ table other r s value inner compact. refl) table other id index depth h)
 
 -- a table of nodes decodes as the system of the nodes
 pub reads_alike :
     (old new : PortableRegistry) (kept : List ℕ) → IsTable (system_of old) kept (map entry_of new.types)
     → (index id : ℕ) → slice_get kept index ≡ Some id
     → (depth : ℕ) (input : List ℕ) → reading new index depth input ≡ reading old id depth input
+unfolding value_within
 reads_alike old new kept table index id at depth input =
-    let alike = unfolds_alike (system_of old) kept (map entry_of new.types) table (130 - depth) index id at in
-    let here : unfold_to (130 - depth) (system_of new) index ≡ unfold_to (130 - depth) (system_of old) id =
-    ap (λ S. unfold_to (130 - depth) S index) (one_system new) ∙ sym alike
-    in
-    unfolding_decides new old index id depth here input
+    ap (λ read. read input)
+    (same_in_table readings (λ table other r s value inner compact. refl) old new kept table index id at depth)

@@ -1,5 +1,6 @@
 //! Integers at the start of bytes.
-ghost use Rattle.std.specs.Prelude.{◌≡◌, ◌<◌, ◌≤◌, ◌^◌, ◌+◌, length, IfOk, IfErr, FitsSigned};
+ghost use Rattle.std.specs.Prelude.{◌≡◌, ◌<◌, ◌≤◌, ◌^◌, ◌+◌, length, IfOk, IfErr};
+ghost use Rattle.std.specs.Prelude.{IfSome, FitsSigned};
 ghost use Rattle.std.specs.Int.{byte_len, cast_signed, w128};
 ghost use Rattle.scale_info_value.specs.Outcomes.{decoded, failed};
 ghost use Rattle.scale_info_value.specs.IntegerDecoders.{byte, bytes, little_endian, integer};
@@ -64,6 +65,24 @@ pub fn bytes(count: usize, input: &[u8]) -> Result<(&[u8], &[u8]), Failure>
     Ok(input.split_at(count))
 }
 
+/// An integer by its bytes, the lowest first, which are taken at once; None where they are not one,
+/// two, four or eight. Inlined, so that where their number is known one case is left.
+#[inline(always)]
+pub(crate) fn at_once(bytes: &[u8]) -> Option<u128>
+    ensures integer { IfSome result (λ n. n ≡ little_endian bytes.now) }
+    ensures bound { IfSome result (λ n. n < 256 ^ length bytes.now) }
+{
+    match bytes {
+        [only] => Some(*only as u128),
+        [a, b] => Some(u16::from_le_bytes([*a, *b]) as u128),
+        [a, b, c, d] => Some(u32::from_le_bytes([*a, *b, *c, *d]) as u128),
+        [a, b, c, d, e, f, g, h] => {
+            Some(u64::from_le_bytes([*a, *b, *c, *d, *e, *f, *g, *h]) as u128)
+        }
+        _ => None,
+    }
+}
+
 /// An integer by its bytes, the lowest first. Where they are as many as those of a built-in type,
 /// they are taken at once.
 pub fn little_endian(bytes: &[u8]) -> u128
@@ -71,12 +90,11 @@ pub fn little_endian(bytes: &[u8]) -> u128
     ensures integer { result ≡ little_endian bytes.now }
     ensures bound { result < 256 ^ length bytes.now }
 {
+    if let Some(integer) = at_once(bytes) {
+        return integer;
+    }
     match bytes {
         [] => 0,
-        [only] => *only as u128,
-        [a, b] => u16::from_le_bytes([*a, *b]) as u128,
-        [a, b, c, d] => u32::from_le_bytes([*a, *b, *c, *d]) as u128,
-        [a, b, c, d, e, f, g, h] => { u64::from_le_bytes([*a, *b, *c, *d, *e, *f, *g, *h]) as u128 }
         halves if halves.len() == 16 => {
             let (low, high) = halves.split_at(8);
             little_endian(low) + 18446744073709551616 * little_endian(high)

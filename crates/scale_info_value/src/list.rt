@@ -5,7 +5,7 @@ ghost use Rattle.scale_info_value.specs.Outcomes.{decoded, in_turn, IsValueOf, I
 ghost use Rattle.scale_info_value.specs.IntegerWidths.{width_of, integer_of, integer_within};
 ghost use Rattle.scale_info_value.specs.ValueDefinitions.{truth, primitive};
 
-use crate::integer::{IntegerWidth, little_endian, with_sign};
+use crate::integer::{IntegerWidth, at_once, little_endian, with_sign};
 use crate::primitive::{primitive, truth};
 use crate::value::{Dyn, ValueError};
 use scale_info_collections::items::Items;
@@ -18,7 +18,10 @@ fn number(width: IntegerWidth, signed: bool, bytes: &[u8]) -> Dyn
     requires { length bytes.now ≡ byte_len (width_of width) }
     ensures { result ≡ integer_of width signed bytes.now }
 {
-    let integer = little_endian(bytes);
+    let integer = match at_once(bytes) {
+        Some(integer) => integer,
+        None => little_endian(bytes),
+    };
     if signed {
         Dyn::Signed(with_sign(width, integer))
     } else {

@@ -3,6 +3,7 @@ ghost use Rattle.std.specs.Prelude.{◌≡◌, [], IfErr, IfOk, List, ℕ, lengt
 ghost use Rattle.scale_info_numberings.specs.Numberings.{IsNumbering};
 ghost use Rattle.scale_info_numberings.specs.Systems.{looks};
 ghost use Rattle.scale_info_types.specs.Shapes as shapes;
+ghost use Rattle.scale_info_walk.specs.SystemLaws.{nothing_past};
 ghost use Rattle.scale_info_walk.specs.TypeSystems.{types_system};
 ghost use Rattle.scale_info_walk.specs.Walks.{IsWalkError};
 
@@ -18,6 +19,8 @@ impl<'i> References for TableView<'i> {
     ghost system = { λ view. types_system view.types };
 
     ghost count = { λ view. length view.types };
+
+    ghost outside = { λ view id past. nothing_past view.types id past };
 
     fn len(&self) -> usize {
         self.len()

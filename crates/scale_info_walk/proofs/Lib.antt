@@ -1,3 +1,4 @@
+pub mod Inside
 pub mod Visiting
 pub mod KeptEntries
 pub mod NumberMaps

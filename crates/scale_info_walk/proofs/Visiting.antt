@@ -3,10 +3,10 @@ use Rattle.std.proofs.Common.{◌≡◌, ◌≢◌, set, ℕ, ◌+◌, ◌-◌, 
 use Rattle.std.proofs.Common.{length, Some, None}
 use Rattle.std.proofs.Common.{slice_get, get_or, sum_by, refl, ap, sym, ◌∙◌, subst, arith, ◌⊎◌, inl}
 use Rattle.std.proofs.Common.{inr}
-use Rattle.std.proofs.Common.{Contains, length-append, suc, take, take_all}
+use Rattle.std.proofs.Common.{Contains, drop, length-append, suc, take, take_all}
 use Rattle.std.proofs.lemmas.Bool.{cases_lt}
 use Rattle.std.proofs.lemmas.List.{length_push, length-set, get_or-set_same, get_or-set_other}
-use Rattle.std.proofs.lemmas.List.{take_more}
+use Rattle.std.proofs.lemmas.List.{take_more, take-append-drop}
 use Rattle.std.proofs.lemmas.List.FromFn.{length-range_with_len}
 use Rattle.std.proofs.lemmas.List.Sums.{sum_by_push, sum_by-cons}
 use Rattle.std.proofs.lemmas.Option.{slice_get-get_or, same_Some, none-some, slice_get_within}
@@ -14,6 +14,7 @@ use Rattle.std.proofs.lemmas.Option.{slice_get_past}
 use Rattle.std.specs.List.{range_with_len}
 use Rattle.scale_info_numberings.proofs.ExtensionOfExtension.{extension_composes}
 use Rattle.scale_info_numberings.proofs.Extensions.{numbering_of_extension}
+use Rattle.scale_info_numberings.proofs.FirstOutside.{first_after, first_of_more}
 use Rattle.scale_info_numberings.proofs.FirstReference.{extends_by_none}
 use Rattle.scale_info_numberings.proofs.Places.{place_of, contains_at, contains_head, contains_tail}
 use Rattle.scale_info_numberings.proofs.Places.{contains_cases}
@@ -22,7 +23,7 @@ use Rattle.scale_info_numberings.proofs.Reached.{extension_holds}
 use Rattle.scale_info_numberings.specs.Extensions.{IsExtension}
 use Rattle.scale_info_numberings.specs.Numberings.{AreDistinct, IsNumbering}
 use Rattle.scale_info_numberings.specs.Systems.{Entry, System, IsReachedPast, root, next, looks}
-use Rattle.scale_info_numberings.specs.Systems.{refs_in}
+use Rattle.scale_info_numberings.specs.Systems.{refs_in, IsFirstOutside}
 use Rattle.scale_info_numberings.proofs.WorkLists.{IsWalking, walk_adds, walk_passes, walk_starts}
 use Rattle.scale_info_numberings.proofs.Weights.{weight, weight_in, distinct_sums}
 use Rattle.scale_info_walk.specs.Walks.{AreNumbers, IsWalkError, IsLook, IsNextOf, IsWalk}
@@ -300,7 +301,7 @@ module _ {Sh : Type 0} (S : System Sh ℕ) where
       → IsWalking S old roots order (id ∷ rest)
       → IsWalkError S n order (id ∷ []) e → IsWalkError S n old roots e
   cause_through n old roots order rest id (Dangling k) x c =
-      (reached_through old roots order rest id x k c.0, c.1)
+      (x.first k (first_of_more S order (id ∷ []) rest k c.0), c.1)
   cause_through n old roots order rest id TooManyTypes x c = c
   cause_through n old roots order rest id Memory x c = tt
 
@@ -320,6 +321,7 @@ module _ {Sh : Type 0} (S : System Sh ℕ) where
               | inr r ↦ inr (reached_through old roots order rest id x m r)
             ];
         reached = λ m c u. x.reached m (contains_tail id rest m c) u;
+        first = λ m f. x.first m (first_after S order (id ∷ []) new rest m y f);
       }
 
   -- what holds at each reference of a walk from one root, which began with the order `old`, after
@@ -383,34 +385,29 @@ module _ {Sh : Type 0} (S : System Sh ℕ) where
       numbering_of_extension S roots order
       (subst (λ rs. IsExtension S [] rs order) (take_all i roots h) x)
 
-  reached_root :
-      (order roots : List ℕ) (r : ℕ) → Contains roots r
-      → (m : ℕ) → IsReachedPast S order (r ∷ []) m → IsReachedPast S [] roots m
-  reached_root order roots r c m (root p k u) =
-      elim (contains_cases r [] p k) [
-        | inl e ↦
-            root p (subst (λ z. Contains roots z) e c)
-            (λ z. let q = place_of [] p z in none-some p q.1)
-        | inr z ↦ absurd (let q = place_of [] p z in none-some p q.1)
-      ]
-  reached_root order roots r c m (next p q d h s k u) =
-      next p q d (reached_root order roots r c p h) s k (λ z. let w = place_of [] q z in none-some q w.1)
-
-  -- a cause at one of the roots, past an order, is one for all of them, with nothing known
+  -- a cause at the next root, past what the first i roots reach, is one for all of them, with
+  -- nothing known
   pub cause_at_root :
-      (n : ℕ) (order roots : List ℕ) (r : ℕ) (e : RetainError) → Contains roots r
-      → IsWalkError S n order (r ∷ []) e → IsWalkError S n [] roots e
-  cause_at_root n order roots r (Dangling id) c k = (reached_root order roots r c id k.0, k.1)
-  cause_at_root n order roots r TooManyTypes c k = k
-  cause_at_root n order roots r Memory c k = tt
+      (n : ℕ) (order roots : List ℕ) (i d : ℕ) (e : RetainError) → i < length roots
+      → IsExtension S [] (take i roots) order
+      → IsWalkError S n order (get_or roots i d ∷ []) e → IsWalkError S n [] roots e
+  cause_at_root n order roots i d (Dangling id) h x c =
+      let so_far =
+      first_after S [] (take i roots) order (get_or roots i d ∷ []) id x c.0 in (
+        subst (λ rs. IsFirstOutside S [] rs id) (take-append-drop (i + 1) roots)
+            (first_of_more S [] (take (i + 1) roots) (drop (i + 1) roots) id
+            (subst (λ rs. IsFirstOutside S [] rs id) (sym (take_more roots i d h)) so_far)),
+        c.1,
+      )
+  cause_at_root n order roots i d TooManyTypes h x c = c
+  cause_at_root n order roots i d Memory h x c = c
 
-  nothing_reached : (m : ℕ) → IsReachedPast S [] [] m → ⊥
-  nothing_reached m (root p c u) = let q = place_of [] p c in none-some p q.1
-  nothing_reached m (next p q d h s c u) = nothing_reached p h
+  nothing_outside : (m : ℕ) → IsFirstOutside S [] [] m → ⊥
+  nothing_outside m x = elim x [ ]
 
   -- what stops before the first root stops for these roots too
   pub cause_before :
       (n : ℕ) (roots : List ℕ) (e : RetainError) → IsWalkError S n [] [] e → IsWalkError S n [] roots e
-  cause_before n roots (Dangling id) c = absurd (nothing_reached id c.0)
+  cause_before n roots (Dangling id) c = absurd (nothing_outside id c.0)
   cause_before n roots TooManyTypes c = c
   cause_before n roots Memory c = tt

@@ -1,3 +1,4 @@
 pub mod Kept
+pub mod SystemLaws
 pub mod TypeSystems
 pub mod Walks

@@ -1,7 +1,7 @@
 -- Walks along references: what they keep, and why they stop.
 use Rattle.std.specs.Prelude.{◌≡◌, ◌≢◌, ℕ, ◌+◌, ◌*◌, ◌^◌, ◌<◌, ◌≤◌, List, [], ◌∷◌, ◌++◌, Option}
 use Rattle.std.specs.Prelude.{Some, None, ◌⊎◌, ⊤, Contains, length, slice_get}
-use Rattle.scale_info_numberings.specs.Systems.{Entry, System, IsReachedPast, looks}
+use Rattle.scale_info_numberings.specs.Systems.{Entry, System, IsFirstOutside, looks}
 use Rattle.scale_info_numberings.specs.Numberings.{IsNumbering}
 use Rattle.scale_info_walk.specs.declared.walk.Renumbering.{Renumbering}
 use Rattle.scale_info_walk.specs.declared.walk.RetainError.{RetainError}
@@ -21,10 +21,10 @@ pub record AreNumbers (order numbers : List ℕ) : Type 0 where
   pub placed : (n k : ℕ) → slice_get order n ≡ Some k → slice_get numbers k ≡ Some n
 
 -- Why a numbering of what the roots reach can stop, where there are count indices and the known
--- ones are not entered: an id is reached that is no index; there are more than 4294967295 indices;
--- or an allocation failed.
+-- ones are not entered: an id is met that is no index, and it is the first such; there are more than
+-- 4294967295 indices; or an allocation failed.
 abbrev pub IsWalkError : {Sh : Type 0} → System Sh ℕ → ℕ → List ℕ → List ℕ → RetainError → Type 0
-IsWalkError S count known roots (Dangling id) = IsReachedPast S known roots id × (count ≤ id)
+IsWalkError S count known roots (Dangling id) = IsFirstOutside S known roots id × (count ≤ id)
 IsWalkError S count known roots TooManyTypes = 4294967295 < count
 IsWalkError S count known roots Memory = ⊤
 

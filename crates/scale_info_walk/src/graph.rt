@@ -1,7 +1,8 @@
 //! What a walk goes over: anything that has references at each of its indices.
-ghost use Rattle.std.specs.Prelude.{◌≡◌, ◌<◌, ◌^◌, ◌++◌, ℕ, Some, OnOk, length};
+ghost use Rattle.std.specs.Prelude.{◌≡◌, ◌<◌, ◌≤◌, ◌^◌, ◌++◌, ℕ, Some, None, OnOk, length};
 ghost use Rattle.scale_info_numberings.specs.Systems.{Entry, System};
 ghost use Rattle.scale_info_types.specs.Shapes as shapes;
+ghost use Rattle.scale_info_walk.specs.SystemLaws.{nothing_past};
 ghost use Rattle.scale_info_walk.specs.TypeSystems.{types_system};
 
 use crate::refs::Refs;
@@ -22,6 +23,9 @@ pub trait References {
 
     /// The number of indices.
     ghost count: { Self → ℕ };
+
+    /// Nothing stands at what is no index.
+    ghost outside: { (entries : Self) (id : ℕ) → count entries ≤ id → system entries id ≡ None };
 
     /// The number of indices.
     fn len(&self) -> usize
@@ -50,6 +54,8 @@ impl<'a> References for TypeReferences<'a> {
     ghost system = { λ entries. types_system entries.types.now };
 
     ghost count = { λ entries. length entries.types.now };
+
+    ghost outside = { λ entries id past. nothing_past entries.types.now id past };
 
     fn len(&self) -> usize {
         self.types.len()

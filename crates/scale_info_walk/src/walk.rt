@@ -28,7 +28,7 @@ pub enum RetainError {
     /// An id is reached that is no index of the table.
     #[error("Dangling")]
     Dangling {
-        /// The first such id that the walk came to.
+        /// The first such id that is met from the roots, depth first.
         id: u32,
     },
     /// The table has more than 4294967295 entries.

@@ -1,7 +1,8 @@
 -- What is written of a table.
 use Rattle.std.specs.Prelude.{◌≡◌, ◌++◌, ℕ, Bool, IfSome, List, [], codes, decimal, map}
 use Rattle.std.specs.declared.option.Option.{Option}
-use Rattle.std.specs.BTreeMap.{BTreeMap}
+use Rattle.std.specs.BTreeMap.{BTreeMap, IsOrdered}
+use Rattle.std.specs.Ordering.{nat_cmp}
 use Rattle.std.specs.Io.KnownBytes.{Appends}
 use Rattle.std.specs.List.{flat_map}
 use Rattle.scale_info_describe.specs.PathSearches.{AreIdsBy, stands_in}
@@ -51,11 +52,12 @@ abbrev pub id_line : ℕ × ℕ → List ℕ
 id_line ids = decimal ids.0 ++ codes " -> " ++ decimal ids.1 ++ codes "\n"
 
 -- the output encodes the table of what the ids reach, and the notes are the lines of the old ids
--- that are kept, ascending, and their new ones
+-- that are kept, ascending and each once, and their new ones
 pub record IsPruned (table ids output notes : List ℕ) : Type 0 where
   pub order : List ℕ
   pub pruned : IsPrunedEncoding table ids order [] output
   pub new_ids : BTreeMap ℕ ℕ
+  pub ascending : IsOrdered nat_cmp new_ids
   pub has_new_ids : HasNewIds order new_ids
   pub lines : notes ≡ flat_map id_line new_ids.entries
 

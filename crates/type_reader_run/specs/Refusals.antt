@@ -1,9 +1,9 @@
 -- Why a command is refused, and what is reported of it.
-use Rattle.std.specs.Prelude.{◌≡◌, ◌≤◌, ◌⊎◌, ℕ, List, IfSome, length}
+use Rattle.std.specs.Prelude.{◌≡◌, ◌≤◌, ◌⊎◌, ℕ, List, [], IfSome, length}
 use Rattle.std.specs.declared.option.Option.{Option}
 use Rattle.std.specs.Io.KnownBytes.{Keeps}
 use Rattle.scale_info_grammar.specs.Ty.{EncodesTypes}
-use Rattle.scale_info_numberings.specs.Systems.{IsReached}
+use Rattle.scale_info_numberings.specs.Systems.{IsFirstOutside}
 use Rattle.scale_info_prune.specs.Prunes.{HasDangling}
 use Rattle.scale_info_types.specs.declared.ty.PortableType.{PortableType}
 use Rattle.scale_info_walk.specs.TypeSystems.{types_system}
@@ -60,9 +60,9 @@ abbrev pub IsPruningError : List ℕ → List (List ℕ) → ReaderError → Typ
 IsPruningError table texts error =
     IsTypesError (λ types ids id. HasDangling table ids id) table texts error
 
--- the types with these ids lead, by references, to this id, which is no index
+-- this id, which is no index, is the first such that is met from the types with these ids
 pub record IsLedTo (types : List PortableType) (ids : List ℕ) (id : ℕ) : Type 0 where
-  pub reached : IsReached (types_system types) ids id
+  pub first : IsFirstOutside (types_system types) [] ids id
   pub outside : length types ≤ id
 
 -- why there is no graph of what the types with these ids reach, which are all indices

@@ -10,6 +10,7 @@ mod digest;
 mod events;
 mod interners;
 mod lent_values;
+mod lists;
 mod loads;
 mod own;
 mod payloads;
@@ -41,7 +42,7 @@ use std::alloc::Global;
 use std::env;
 
 /// The workloads.
-const NAMES: [&str; 19] = [
+const NAMES: [&str; 20] = [
     "records",
     "payloads",
     "tables",
@@ -61,6 +62,7 @@ const NAMES: [&str; 19] = [
     "whole_tables",
     "reads_text",
     "reads_tree",
+    "lists",
 ];
 
 /// Runs a workload.
@@ -85,6 +87,7 @@ fn run(alloc: Global, name: &str, seed: u32, rounds: u32) -> Result<Digest> {
         "whole_tables" => loads::run::<ByTable>(alloc, seed, rounds),
         "reads_text" => table_texts::run::<Straight>(alloc, seed, rounds),
         "reads_tree" => table_texts::run::<ByTree>(alloc, seed, rounds),
+        "lists" => lists::run(alloc, seed, rounds),
         _ => bail!("no workload has this name"),
     }
 }

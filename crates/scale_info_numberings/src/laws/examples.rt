@@ -26,7 +26,8 @@ ghost use Rattle.scale_info_numberings.specs.Matches.{IsMatch};
 ghost use Rattle.scale_info_numberings.specs.Numberings.{IsNumbering, IsNumberingWith};
 ghost use Rattle.scale_info_numberings.specs.Paths.{IsPath};
 ghost use Rattle.scale_info_numberings.specs.RegistrationLists.{AreRegistrations};
-ghost use Rattle.scale_info_numberings.specs.Systems.{Entry, IsReached, IsReachedPast, looks};
+ghost use Rattle.scale_info_numberings.specs.Systems.{Entry, IsFirstOutside, IsReached};
+ghost use Rattle.scale_info_numberings.specs.Systems.{IsReachedPast, looks};
 ghost use Rattle.scale_info_numberings.specs.Tables.{IsTable, table_system};
 ghost use Rattle.scale_info_numberings.specs.Unfoldings.{cut, missing, no_trees, node, tree};
 ghost use Rattle.scale_info_numberings.specs.Unfoldings.{unfold_to};
@@ -101,12 +102,13 @@ pub fn loop_at_itself()
     ensures unreached { ¬ (IsNumbering self_reference [] (0 ∷ [])) }
 {}
 
-/// Where 0 refers to 2 and 2 lies outside, 2 is reached from 0, and there is no numbering from 0.
-/// There is one from 1, which does not reach 2. The system matches itself, with 2 taken to 2, and
+/// Where 0 refers to 2 and 2 lies outside, 2 is reached from 0, and there is no numbering from 0. It
+/// is the first outside from 1 and 0. There is a numbering from 1, which does not reach 2. The system matches itself, with 2 taken to 2, and
 /// matches none that has a node in the place of 2.
 pub fn outside()
     ensures is_outside { leads_outside 2 ≡ None }
     ensures reached { IsReached leads_outside (0 ∷ []) 2 }
+    ensures first { IsFirstOutside leads_outside [] (1 ∷ 0 ∷ []) 2 }
     ensures no_numbering { (L : List ℕ) → ¬ (IsNumbering leads_outside (0 ∷ []) L) }
     ensures another_root { IsNumberingWith leads_outside (1 ∷ []) (1 ∷ []) (1 ∷ []) }
     ensures matches_itself { IsMatch leads_outside (0 ∷ []) leads_outside (0 ∷ [])

@@ -1,7 +1,7 @@
 use Rattle.std.proofs.Common.{◌≡◌, length, rules, string_bytes}
 use Rattle.std.proofs.lemmas.Str.{IsUtf8-string_bytes}
 use Rattle.scale_info_graph.proofs.Cuts.{cut}
-use Rattle.scale_info_graph.proofs.Inside.{inside}
+use Rattle.scale_info_walk.proofs.Inside.{inside}
 use Rattle.scale_info_graph.proofs.graph.append_graph.Goals as goal
 
 pub truncate-requires : goal.truncate-requires

@@ -14,7 +14,7 @@ use Rattle.scale_info_walk.specs.declared.walk.RetainError.{RetainError}
 use Rattle.scale_info_walk.specs.declared.walk.RetainError.TheVariants.{Dangling, TooManyTypes}
 use Rattle.scale_info_walk.specs.declared.walk.RetainError.TheVariants.{Memory}
 use Rattle.scale_info_numberings.specs.Numberings.{IsNumbering}
-use Rattle.scale_info_numberings.specs.Systems.{IsReached}
+use Rattle.scale_info_numberings.specs.Systems.{IsFirstOutside}
 use Rattle.scale_info_types.specs.declared.ty.PortableType.{PortableType}
 use Rattle.std.specs.BTreeMap.{get}
 use Rattle.std.specs.Ordering.{nat_cmp}
@@ -27,7 +27,7 @@ retain_error :
     → IsChosen step first (length types) chosen last → roots ≡ chosen
     → IsWalkError (types_system types) (length types) [] roots e → IsRetainError step first types e
 retain_error step first types chosen roots last (Dangling id) x same c =
-    (chosen, last, x, subst (λ (rs : List ℕ). IsReached (types_system types) rs id) same c.0, c.1)
+    (chosen, last, x, subst (λ (rs : List ℕ). IsFirstOutside (types_system types) [] rs id) same c.0, c.1)
 retain_error step first types chosen roots last TooManyTypes x same c = c
 retain_error step first types chosen roots last Memory x same c = tt
 

@@ -1,8 +1,7 @@
 use Rattle.std.proofs.Common.{rules, arith, ◌≡◌, ◌≢◌, ◌<◌, ◌≤◌, ◌∷◌, ◌++◌, [], Some, length}
 use Rattle.std.proofs.Common.{slice_get, inl, inr, refl, ap, ◌∙◌, ◌^◌, get_or}
 use Rattle.std.proofs.lemmas.Option.{slice_get_read}
-use Rattle.scale_info_numberings.proofs.Places.{contains_head}
-use Rattle.scale_info_numberings.specs.Systems.{root}
+use Rattle.scale_info_numberings.specs.Systems.{here}
 use Rattle.scale_info_walk.proofs.Visiting.{known, unknown, numbers_long, numbers_within, walk_more}
 use Rattle.scale_info_walk.proofs.Visiting.{short_before}
 use Rattle.scale_info_walk.proofs.walk.look.Given as given
@@ -12,8 +11,9 @@ pub returns-in_default-clause-cause : goal.returns-in_default-clause-cause
 returns-in_default-clause-cause g c =
     let past : length c.args.walk.now.numbers.items ≤ c.args.id = search rules in
     let long = c.requires.long in (
-      root c.args.id (contains_head c.args.id [])
-          (λ k. let h = numbers_within c.args.walk.now.order.items c.args.walk.now.numbers.items c.requires.dense c.args.id k in omega arith),
+      here c.args.walk.now.order.items [] c.args.id
+          (λ k. let h = numbers_within c.args.walk.now.order.items c.args.walk.now.numbers.items c.requires.dense c.args.id k in omega arith)
+          (g.R.References.outside c.args.source.now c.args.id (omega arith)),
       omega arith,
     )
 

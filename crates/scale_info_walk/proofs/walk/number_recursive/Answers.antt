@@ -1,5 +1,4 @@
-use Rattle.std.proofs.Common.{arith, get_or, length}
-use Rattle.std.proofs.lemmas.List.Elements.{Contains-get_or}
+use Rattle.std.proofs.Common.{arith, length}
 use Rattle.std.proofs.lemmas.Result.{err_from_is_err_and}
 use Rattle.scale_info_numberings.proofs.Extensions.{one_numbering}
 use Rattle.scale_info_walk.specs.TypeSystems.{types_system}
@@ -24,8 +23,8 @@ returns-in_err-visit_recursively-clause-cause c =
     let p = err_from_is_err_and c.from_residual-in_err-visit_recursively.result c.from_residual-in_err-visit_recursively.ensures.1 in
     rw (p.1, p.2)
     (cause_at_root (types_system c.args.types.now) (length c.args.types.now)
-    c.loop-root.found.order.items c.args.roots.now (get_or c.args.roots.now c.loop-root.root-index 0) c.in_err-visit_recursively.field-0.0
-    (Contains-get_or c.args.roots.now c.loop-root.root-index 0 c.loop-root-test.true) c.in_err-visit_recursively.ensures.cause)
+    c.loop-root.found.order.items c.args.roots.now c.loop-root.root-index 0 c.in_err-visit_recursively.field-0.0
+    c.loop-root-test.true c.loop-root.invariant.0 c.in_err-visit_recursively.ensures.cause)
 
 pub loop-root-preserved : goal.loop-root-preserved
 loop-root-preserved c =

@@ -1,5 +1,4 @@
-use Rattle.std.proofs.Common.{arith, get_or}
-use Rattle.std.proofs.lemmas.List.Elements.{Contains-get_or}
+use Rattle.std.proofs.Common.{arith}
 use Rattle.std.proofs.lemmas.Result.{err_from_is_err_and}
 use Rattle.scale_info_walk.proofs.Visiting.{roots_begin, roots_more, roots_all, cause_at_root}
 use Rattle.scale_info_walk.proofs.walk.number_roots.Goals as goal
@@ -14,8 +13,8 @@ returns-in_err-visit-clause-cause g c =
     let p = err_from_is_err_and c.from_residual.result c.from_residual.ensures.1 in
     rw (p.1, p.2)
     (cause_at_root (g.R.References.system c.args.source.now) (g.R.References.count c.args.source.now)
-    c.loop-root.found.order.items c.args.roots.now (get_or c.args.roots.now c.loop-root.root-index 0) c.in_err-visit.field-0.0
-    (Contains-get_or c.args.roots.now c.loop-root.root-index 0 c.loop-root-test.true) c.in_err-visit.ensures.cause)
+    c.loop-root.found.order.items c.args.roots.now c.loop-root.root-index 0 c.in_err-visit.field-0.0
+    c.loop-root-test.true c.loop-root.invariant.0 c.in_err-visit.ensures.cause)
 
 pub loop-root-preserved : goal.loop-root-preserved
 loop-root-preserved g c =

@@ -23,10 +23,11 @@ returns-in_err-into_portable-clause-cause g c =
     let front = taken_front _ c.loop-item.yielded _ c.loop-item.yielded_by in
     let all : c.args.given.items ≡ c.loop-item.yielded ++ c.in-Some.item ∷ into_iter_items c.next.new.self =
     sym c.into_iter-item-iterator.ensures.into_iter_gives.0 ∙ (front ∙ ap (λ xs. c.loop-item.yielded ++ xs) c.in-Some.ensures.steps.0) in
-    let inside = roots_so_far g.X.IntoPortable.roots c.args.given.items c.loop-item.yielded (into_iter_items c.next.new.self) c.in-Some.item all in
+    let parts = roots_so_far g.X.IntoPortable.roots c.args.given.items c.loop-item.yielded (into_iter_items c.next.new.self) c.in-Some.item all in
     rw (p.1, p.2)
-    (cause_before S c.args.self.now c.loop-item.self (flat_map g.X.IntoPortable.roots c.loop-item.yielded) (g.X.IntoPortable.roots c.in-Some.item) (flat_map g.X.IntoPortable.roots c.args.given.items)
-    c.in_err-into_portable.field-0.0 c.loop-item.invariant.2 inside.0 inside.1 c.in_err-into_portable.ensures.cause)
+    (cause_before S c.args.self.now c.loop-item.self (flat_map g.X.IntoPortable.roots c.loop-item.yielded) (g.X.IntoPortable.roots c.in-Some.item)
+    (flat_map g.X.IntoPortable.roots (into_iter_items c.next.new.self)) (flat_map g.X.IntoPortable.roots c.args.given.items)
+    c.in_err-into_portable.field-0.0 c.loop-item.invariant.2 parts c.in_err-into_portable.ensures.cause)
 
 pub loop-item-preserved : goal.loop-item-preserved
 loop-item-preserved g c =
