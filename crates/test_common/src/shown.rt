@@ -44,6 +44,13 @@ fn push_id(text: &mut String, id: &TypeId, depth: u32) -> Result<(), AllocError>
     text.push_str(")")
 }
 
+/// The identity that a type is known by, as a text.
+pub fn identity_of(alloc: Global, ty: &MetaType) -> Result<String, AllocError> {
+    let mut text = String::new(alloc);
+    push_id(&mut text, ty.type_id(), DEPTH)?;
+    Ok(text)
+}
+
 /// Appends a type after a space.
 fn push_type(text: &mut String, ty: &MetaType) -> Result<(), AllocError> {
     text.push_str(" ")?;
