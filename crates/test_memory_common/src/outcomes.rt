@@ -9,8 +9,8 @@ use std::test::Fail;
 pub struct Outcome {
     /// What was lent for writing, before the call and after it; None, if nothing was.
     pub lent: Option<(String, String)>,
-    /// How often the filter was asked; None, if the call takes no filter.
-    pub asked: Option<usize>,
+    /// The ids that the filter was asked, in order; None, if the call takes no filter.
+    pub asked: Option<Vec<u32>>,
     /// What was returned.
     pub answer: Answer,
 }
@@ -38,8 +38,8 @@ impl Outcome {
         })
     }
 
-    /// The outcome of a call whose filter was asked so often.
-    pub fn asking(outcome: Result<Outcome, Fail>, asked: usize) -> Result<Outcome, Fail> {
+    /// The outcome of a call whose filter was asked these ids.
+    pub fn asking(outcome: Result<Outcome, Fail>, asked: Vec<u32>) -> Result<Outcome, Fail> {
         let mut outcome = outcome?;
         outcome.asked = Some(asked);
         Ok(outcome)
@@ -52,8 +52,9 @@ pub fn print(rt: &HostRuntime, outcome: &Outcome) -> io::Result<()> {
         println!(rt; "  before: {before}")?;
         println!(rt; "  after: {after}")?;
     }
-    if let Some(asked) = &outcome.asked {
-        println!(rt; "  asked: {asked}")?;
+    if let Some(ids) = &outcome.asked {
+        println!(rt; "  asked: {}", ids.len())?;
+        println!(rt; "  ids: {ids:?}")?;
     }
     match &outcome.answer {
         Answer::Done(text) => println!(rt; "  done: {text}"),

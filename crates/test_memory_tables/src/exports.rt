@@ -78,8 +78,8 @@ fn chosen(alloc: Global, row: &str) -> Result<(Vec<u32>, Vec<MetaType>), Fail> {
     }
 }
 
-/// Writes what the chosen types reach. The filter goes by how often it was asked, so that it
-/// chooses these only where it is asked once for each id from 0 up.
+/// Writes what the types reach that the filter chooses; it notes each id that it is asked, for which
+/// there is room.
 pub fn export_types(rt: &HostRuntime, row: &str) -> Result<Outcome, Fail> {
     let mut known = Held(catalogue(rt.alloc())?);
     add_cycle(rt.alloc(), &mut known.0)?;
@@ -87,15 +87,14 @@ pub fn export_types(rt: &HostRuntime, row: &str) -> Result<Outcome, Fail> {
     let types = Held(types);
     let mut out = output(rt.alloc())?;
     let before = hex::encode(rt.alloc(), out.as_slice());
-    let mut asked = 0u32;
+    let mut asked = Vec::with_capacity(rt.alloc(), 64)?;
     let noted = &mut asked;
     let returned = marked!(rt; export(
         rt.alloc(),
         &known.0,
         &types.0,
-        move |_| {
-            let id = *noted;
-            *noted = id.saturating_add(1);
+        move |id| {
+            let _ = noted.push(id);
             ids.contains(&id)
         },
         &mut out,
@@ -105,5 +104,5 @@ pub fn export_types(rt: &HostRuntime, row: &str) -> Result<Outcome, Fail> {
         Ok(exported) => written(rt.alloc(), exported),
         Err(error) => failed(rt.alloc(), &error),
     };
-    Outcome::asking(Outcome::lending(before, after, answer), asked as usize)
+    Outcome::asking(Outcome::lending(before, after, answer), asked)
 }

@@ -49,22 +49,21 @@ fn chosen(alloc: Global, table: &PortableRegistry) -> Result<Vec<u32>, Fail> {
     Ok(ids)
 }
 
-/// Keeps what the given ids reach. The filter goes by how often it was asked, so that it chooses
-/// these ids only where it is asked once for each id from 0 up.
+/// Keeps what the given ids reach, which are those that the filter chooses; it notes each id that it
+/// is asked, for which there is room.
 pub fn retain(rt: &HostRuntime, row: &str) -> Result<Outcome, Fail> {
     let (name, ids) = given(rt.alloc(), row)?;
     let mut table = Held(table_of(rt.alloc(), name)?);
     let before = digits(rt.alloc(), &table.0);
-    let mut asked = 0u32;
+    let mut asked = Vec::with_capacity(rt.alloc(), table.0.len())?;
     let noted = &mut asked;
-    let returned = marked!(rt; table.0.retain(rt.alloc(), move |_| {
-        let id = *noted;
-        *noted = id.saturating_add(1);
+    let returned = marked!(rt; table.0.retain(rt.alloc(), move |id| {
+        let _ = noted.push(id);
         ids.contains(&id)
     }));
     let after = digits(rt.alloc(), &table.0);
     let outcome = Outcome::lending(before, after, shown(rt.alloc(), returned));
-    Outcome::asking(outcome, asked as usize)
+    Outcome::asking(outcome, asked)
 }
 
 /// The bytes of a row, and the ids that they are pruned to.
