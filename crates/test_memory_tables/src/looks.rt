@@ -1,5 +1,5 @@
 //! Calls over tables that do not allocate.
-use crate::registries::{registry_of, registry_of_u8};
+use crate::registries::{numbered, registry_of, registry_of_u8};
 use scale_info::walk::Refs;
 use std::test::Fail;
 use test_common::held::Held;
@@ -60,7 +60,8 @@ pub fn next_refs(rt: &HostRuntime, row: &str) -> Result<Outcome, Fail> {
     Outcome::of(done(format!(in rt.alloc(); "{first:?} {steps}")))
 }
 
-/// Goes over the descriptions of a registry, and compares it with another.
+/// Goes over the descriptions of a registry, which are shown with their ids, and compares it with
+/// another.
 pub fn registry(rt: &HostRuntime, name: &str) -> Result<Outcome, Fail> {
     let known = Held(catalogue(rt.alloc())?);
     let registry = Held(registry_of(rt.alloc(), &known.0, name)?);
@@ -72,5 +73,6 @@ pub fn registry(rt: &HostRuntime, name: &str) -> Result<Outcome, Fail> {
         count = count.saturating_add(1);
     }
     end(rt);
-    Outcome::of(done(format!(in rt.alloc(); "{count} {same}")))
+    let types = numbered(rt.alloc(), &registry.0)?;
+    Outcome::of(done(format!(in rt.alloc(); "{count} {same}{types}")))
 }

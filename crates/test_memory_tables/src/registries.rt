@@ -40,6 +40,16 @@ pub fn descriptions(alloc: Global, registry: &Registry) -> Result<String, AllocE
     Ok(text)
 }
 
+/// The encodings of a registry's descriptions, each after its id.
+pub fn numbered(alloc: Global, registry: &Registry) -> Result<String, AllocError> {
+    let mut text = String::new(alloc);
+    for (id, ty) in registry.types() {
+        let (id, digits) = (id.id(), digits(alloc, ty)?);
+        write!(text, " {id}: {digits}")?;
+    }
+    Ok(text)
+}
+
 /// What shows a registry: its descriptions, and whether it equals one that is made anew.
 pub fn state(alloc: Global, registry: &Registry, known: &Catalogue) -> Result<String, AllocError> {
     let is_anew = match registry_of_u8(alloc, known) {
