@@ -4,7 +4,9 @@ use std::alloc::Global;
 use std::test::Fail;
 use test_common::chains::chain_to_bool;
 use test_common::encodings::into_encoding;
-use test_common::rows::{AMONG, BUILT, COMPOSITES, MALFORMED, MIXED, TABLES, row_bytes, row_named};
+use test_common::rows::{
+    AMONG, BUILT, COMPOSITES, MALFORMED, MIXED, PRUNED, TABLES, row_bytes, row_named,
+};
 
 /// Tables and one more byte; rows like those of the tests.
 const TRAILING: &str = "\
@@ -12,7 +14,9 @@ a table and a byte: 04 000000050500 ff
 ";
 
 /// The texts of rows.
-const TEXTS: [&str; 6] = [TABLES, AMONG, COMPOSITES, BUILT, MALFORMED, TRAILING];
+const TEXTS: [&str; 7] = [
+    TABLES, AMONG, COMPOSITES, BUILT, PRUNED, MALFORMED, TRAILING,
+];
 
 /// Whether a text has the row of this name.
 fn has_row(text: &str, name: &str) -> bool {
