@@ -2,7 +2,9 @@
 //! the rest of the line.
 //!
 //! Each function has the calls of one kind, and leaves other names to the next one.
-use crate::{built, events, loads, passes, people, runs, typed, value_texts, values, views};
+use crate::{
+    built, events, loads, passes, people, runs, typed, value_texts, values, views, within,
+};
 use scale_info::meta_type::Catalogue;
 use std::test::Fail;
 use test_memory_build::{
@@ -250,6 +252,7 @@ fn call_of_values(rt: &HostRuntime, name: &str, input: &str) -> Result<Outcome, 
         "encode_value" => values::encode(rt, input),
         "skip_value" => values::skip(rt, input),
         "visit_events" => events::visit(rt, input),
+        "visit_value_within" => within::visit(rt, input),
         "append_value_json" => value_texts::append(rt, input),
         "value_json" => value_texts::text(rt, input),
         "value::from_json" => value_texts::take(rt, input),

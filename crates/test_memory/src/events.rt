@@ -11,9 +11,22 @@ use test_memory_common::outcomes::Outcome;
 
 /// Writes a word for each event.
 #[derive(Drop)]
-struct Words {
+pub struct Words {
     alloc: Global,
     text: String,
+}
+
+impl Words {
+    /// No words yet.
+    pub fn new(alloc: Global) -> Words {
+        let text = String::new(alloc);
+        Words { alloc, text }
+    }
+
+    /// The words so far.
+    pub fn text(&self) -> &str {
+        self.text.as_str()
+    }
 }
 
 /// The name of a field, or a mark that it has none.
@@ -74,8 +87,7 @@ pub fn visit(rt: &HostRuntime, row: &str) -> Result<Outcome, Fail> {
     let alloc = rt.alloc();
     let given = Given::read(alloc, row)?;
     let table = &given.table.0;
-    let text = String::new(alloc);
-    let mut words = Words { alloc, text };
+    let mut words = Words::new(alloc);
     let returned = marked!(rt; visit_events(table, given.id, &given.input, &mut words));
-    Outcome::of(answer(alloc, returned, words.text.as_str()))
+    Outcome::of(answer(alloc, returned, words.text()))
 }

@@ -14,6 +14,7 @@ mod typed;
 mod value_texts;
 mod values;
 mod views;
+mod within;
 
 use std::test::Fail;
 use test_memory_common::outcomes::print;
