@@ -138,10 +138,10 @@ fn bounds_of(ids: &str) -> Result<(u32, u64, u64), Fail> {
     let Some((id, rest)) = ids.split_once(" within ") else {
         return Err(Fail::new("a row has no limit"));
     };
-    let (limit, events) = rest
-        .split_once(" for ")
-        .unwrap_or((rest, "18446744073709551615"));
-    Ok((id.parse()?, limit.parse()?, events.parse()?))
+    match rest.split_once(" for ") {
+        Some((limit, events)) => Ok((id.parse()?, limit.parse()?, events.parse()?)),
+        None => Ok((id.parse()?, rest.parse()?, u64::MAX)),
+    }
 }
 
 /// Shows a visitor the value of a row up to a limit.
