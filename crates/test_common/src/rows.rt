@@ -162,6 +162,15 @@ pub fn parted<'a>(text: &'a str, mark: char) -> Result<(&'a str, &'a str), Fail>
     }
 }
 
+/// The ids, the table and the input of a row: after a name and a colon they stand in this order,
+/// with semicolons between them.
+pub fn parts_of(row: &str) -> Result<(&str, &str, &str), Fail> {
+    let (_, rest) = parted(row, ':')?;
+    let (ids, rest) = parted(rest, ';')?;
+    let (table, input) = parted(rest, ';')?;
+    Ok((ids.trim(), table, input.trim()))
+}
+
 /// The row of a line.
 fn read_row(alloc: Global, line: &str) -> Result<Row<'_>, Fail> {
     let Some((name, digits)) = line.split_once(':') else {

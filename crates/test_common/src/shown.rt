@@ -45,7 +45,11 @@ fn push_id(text: &mut String, id: &TypeId, depth: u32) -> Result<(), AllocError>
 }
 
 /// The identity that a type is known by, as a text.
-pub fn identity_of(alloc: Global, ty: &MetaType) -> Result<String, AllocError> {
+pub fn identity_of(
+    alloc: Global,
+    made: Result<MetaType, AllocError>,
+) -> Result<String, AllocError> {
+    let ty = made?;
     let mut text = String::new(alloc);
     push_id(&mut text, ty.type_id(), DEPTH)?;
     Ok(text)

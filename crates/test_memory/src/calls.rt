@@ -2,9 +2,7 @@
 //! the rest of the line.
 //!
 //! Each function has the calls of one kind, and leaves other names to the next one.
-use crate::{
-    built, events, loads, passes, people, runs, typed, value_texts, values, views, within,
-};
+use crate::{built, loads, passes, people, runs, typed, value_texts, values, views};
 use scale_info::meta_type::Catalogue;
 use std::test::Fail;
 use test_memory_build::{
@@ -12,7 +10,7 @@ use test_memory_build::{
 };
 use test_memory_common::outcomes::Outcome;
 use test_memory_common::types::catalogue;
-use test_memory_lent::{changes, graphs, lent_tables};
+use test_memory_lent::{changes, each, events, graphs, lent_tables, within};
 use test_memory_parts::{copies, interners as texts, lists, looks as parts, moves, orders};
 use test_memory_tables::{
     builders, bytes, conversions, discoveries, exports, interners, json, looks, prunings,
@@ -235,8 +233,8 @@ fn call_of_walks(rt: &HostRuntime, name: &str, input: &str) -> Result<Outcome, F
         "Refs::of" => prunings::refs_of(rt, input),
         "Refs::prepend_of" => prunings::prepend(rt, input),
         "Refs::next" => looks::next_refs(rt, input),
-        "look_at_builder" => builders::look(rt, input),
-        "look_at_table" => looks::look(rt, input),
+        "look_at_builder" => each::look_at_builder(rt, input),
+        "look_at_table" => each::look_at_table(rt, input),
         "compare_tables" => looks::compare(rt, input),
         "order_descriptions" => looks::order(rt, input),
         _ => call_of_values(rt, name, input),

@@ -1,5 +1,5 @@
 //! Types of a table that are loaded, and values by them.
-use crate::values::{Given, lent_outcome, parts_of};
+use crate::values::{Given, lent_outcome};
 use crate::views::ids_and_bytes;
 use scale_info::PortableRegistry;
 use scale_info::lent::decode_lent;
@@ -9,7 +9,7 @@ use scale_info::view::TableView;
 use std::alloc::{AllocError, Global};
 use std::test::Fail;
 use test_common::held::Held;
-use test_common::rows::{numbers, row_bytes};
+use test_common::rows::{numbers, parts_of, row_bytes};
 use test_memory_common::answers::{digits, done};
 use test_memory_common::inputs::bytes_of;
 use test_memory_common::outcomes::Outcome;

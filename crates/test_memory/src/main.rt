@@ -5,7 +5,6 @@
 
 mod built;
 mod calls;
-mod events;
 mod loads;
 mod passes;
 mod people;
@@ -14,7 +13,6 @@ mod typed;
 mod value_texts;
 mod values;
 mod views;
-mod within;
 
 use std::test::Fail;
 use test_memory_common::outcomes::print;

@@ -1,9 +1,9 @@
 //! Values of a program's own types, decoded by tables and encoded again.
-use crate::values::{Given, ids_of, parts_of};
+use crate::values::{Given, ids_of};
 use scale_info::typed::{DecodeAs, EncodeAs, decode_as, encode_as};
 use std::test::Fail;
 use test_common::held::Held;
-use test_common::rows::{parted, row_bytes};
+use test_common::rows::{parted, parts_of, row_bytes};
 use test_memory_common::answers::{done, failed};
 use test_memory_common::inputs::table_of;
 use test_memory_common::outcomes::Outcome;

@@ -1,5 +1,5 @@
 //! Values as JSON: their texts, and the values that are taken from trees.
-use crate::values::{Given, parts_of};
+use crate::values::Given;
 use scale_info::PortableRegistry;
 use scale_info::value::{Dyn, encode_value, from_json};
 use scale_info::value_text::{ValueTextError, append_value_json, value_json};
@@ -7,6 +7,7 @@ use serde_json::Value;
 use std::alloc::{AllocError, Global};
 use std::test::Fail;
 use test_common::held::Held;
+use test_common::rows::parts_of;
 use test_memory_common::answers::{done, failed, shown};
 use test_memory_common::inputs::{output, table_of};
 use test_memory_common::outcomes::Outcome;

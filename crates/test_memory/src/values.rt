@@ -7,20 +7,11 @@ use scale_info::visit::skip_value;
 use std::alloc::{AllocError, Global};
 use std::test::Fail;
 use test_common::held::Held;
-use test_common::rows::{parted, row_bytes};
+use test_common::rows::{parts_of, row_bytes};
 use test_memory_common::answers::{Answer, done, failed, shown};
 use test_memory_common::inputs::table_of;
 use test_memory_common::outcomes::Outcome;
 use test_memory_common::{appended, marked};
-
-/// The ids, the table and the input of a row: after a name and a colon they stand in this order,
-/// with semicolons between them.
-pub fn parts_of(row: &str) -> Result<(&str, &str, &str), Fail> {
-    let (_, rest) = parted(row, ':')?;
-    let (ids, rest) = parted(rest, ';')?;
-    let (table, input) = parted(rest, ';')?;
-    Ok((ids.trim(), table, input.trim()))
-}
 
 /// What a row gives.
 #[derive(Drop)]

@@ -1,10 +1,9 @@
 //! What a call returned, as a text.
 use crate::types::catalogue;
-use scale_info::{IntoPortable, MetaType, Registry, Scale};
+use scale_info::{IntoPortable, Registry, Scale};
 use std::alloc::{AllocError, Global};
 use std::fmt::Debug;
 use test_common::held::Held;
-use test_common::shown::identity_of;
 
 /// What a call returned.
 #[derive(Drop)]
@@ -96,17 +95,6 @@ where
 {
     match returned {
         Ok(value) => converted(alloc, value),
-        Err(error) => failed(alloc, &error),
-    }
-}
-
-/// The outcome of a type, which is shown by its identity, or of an error.
-pub fn identified<E: Debug + Drop>(
-    alloc: Global,
-    returned: Result<MetaType, E>,
-) -> Result<Answer, AllocError> {
-    match returned {
-        Ok(ty) => done(identity_of(alloc, &ty)),
         Err(error) => failed(alloc, &error),
     }
 }

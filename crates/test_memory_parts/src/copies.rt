@@ -6,7 +6,8 @@ use std::fmt::Debug;
 use std::test::Fail;
 use test_common::held::Held;
 use test_common::parts;
-use test_memory_common::answers::{encoded, identified, registered, shown};
+use test_common::shown::identity_of;
+use test_memory_common::answers::{encoded, printed, registered, shown};
 use test_memory_common::inputs::table_of;
 use test_memory_common::marked;
 use test_memory_common::outcomes::Outcome;
@@ -75,7 +76,7 @@ pub fn meta_part(rt: &HostRuntime, kind: &str) -> Result<Outcome, Fail> {
 pub fn meta_type(rt: &HostRuntime, name: &str) -> Result<Outcome, Fail> {
     let ty = Held(type_named(rt.alloc(), name)?);
     let returned = marked!(rt; ty.0.try_clone(rt.alloc()));
-    Outcome::of(identified(rt.alloc(), returned))
+    Outcome::of(printed(rt.alloc(), identity_of(rt.alloc(), returned)))
 }
 
 /// Copies the identity of the type of this name.
@@ -139,7 +140,7 @@ pub fn by_form(rt: &HostRuntime, kind: &str) -> Result<Outcome, Fail> {
 fn type_of_program(rt: &HostRuntime) -> Result<Outcome, Fail> {
     let ty = Held(type_named(rt.alloc(), "Vec<u32>")?);
     let returned = marked!(rt; MetaForm::copy_type(rt.alloc(), &ty.0));
-    Outcome::of(identified(rt.alloc(), returned))
+    Outcome::of(printed(rt.alloc(), identity_of(rt.alloc(), returned)))
 }
 
 /// Copies an id.

@@ -1,5 +1,4 @@
 //! Tables that are built at run time.
-use crate::looks::listed;
 use scale_info::form::PortableForm;
 use scale_info::interner::InternError;
 use scale_info::{PortableRegistry, PortableRegistryBuilder, Scale, Type};
@@ -15,7 +14,7 @@ use test_memory_common::marks::{begin, end};
 use test_memory_common::outcomes::Outcome;
 
 /// The builder of a table's descriptions.
-fn built(alloc: Global, table: PortableRegistry) -> Result<PortableRegistryBuilder, Fail> {
+pub fn built(alloc: Global, table: PortableRegistry) -> Result<PortableRegistryBuilder, Fail> {
     let mut builder = Held(PortableRegistryBuilder::new(alloc));
     for entry in table.types.into_vec() {
         builder.0.register_type(entry.ty)?;
@@ -82,30 +81,8 @@ fn register_type(rt: &HostRuntime, call: &str, row: &str) -> Result<Outcome, Fai
     register(rt, builder, ty.into_inner())
 }
 
-/// Asks a builder for the description at each id, at its next id, and at the greatest one.
-fn get_each(rt: &HostRuntime, row: &str) -> Result<Outcome, Fail> {
-    let builder = Held(built(rt.alloc(), table_of(rt.alloc(), row)?)?);
-    let next = builder.0.next_type_id();
-    let mut found = Vec::with_capacity(rt.alloc(), (next as usize).saturating_add(2))?;
-    begin(rt);
-    for id in 0..=next {
-        let _ = found.push(builder.0.get(id));
-    }
-    let _ = found.push(builder.0.get(u32::MAX));
-    end(rt);
-    Outcome::of(done(listed(rt.alloc(), &found)))
-}
-
-/// Asks a builder: after `each of` for its descriptions, and else for what it has.
-pub fn look(rt: &HostRuntime, row: &str) -> Result<Outcome, Fail> {
-    match row.strip_prefix("each of ") {
-        Some(name) => get_each(rt, name),
-        None => look_at_first(rt, row),
-    }
-}
-
 /// Asks a builder for its next id, and for its first description.
-fn look_at_first(rt: &HostRuntime, row: &str) -> Result<Outcome, Fail> {
+pub fn look(rt: &HostRuntime, row: &str) -> Result<Outcome, Fail> {
     let builder = Held(built(rt.alloc(), table_of(rt.alloc(), row)?)?);
     begin(rt);
     let (next, first) = (builder.0.next_type_id(), builder.0.get(0).is_some());

@@ -1,75 +1,17 @@
 //! Calls over tables that do not allocate.
 use crate::registries::{numbered, registry_of, registry_of_u8};
-use scale_info::Type;
-use scale_info::form::PortableForm;
-use scale_info::value::variant_index;
 use scale_info::walk::Refs;
-use std::alloc::{AllocError, Global};
 use std::test::Fail;
 use test_common::held::Held;
-use test_common::rows::parted;
-use test_memory_common::answers::{digits, done};
+use test_memory_common::answers::done;
 use test_memory_common::inputs::table_of;
 use test_memory_common::marked;
 use test_memory_common::marks::{begin, end};
 use test_memory_common::outcomes::Outcome;
 use test_memory_common::types::catalogue;
 
-/// Descriptions that may be there, each by its encoding, with blanks between them.
-pub fn listed(alloc: Global, found: &[Option<&Type<PortableForm>>]) -> Result<String, AllocError> {
-    let mut text = String::new(alloc);
-    for ty in found {
-        if !text.is_empty() {
-            text.push_str(" ")?;
-        }
-        match ty {
-            Some(ty) => text.push_str(digits(alloc, *ty)?.as_str())?,
-            None => text.push_str("none")?,
-        }
-    }
-    Ok(text)
-}
-
-/// Asks a table for the description at each index, at the first one past its end, and at the
-/// greatest one.
-fn resolve_each(rt: &HostRuntime, row: &str) -> Result<Outcome, Fail> {
-    let table = Held(table_of(rt.alloc(), row)?);
-    let mut found = Vec::with_capacity(rt.alloc(), table.0.len().saturating_add(2))?;
-    let past = u32::try_from(table.0.len())?;
-    begin(rt);
-    for index in 0..=past {
-        let _ = found.push(table.0.resolve(index));
-    }
-    let _ = found.push(table.0.resolve(u32::MAX));
-    end(rt);
-    Outcome::of(done(listed(rt.alloc(), &found)))
-}
-
-/// Asks a table for the index of a variant. A row is a name, a colon, an id, a semicolon and the
-/// table.
-fn find_variant(rt: &HostRuntime, row: &str) -> Result<Outcome, Fail> {
-    let (name, rest) = parted(row, ':')?;
-    let (id, table) = parted(rest, ';')?;
-    let id: u32 = id.trim().parse()?;
-    let table = Held(table_of(rt.alloc(), table.trim())?);
-    let index = marked!(rt; variant_index(&table.0, id, name));
-    Outcome::of(done(format!(in rt.alloc(); "{index:?}")))
-}
-
-/// Asks a table: after `each of` for its descriptions, after `variant` for an index, and else for
-/// what it has.
-pub fn look(rt: &HostRuntime, row: &str) -> Result<Outcome, Fail> {
-    if let Some(name) = row.strip_prefix("each of ") {
-        return resolve_each(rt, name);
-    }
-    match row.strip_prefix("variant ") {
-        Some(row) => find_variant(rt, row),
-        None => look_at_all(rt, row),
-    }
-}
-
 /// Asks a table for what it has.
-fn look_at_all(rt: &HostRuntime, row: &str) -> Result<Outcome, Fail> {
+pub fn look(rt: &HostRuntime, row: &str) -> Result<Outcome, Fail> {
     let table = Held(table_of(rt.alloc(), row)?);
     begin(rt);
     let (len, is_empty, is_closed) = (table.0.len(), table.0.is_empty(), table.0.is_closed());

@@ -6,7 +6,8 @@ use scale_info::meta_type::{HasIdentity, Identified};
 use scale_info::{MetaType, TypeDefSequence, TypeInfo};
 use std::test::Fail;
 use test_common::shown;
-use test_memory_common::answers::{identified, printed, registered, shown};
+use test_common::shown::identity_of;
+use test_memory_common::answers::{printed, registered, shown};
 use test_memory_common::by_name::{Described, for_type, found};
 use test_memory_common::marked;
 use test_memory_common::outcomes::Outcome;
@@ -32,20 +33,20 @@ fn text<T: TypeInfo>(rt: &HostRuntime) -> Result<Outcome, Fail> {
 /// Makes a type by its identity.
 fn by_identity<T: HasIdentity>(rt: &HostRuntime) -> Result<Outcome, Fail> {
     let returned = marked!(rt; MetaType::new::<T>(rt.alloc()));
-    Outcome::of(identified(rt.alloc(), returned))
+    Outcome::of(printed(rt.alloc(), identity_of(rt.alloc(), returned)))
 }
 
 /// Makes a type by the function of that name.
 fn by_function<T: HasIdentity>(rt: &HostRuntime) -> Result<Outcome, Fail> {
     let returned = marked!(rt; meta_type::<T>(rt.alloc()));
-    Outcome::of(identified(rt.alloc(), returned))
+    Outcome::of(printed(rt.alloc(), identity_of(rt.alloc(), returned)))
 }
 
 /// Makes the definition of a sequence, which is shown by the type of its items.
 fn sequence<T: HasIdentity>(rt: &HostRuntime) -> Result<Outcome, Fail> {
     let returned = marked!(rt; TypeDefSequence::of::<T>(rt.alloc()));
     let items = returned.map(|definition| definition.type_param);
-    Outcome::of(identified(rt.alloc(), items))
+    Outcome::of(printed(rt.alloc(), identity_of(rt.alloc(), items)))
 }
 
 /// A call that is made for a type.

@@ -1,6 +1,5 @@
 //! Values that are shown to a visitor up to a limit.
 use crate::events::Words;
-use crate::values::parts_of;
 use scale_info::form::PortableForm;
 use scale_info::visit::{EventVisitor, ValueEvent, ValueVisitor, WithinError, visit_value_within};
 use scale_info::{Field, Variant};
@@ -8,7 +7,7 @@ use std::alloc::{AllocError, Global};
 use std::fmt::Debug;
 use std::test::Fail;
 use test_common::held::Held;
-use test_common::rows::row_bytes;
+use test_common::rows::{parts_of, row_bytes};
 use test_memory_common::answers::{Answer, done, failed};
 use test_memory_common::inputs::table_of;
 use test_memory_common::marked;

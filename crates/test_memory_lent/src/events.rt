@@ -1,11 +1,13 @@
 //! Values that are shown to a visitor.
-use crate::values::Given;
 use scale_info::Field;
 use scale_info::form::PortableForm;
 use scale_info::visit::{EventVisitor, ValueEvent, VisitError, visit_events};
 use std::alloc::{AllocError, Global};
 use std::test::Fail;
+use test_common::held::Held;
+use test_common::rows::{parts_of, row_bytes};
 use test_memory_common::answers::{Answer, done, failed};
+use test_memory_common::inputs::table_of;
 use test_memory_common::marked;
 use test_memory_common::outcomes::Outcome;
 
@@ -85,9 +87,10 @@ fn answer(
 /// Shows a visitor the value of a row.
 pub fn visit(rt: &HostRuntime, row: &str) -> Result<Outcome, Fail> {
     let alloc = rt.alloc();
-    let given = Given::read(alloc, row)?;
-    let table = &given.table.0;
+    let (id, table, input) = parts_of(row)?;
+    let (id, input): (u32, Vec<u8>) = (id.parse()?, row_bytes(alloc, input)?);
+    let table = Held(table_of(alloc, table)?);
     let mut words = Words::new(alloc);
-    let returned = marked!(rt; visit_events(table, given.id, &given.input, &mut words));
+    let returned = marked!(rt; visit_events(&table.0, id, &input, &mut words));
     Outcome::of(answer(alloc, returned, words.text()))
 }

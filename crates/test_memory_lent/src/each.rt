@@ -1,0 +1,90 @@
+//! The descriptions at each id of a table or a builder, which are lent, and an index of a variant.
+use scale_info::Type;
+use scale_info::form::PortableForm;
+use scale_info::value::variant_index;
+use std::alloc::{AllocError, Global};
+use std::test::Fail;
+use test_common::held::Held;
+use test_common::rows::parted;
+use test_memory_common::answers::{digits, done};
+use test_memory_common::inputs::table_of;
+use test_memory_common::marked;
+use test_memory_common::marks::{begin, end};
+use test_memory_common::outcomes::Outcome;
+use test_memory_tables::builders::built;
+use test_memory_tables::{builders, looks};
+
+/// Descriptions that may be there, each by its encoding, with blanks between them.
+fn listed(alloc: Global, found: &[Option<&Type<PortableForm>>]) -> Result<String, AllocError> {
+    let mut text = String::new(alloc);
+    for ty in found {
+        if !text.is_empty() {
+            text.push_str(" ")?;
+        }
+        match ty {
+            Some(ty) => text.push_str(digits(alloc, *ty)?.as_str())?,
+            None => text.push_str("none")?,
+        }
+    }
+    Ok(text)
+}
+
+/// Asks a table for the description at each index, at the first one past its end, and at the
+/// greatest one.
+fn resolve_each(rt: &HostRuntime, row: &str) -> Result<Outcome, Fail> {
+    let table = Held(table_of(rt.alloc(), row)?);
+    let mut found = Vec::with_capacity(rt.alloc(), table.0.len().saturating_add(2))?;
+    let past = u32::try_from(table.0.len())?;
+    begin(rt);
+    for index in 0..=past {
+        let _ = found.push(table.0.resolve(index));
+    }
+    let _ = found.push(table.0.resolve(u32::MAX));
+    end(rt);
+    Outcome::of(done(listed(rt.alloc(), &found)))
+}
+
+/// Asks a table for the index of a variant. A row is a name, a colon, an id, a semicolon and the
+/// table.
+fn find_variant(rt: &HostRuntime, row: &str) -> Result<Outcome, Fail> {
+    let (name, rest) = parted(row, ':')?;
+    let (id, table) = parted(rest, ';')?;
+    let id: u32 = id.trim().parse()?;
+    let table = Held(table_of(rt.alloc(), table.trim())?);
+    let index = marked!(rt; variant_index(&table.0, id, name));
+    Outcome::of(done(format!(in rt.alloc(); "{index:?}")))
+}
+
+/// Asks a table: after `each of` for its descriptions, after `variant` for an index, and else for
+/// what it has.
+pub fn look_at_table(rt: &HostRuntime, row: &str) -> Result<Outcome, Fail> {
+    if let Some(name) = row.strip_prefix("each of ") {
+        return resolve_each(rt, name);
+    }
+    match row.strip_prefix("variant ") {
+        Some(row) => find_variant(rt, row),
+        None => looks::look(rt, row),
+    }
+}
+
+/// Asks a builder for the description at each id, at its next id, and at the greatest one.
+fn get_each(rt: &HostRuntime, row: &str) -> Result<Outcome, Fail> {
+    let builder = Held(built(rt.alloc(), table_of(rt.alloc(), row)?)?);
+    let next = builder.0.next_type_id();
+    let mut found = Vec::with_capacity(rt.alloc(), (next as usize).saturating_add(2))?;
+    begin(rt);
+    for id in 0..=next {
+        let _ = found.push(builder.0.get(id));
+    }
+    let _ = found.push(builder.0.get(u32::MAX));
+    end(rt);
+    Outcome::of(done(listed(rt.alloc(), &found)))
+}
+
+/// Asks a builder: after `each of` for its descriptions, and else for what it has.
+pub fn look_at_builder(rt: &HostRuntime, row: &str) -> Result<Outcome, Fail> {
+    match row.strip_prefix("each of ") {
+        Some(name) => get_each(rt, name),
+        None => builders::look(rt, row),
+    }
+}
