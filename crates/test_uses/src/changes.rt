@@ -1,11 +1,15 @@
-//! Tables that are cut or go on, and every change of one byte of a table of each kind of
-//! definition, under each command.
-use crate::asserts::is;
+//! Tables that are cut or go on, decoded, viewed, lent, pruned, and under each command; and every
+//! change of one byte of a table of each kind of definition, under each command.
+use crate::asserts::{holds, is};
 use crate::runs::{expected, refused, run_over};
+use scale_info::lent_form::LentTable;
+use scale_info::view::TableView;
+use scale_info::{DecodeError, PortableRegistry, PruneError, prune};
 use std::alloc::Global;
 use std::process::Abort;
 use std::test::Fail;
-use test_common::rows::{MIXED, TABLES, row_bytes, rows};
+use test_common::held::Held;
+use test_common::rows::{AMONG, BUILT, COMPOSITES, MIXED, Row, TABLES, decoded, row_bytes, rows};
 
 /// The bytes with another byte at this index.
 fn changed(alloc: Global, table: &[u8], index: usize, byte: u8) -> Result<Vec<u8>, Fail> {
@@ -74,11 +78,48 @@ fn is_refused(
     Ok(())
 }
 
+/// The tables that are cut and go on.
+const TEXTS: [&str; 4] = [TABLES, AMONG, COMPOSITES, BUILT];
+
+/// Asserts that `prune` refuses an input for this reason, and appends nothing.
+fn is_not_pruned(
+    rt: &impl Abort,
+    alloc: Global,
+    name: &str,
+    input: &[u8],
+    reason: PruneError,
+) -> Result<(), Fail> {
+    let mut output = Vec::from_slice(alloc, &[0xaa])?;
+    match prune(alloc, input, &[0], &mut output) {
+        Ok(_) => return Err(Fail::new("the input is pruned")),
+        Err(error) => is(rt, name, error, reason),
+    }
+    is(rt, name, output.as_slice(), &[0xaa]);
+    Ok(())
+}
+
+/// Asserts that an input was found malformed.
+fn is_malformed<T: Drop>(rt: &impl Abort, name: &str, returned: Result<T, DecodeError>) {
+    holds(rt, name, matches!(returned, Err(DecodeError::Malformed)));
+}
+
+/// Asserts that no prefix of an input is a table.
+fn has_no_table(rt: &impl Abort, alloc: Global, name: &str, input: &[u8]) -> Result<(), Fail> {
+    is_malformed(rt, name, PortableRegistry::decode(alloc, input));
+    is_malformed(rt, name, TableView::decode(alloc, input));
+    is_malformed(rt, name, LentTable::new(alloc, input));
+    let reason = PruneError::Decode(DecodeError::Malformed);
+    is_not_pruned(rt, alloc, name, input, reason)?;
+    is_refused(rt, alloc, name, input, "malformed")
+}
+
 #[test]
 fn proper_prefixes_of_tables_are_refused(rt: HostRuntime) -> Result<(), Fail> {
-    for row in &rows(rt.alloc(), TABLES)? {
-        for end in 0..row.bytes.len() {
-            is_refused(&rt, rt.alloc(), row.name, &row.bytes[..end], "malformed")?;
+    for text in TEXTS {
+        for row in &rows(rt.alloc(), text)? {
+            for end in 0..row.bytes.len() {
+                has_no_table(&rt, rt.alloc(), row.name, &row.bytes[..end])?;
+            }
         }
     }
     Ok(())
@@ -92,6 +133,37 @@ fn any_byte_after_any_table_is_refused(rt: HostRuntime) -> Result<(), Fail> {
             input.push(last)?;
             is_refused(&rt, rt.alloc(), row.name, &input, "trailing bytes")?;
             let _ = input.pop();
+        }
+    }
+    Ok(())
+}
+
+/// Asserts that a table with this byte after it is read with the byte left, and is not pruned.
+fn leaves_byte(
+    rt: &impl Abort,
+    alloc: Global,
+    row: &Row,
+    table: &PortableRegistry,
+    last: u8,
+) -> Result<(), Fail> {
+    let mut input = Vec::from_slice(alloc, &row.bytes)?;
+    input.push(last)?;
+    let (found, rest) = PortableRegistry::decode(alloc, &input)?;
+    holds(rt, row.name, *table == Held(found).0);
+    is(rt, row.name, rest, &[last]);
+    let (_, rest) = TableView::decode(alloc, &input)?;
+    is(rt, row.name, rest, &[last]);
+    is_not_pruned(rt, alloc, row.name, &input, PruneError::Trailing)
+}
+
+#[test]
+fn any_byte_after_any_table_is_left(rt: HostRuntime) -> Result<(), Fail> {
+    for text in TEXTS {
+        for row in &rows(rt.alloc(), text)? {
+            let table = Held(decoded(rt.alloc(), row)?);
+            for last in 0..=255 {
+                leaves_byte(&rt, rt.alloc(), row, &table.0, last)?;
+            }
         }
     }
     Ok(())
