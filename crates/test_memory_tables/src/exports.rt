@@ -78,8 +78,8 @@ fn chosen(alloc: Global, row: &str) -> Result<(Vec<u32>, Vec<MetaType>), Fail> {
     }
 }
 
-/// Writes what the types reach that the filter chooses; it notes each id that it is asked, for which
-/// there is room.
+/// Writes what the types reach that the filter chooses. It notes each id that it is asked, for
+/// which there is room.
 pub fn export_types(rt: &HostRuntime, row: &str) -> Result<Outcome, Fail> {
     let mut known = Held(catalogue(rt.alloc())?);
     add_cycle(rt.alloc(), &mut known.0)?;

@@ -49,8 +49,8 @@ fn chosen(alloc: Global, table: &PortableRegistry) -> Result<Vec<u32>, Fail> {
     Ok(ids)
 }
 
-/// Keeps what the given ids reach, which are those that the filter chooses; it notes each id that it
-/// is asked, for which there is room.
+/// Keeps what the given ids reach, which are those that the filter chooses. It notes each id that
+/// it is asked, for which there is room.
 pub fn retain(rt: &HostRuntime, row: &str) -> Result<Outcome, Fail> {
     let (name, ids) = given(rt.alloc(), row)?;
     let mut table = Held(table_of(rt.alloc(), name)?);
