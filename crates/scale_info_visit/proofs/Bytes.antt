@@ -86,10 +86,10 @@ bytes_are_integers n input =
     ]
 
 -- values of a type of bytes, by what the bytes are
-pub bytes_read :
+pub bytes_decoded :
     (left : ℕ) (table : PortableRegistry) (d : TypeDef) (n : ℕ) (input : List ℕ) {o : Outcome (List ℕ)}
     → is_byte (Some d) ≡ true → bytes n input ≡ o
     → in_turn (replicate n (definition_within left table d)) input ≡ outcome_map (λ all. map dyn.Unsigned all) o
-bytes_read left table d n input byte_sized e =
+bytes_decoded left table d n input byte_sized e =
     primitives_are left table d kind.U8 n input (byte_type d byte_sized) ∙ bytes_are_integers n input
     ∙ ap (λ o. outcome_map (λ all. map dyn.Unsigned all) o) e

@@ -1,41 +1,37 @@
 -- The events of values by their parts.
-use Rattle.std.proofs.Common.{◌≡◌, ℕ, Bool, false, List, [], ◌∷◌, ◌++◌, length, map, Option, Some, None, option_map, refl, ap, sym, ◌∙◌}
+use Rattle.std.proofs.Common.{◌≡◌, ℕ, Bool, List, [], ◌∷◌, ◌++◌, length, map, Option, Some, None, option_map, refl, ap, sym, ◌∙◌}
 use Rattle.std.specs.List.{flat_map}
 use Rattle.std.proofs.lemmas.List.{length-map}
-use Rattle.scale_info_types.specs.Portable.{Text, TypeDef}
+use Rattle.scale_info_types.specs.Portable.{Text, Field, TypeDef}
 use Rattle.scale_info_tables.specs.declared.portable.PortableRegistry.{PortableRegistry}
 use Rattle.scale_info_value.specs.declared.value.Dyn.{Dyn}
 use Rattle.scale_info_value.specs.declared.value.Dyn.TheVariants as dyn
 use Rattle.scale_info_value.specs.declared.value.Dyn.TheVariants.{rolls-Bool, rolls-Unsigned, rolls-Signed, rolls-Text}
 use Rattle.scale_info_value.specs.declared.value.Dyn.TheVariants.{rolls-List, rolls-Record, rolls-Variant}
-use Rattle.scale_info_value.specs.declared.value.Dyn.TheOpen.{Dyn-F}
 use Rattle.scale_info_value.specs.declared.value.Dyn.TheOpen as layer
 use Rattle.scale_info_value.specs.declared.value.Dyn.TheFolds.{fold-roll-Dyn}
 use Rattle.scale_info_visit.specs.Events.{Event, truth, unsigned, signed, text, begin_record, end_record}
-use Rattle.scale_info_visit.specs.Events.{begin_variant, end_variant, keys, all_named, field_events, list_events, integers_in}
-use Rattle.scale_info_visit.specs.Events.{events_step, events_of, events_by, step_by, are_bytes, shared_in, part_types, in_place}
+use Rattle.scale_info_visit.specs.Events.{begin_variant, end_variant, keys, all_named, list_events, integers_in, in_place}
+use Rattle.scale_info_visit.specs.Events.{events_step, events_of, events_by, step_by, are_bytes, shared_in, item_types}
+use Rattle.scale_info_visit.specs.Events.{fields_in, choice_in, known_fields, known_in, field_step, fields_step}
 use Rattle.scale_info_visit.specs.Visits.{placed, bracketed, value_by, field_by}
-use Rattle.scale_info_visit.proofs.Places.{in_place_map, flat_in_place, keys_in_place}
-
--- one step of a value, of which no type is known
-abbrev pub step_alone : Dyn-F (List Event) → List Event
-step_alone = events_step false (λ name. false)
+use Rattle.scale_info_visit.proofs.Places.{in_place_map}
 
 -- the event of a truth value
 pub truth_events : (b : Bool) → events_of (dyn.Bool b) ≡ truth b ∷ []
-truth_events b = ap events_of (sym (rolls-Bool b)) ∙ fold-roll-Dyn (List Event) step_alone (layer.Bool b)
+truth_events b = ap events_of (sym (rolls-Bool b)) ∙ fold-roll-Dyn (List Event) events_step (layer.Bool b)
 
 -- that of an integer of an unsigned type
 pub unsigned_events : (n : ℕ) → events_of (dyn.Unsigned n) ≡ unsigned n ∷ []
-unsigned_events n = ap events_of (sym (rolls-Unsigned n)) ∙ fold-roll-Dyn (List Event) step_alone (layer.Unsigned n)
+unsigned_events n = ap events_of (sym (rolls-Unsigned n)) ∙ fold-roll-Dyn (List Event) events_step (layer.Unsigned n)
 
 -- that of an integer of a signed type
 pub signed_events : (n : _) → events_of (dyn.Signed n) ≡ signed n ∷ []
-signed_events n = ap events_of (sym (rolls-Signed n)) ∙ fold-roll-Dyn (List Event) step_alone (layer.Signed n)
+signed_events n = ap events_of (sym (rolls-Signed n)) ∙ fold-roll-Dyn (List Event) events_step (layer.Signed n)
 
 -- that of a text
 pub text_events : (t : Text) → events_of (dyn.Text t) ≡ text t ∷ []
-text_events t = ap events_of (sym (rolls-Text t)) ∙ fold-roll-Dyn (List Event) step_alone (layer.Text t)
+text_events t = ap events_of (sym (rolls-Text t)) ∙ fold-roll-Dyn (List Event) events_step (layer.Text t)
 
 -- a value without parts is shown alike, whatever is known of its type
 abbrev pub HasNoParts : Dyn → Type 0
@@ -70,65 +66,61 @@ module _ (table : PortableRegistry) (type : Option TypeDef) where
   pub list_typed :
       (vs : List Dyn)
       → events_by table type (dyn.List vs)
-      ≡ list_events (are_bytes table type) (in_place (value_by table) vs (part_types table type 0 (length vs)))
+      ≡ list_events (are_bytes table type) (in_place (value_by table) vs (item_types table type (length vs)))
   list_typed vs =
       let items : List (Option TypeDef → List Event) = map (value_by table) vs in
       ap (events_by table type) (sym (rolls-List vs))
       ∙ ap (λ h. h type) (fold-roll-Dyn (Option TypeDef → List Event) (step_by table) (layer.List vs))
-      ∙ ap (λ n. list_events (are_bytes table type) (in_place (λ e t. e t) items (part_types table type 0 n))) (length-map vs (value_by table))
+      ∙ ap (λ n. list_events (are_bytes table type) (in_place (λ e t. e t) items (item_types table type n))) (length-map vs (value_by table))
       ∙ ap (list_events (are_bytes table type))
-      (in_place_map (λ e t. e t) (value_by table) vs (part_types table type 0 (length vs)))
+      (in_place_map (λ e t. e t) (value_by table) vs (item_types table type (length vs)))
 
   -- fields with the events of their values
   abbrev parts : List (Option Text × Dyn) → List (Option Text × (Option TypeDef → List Event))
   parts fs = map (λ f. (f.0, value_by table f.1)) fs
 
-  -- fields between two events that have their names
-  abbrev named_parts : (List (Option Text) → Event) → (List (Option Text) → Event) → List (Option Text × List Event) → List Event
-  named_parts first last fs =
-      first (keys fs) ∷ flat_map (field_events (all_named (keys fs))) fs ++ last (keys fs) ∷ []
+  -- they keep their names
+  parts_keys : (fs : List (Option Text × Dyn)) → keys (parts fs) ≡ keys fs
+  parts_keys [] = refl
+  parts_keys (f ∷ fs) = ap (λ ns. f.0 ∷ ns) (parts_keys fs)
 
-  -- they are shown by the types of their values
+  -- they are shown as the table has them
   fields_typed :
-      (first last : List (Option Text) → Event) (fs : List (Option Text × Dyn)) (types : List (Option TypeDef))
-      → named_parts first last (in_place (λ f t. (f.0, f.1 t)) (parts fs) types)
-      ≡ bracketed (first (keys fs)) (placed (field_by table (all_named (keys fs))) types) (last (keys fs)) fs
-  fields_typed first last fs types =
-      let shown : List (Option Text × List Event) = in_place (λ f t. (f.0, value_by table f.1 t)) fs types in
-      let names = keys_in_place (value_by table) fs types in
-      ap (named_parts first last) (in_place_map (λ f t. (f.0, f.1 t)) (λ f. (f.0, value_by table f.1)) fs types)
-      ∙ ap (λ ns. first ns ∷ flat_map (field_events (all_named ns)) shown ++ last ns ∷ []) names
-      ∙ ap (λ es. first (keys fs) ∷ es ++ last (keys fs) ∷ [])
-      (flat_in_place (field_events (all_named (keys fs))) (λ f t. (f.0, value_by table f.1 t)) fs types)
+      (first last : List (Option Text) → Event) (fs : List (Option Text × Dyn)) (known : List (Option Field))
+      → bracketed (first (keys (parts fs))) (λ ps. fields_step table ps known) (last (keys (parts fs))) (parts fs)
+      ≡ bracketed (first (keys fs)) (placed (field_by table (all_named (keys fs))) known) (last (keys fs)) fs
+  fields_typed first last fs known =
+      ap (λ ns. first ns ∷ flat_map (λ e. e) (in_place (field_step table (all_named ns)) (parts fs) known) ++ last ns ∷ [])
+      (parts_keys fs)
+      ∙ ap (λ es. first (keys fs) ∷ flat_map (λ e. e) es ++ last (keys fs) ∷ [])
+      (in_place_map (field_step table (all_named (keys fs))) (λ f. (f.0, value_by table f.1)) fs known)
 
   -- a record
   pub record_typed :
       (fs : List (Option Text × Dyn))
       → events_by table type (dyn.Record fs)
-      ≡ bracketed (begin_record (keys fs))
-      (placed (field_by table (all_named (keys fs))) (part_types table type 0 (length fs))) (end_record (keys fs)) fs
+      ≡ bracketed (begin_record (keys fs) (fields_in type))
+      (placed (field_by table (all_named (keys fs))) (known_fields (fields_in type))) (end_record (keys fs) (fields_in type)) fs
   record_typed fs =
       ap (events_by table type) (sym (rolls-Record fs))
       ∙ ap (λ h. h type) (fold-roll-Dyn (Option TypeDef → List Event) (step_by table) (layer.Record fs))
-      ∙ ap (λ n. named_parts begin_record end_record (in_place (λ f t. (f.0, f.1 t)) (parts fs) (part_types table type 0 n)))
-      (length-map fs (λ f. (f.0, value_by table f.1)))
-      ∙ fields_typed begin_record end_record fs (part_types table type 0 (length fs))
+      ∙ fields_typed (λ ns. begin_record ns (fields_in type)) (λ ns. end_record ns (fields_in type)) fs
+      (known_fields (fields_in type))
 
   -- a variant
   pub variant_typed :
       (name : Text) (index : ℕ) (fs : List (Option Text × Dyn))
       → events_by table type (dyn.Variant name index fs)
-      ≡ bracketed (begin_variant name index (keys fs) (shared_in type name))
-      (placed (field_by table (all_named (keys fs))) (part_types table type index (length fs)))
-      (end_variant name index (keys fs) (shared_in type name)) fs
+      ≡ bracketed (begin_variant name index (keys fs) (shared_in type name) (choice_in type index))
+      (placed (field_by table (all_named (keys fs))) (known_in (choice_in type index)))
+      (end_variant name index (keys fs) (shared_in type name) (choice_in type index)) fs
   variant_typed name index fs =
-      let first : List (Option Text) → Event = λ ns. begin_variant name index ns (shared_in type name) in
-      let last : List (Option Text) → Event = λ ns. end_variant name index ns (shared_in type name) in
+      let shared = shared_in type name in
+      let choice = choice_in type index in
       ap (events_by table type) (sym (rolls-Variant name index fs))
       ∙ ap (λ h. h type) (fold-roll-Dyn (Option TypeDef → List Event) (step_by table) (layer.Variant name index fs))
-      ∙ ap (λ n. named_parts first last (in_place (λ f t. (f.0, f.1 t)) (parts fs) (part_types table type index n)))
-      (length-map fs (λ f. (f.0, value_by table f.1)))
-      ∙ fields_typed first last fs (part_types table type index (length fs))
+      ∙ fields_typed (λ ns. begin_variant name index ns shared choice) (λ ns. end_variant name index ns shared choice) fs
+      (known_in choice)
 
 -- a truth value has no parts
 pub truth_alone : (b : Bool) → HasNoParts (dyn.Bool b)

@@ -4,7 +4,7 @@ use Rattle.std.specs.List.{flat_map}
 use Rattle.std.proofs.lemmas.List.{length-map, append-nil}
 use Rattle.std.proofs.lemmas.List.Folds.{flat_map-map}
 use Rattle.std.proofs.lemmas.Grind.{flat_map-append}
-use Rattle.scale_info_types.specs.Portable.{Text, TypeDef}
+use Rattle.scale_info_types.specs.Portable.{Text, Field, TypeDef}
 use Rattle.scale_info_tables.specs.declared.portable.PortableRegistry.{PortableRegistry}
 use Rattle.scale_info_value.specs.declared.value.Dyn.{Dyn}
 use Rattle.scale_info_value.specs.declared.value.Dyn.TheVariants as dyn
@@ -17,14 +17,15 @@ use Rattle.scale_info_value.proofs.ByLayers.{Known, lower, by_layers}
 use Rattle.scale_info_visit.specs.Events as all_events
 use Rattle.scale_info_visit.specs.Events.{Event, truth, unsigned, signed, text, bytes, begin_list, end_list, begin_record, end_record}
 use Rattle.scale_info_visit.specs.Events.{begin_variant, end_variant, field, keys, all_named, items_events, integers_in, list_events}
-use Rattle.scale_info_visit.specs.Events.{integers_events, one_by_one, unshared, shared_in, events_of, events_by, step_by, are_bytes, part_types, in_place}
+use Rattle.scale_info_visit.specs.Events.{integers_events, one_by_one, untyped, shared_in, events_step, events_of, events_by, step_by, are_bytes, item_types, in_place}
+use Rattle.scale_info_visit.specs.Events.{fields_in, choice_in, known_fields, known_in, field_type}
 use Rattle.scale_info_visit.specs.Visits.{placed, bracketed, value_by, field_by}
 use Rattle.scale_info_visit.proofs.Places.{length_in_place}
-use Rattle.scale_info_visit.proofs.Events.{step_alone, list_typed, record_typed, variant_typed}
+use Rattle.scale_info_visit.proofs.Events.{list_typed, record_typed, variant_typed}
 
 -- an event with all forgotten that a type says of it
 abbrev pub without_type : Event → List Event
-without_type e = one_by_one (unshared e)
+without_type e = one_by_one (untyped e)
 
 -- all events so
 abbrev apart : List Event → List Event
@@ -83,19 +84,19 @@ list_apart true items = joined_apart (integers_in items) items refl
 
 -- parts one by one
 placed_apart :
-    {K P : Type 0} (shows : P → Option TypeDef → List Event) (alone : P → List Event) (part : K → P)
-    → ((k : K) (t : Option TypeDef) → apart (shows (part k) t) ≡ alone (part k))
-    → (ks : List K) (types : List (Option TypeDef)) (last : List Event)
-    → apart (placed shows types (map part ks) ++ last) ≡ flat_map alone (map part ks) ++ apart last
-placed_apart shows alone part law ks types last =
-    flat_map-append without_type (placed shows types (map part ks)) last ∙ ap (λ es. es ++ apart last) (all ks types)
+    {K P T : Type 0} (shows : P → Option T → List Event) (alone : P → List Event) (part : K → P)
+    → ((k : K) (t : Option T) → apart (shows (part k) t) ≡ alone (part k))
+    → (ks : List K) (known : List (Option T)) (last : List Event)
+    → apart (placed shows known (map part ks) ++ last) ≡ flat_map alone (map part ks) ++ apart last
+placed_apart shows alone part law ks known last =
+    flat_map-append without_type (placed shows known (map part ks)) last ∙ ap (λ es. es ++ apart last) (all ks known)
   where
-    all : (ks : List _) (types : List (Option TypeDef)) → apart (placed shows types (map part ks)) ≡ flat_map alone (map part ks)
-    all [] types = refl
+    all : (ks : List _) (known : List (Option _)) → apart (placed shows known (map part ks)) ≡ flat_map alone (map part ks)
+    all [] known = refl
     all (k ∷ ks) [] =
         flat_map-append without_type (shows (part k) None) (placed shows [] (map part ks)) ∙ (λ i. law k None i ++ all ks [] i)
-    all (k ∷ ks) (t ∷ types) =
-        flat_map-append without_type (shows (part k) t) (placed shows types (map part ks)) ∙ (λ i. law k t i ++ all ks types i)
+    all (k ∷ ks) (t ∷ known) =
+        flat_map-append without_type (shows (part k) t) (placed shows known (map part ks)) ∙ (λ i. law k t i ++ all ks known i)
 
 module _ (table : PortableRegistry) where
   -- a value's events one by one do not depend on what is known of its type
@@ -106,23 +107,23 @@ module _ (table : PortableRegistry) where
   by_layer :
       (x : Dyn-F Dyn) (type : Option TypeDef)
       → apart (step_by table (map-Dyn Dyn (Option TypeDef → List Event) (value_by table) x) type)
-      ≡ step_alone (map-Dyn Dyn (List Event) events_of x)
+      ≡ events_step (map-Dyn Dyn (List Event) events_of x)
       → apart (events_by table type (roll-Dyn x)) ≡ events_of (roll-Dyn x)
   by_layer x type e =
       ap (λ h. apart (h type)) (fold-roll-Dyn (Option TypeDef → List Event) (step_by table) x)
-      ∙ e ∙ sym (fold-roll-Dyn (List Event) step_alone x)
+      ∙ e ∙ sym (fold-roll-Dyn (List Event) events_step x)
 
   -- the events of a list, with no types
   list_plain : (vs : List Dyn) → events_of (dyn.List vs) ≡ begin_list (length vs) ∷ flat_map events_of vs ++ end_list ∷ []
   list_plain vs =
-      ap events_of (sym (rolls-List vs)) ∙ fold-roll-Dyn (List Event) step_alone (layer.List vs)
+      ap events_of (sym (rolls-List vs)) ∙ fold-roll-Dyn (List Event) events_step (layer.List vs)
       ∙ (λ i. begin_list (length-map vs events_of i) ∷ flat_map-map (λ e. e) events_of vs i ++ end_list ∷ [])
 
   -- a list
   lists_alike : (ks : List (Known Alike)) → Alike (dyn.List (map (λ k. k.0) ks))
   lists_alike ks type =
       let vs : List Dyn = map (λ k. k.0) ks in
-      let types = part_types table type 0 (length vs) in
+      let types = item_types table type (length vs) in
       ap apart (list_typed table type vs) ∙ list_apart (are_bytes table type) (in_place (value_by table) vs types)
       ∙ ap (λ es. begin_list (length (in_place (value_by table) vs types)) ∷ es)
       (placed_apart (value_by table) events_of (λ k. k.0) (λ k t. k.1 t) ks types (end_list ∷ []))
@@ -131,7 +132,7 @@ module _ (table : PortableRegistry) where
 
   -- fields with no types
   abbrev field_plain : Bool → Option Text × Dyn → List Event
-  field_plain named f = field f.0 named ∷ events_of f.1
+  field_plain named f = field f.0 named None ∷ events_of f.1
 
   -- fields with the events of their values
   abbrev plain : List (Option Text × Dyn) → List (Option Text × List Event)
@@ -147,11 +148,9 @@ module _ (table : PortableRegistry) where
   fields_plain named [] = refl
   fields_plain named (f ∷ fs) = ap (λ es. field_plain named f ++ es) (fields_plain named fs)
 
-  -- fields between two events that have their names
-  abbrev between_names :
-      (List (Option Text) → Event) → (List (Option Text) → Event) → List (Option TypeDef) → List (Option Text × Dyn) → List Event
-  between_names first last types fs =
-      bracketed (first (keys fs)) (placed (field_by table (all_named (keys fs))) types) (last (keys fs)) fs
+  -- fields between two events
+  abbrev between_names : Event → Event → List (Option Field) → List (Option Text × Dyn) → List Event
+  between_names first last known fs = bracketed first (placed (field_by table (all_named (keys fs))) known) last fs
 
   -- the same with no types
   abbrev plain_between :
@@ -160,18 +159,19 @@ module _ (table : PortableRegistry) where
 
   -- one by one they do not depend on types
   fields_alike :
-      (first last begins ends : List (Option Text) → Event) → ((ns : List (Option Text)) → without_type (first ns) ≡ begins ns ∷ [])
-      → ((ns : List (Option Text)) → without_type (last ns) ≡ ends ns ∷ [])
-      → (ks : List (Option Text × Known Alike)) (types : List (Option TypeDef))
-      → apart (between_names first last types (map (λ k. (k.0, k.1.0)) ks)) ≡ plain_between begins ends (plain (map (λ k. (k.0, k.1.0)) ks))
-  fields_alike first last begins ends one other ks types =
+      (first last : Event) (begins ends : List (Option Text) → Event) (known : List (Option Field))
+      (ks : List (Option Text × Known Alike))
+      → without_type first ≡ begins (keys (map (λ k. (k.0, k.1.0)) ks)) ∷ []
+      → without_type last ≡ ends (keys (map (λ k. (k.0, k.1.0)) ks)) ∷ []
+      → apart (between_names first last known (map (λ k. (k.0, k.1.0)) ks)) ≡ plain_between begins ends (plain (map (λ k. (k.0, k.1.0)) ks))
+  fields_alike first last begins ends known ks one other =
       let fs : List (Option Text × Dyn) = map (λ k. (k.0, k.1.0)) ks in
       let named = all_named (keys fs) in
-      ap (λ es. es ++ apart (placed (field_by table named) types fs ++ last (keys fs) ∷ [])) (one (keys fs))
+      ap (λ es. es ++ apart (placed (field_by table named) known fs ++ last ∷ [])) one
       ∙ ap (λ es. begins (keys fs) ∷ es)
       (placed_apart (field_by table named) (field_plain named) (λ k. (k.0, k.1.0))
-      (λ k t. ap (λ es. field k.0 named ∷ es) (k.1.1 t)) ks types (last (keys fs) ∷ []))
-      ∙ ap (λ es. begins (keys fs) ∷ flat_map (field_plain named) fs ++ (es ++ [])) (other (keys fs))
+      (λ k t. ap (λ es. field k.0 named None ∷ es) (k.1.1 (field_type table t))) ks known (last ∷ []))
+      ∙ ap (λ es. begins (keys fs) ∷ flat_map (field_plain named) fs ++ (es ++ [])) other
       ∙ ap (λ es. begins (keys fs) ∷ es ++ ends (keys fs) ∷ []) (sym (fields_plain named fs))
       ∙ ap (λ ns. begins ns ∷ flat_map (all_events.field_events (all_named ns)) (plain fs) ++ ends ns ∷ []) (sym (keys_plain fs))
 
@@ -186,15 +186,17 @@ module _ (table : PortableRegistry) where
       let fs : List (Option Text × Dyn) = map (λ k. (k.0, k.1.0)) ks in
       subst (λ d. apart (events_by table type d) ≡ events_of d) (sym (rolls-Record fs))
       (ap apart (record_typed table type fs)
-      ∙ fields_alike begin_record end_record begin_record end_record (λ ns. refl) (λ ns. refl) ks (part_types table type 0 (length fs))
-      ∙ sym (ap events_of (sym (rolls-Record fs)) ∙ fold-roll-Dyn (List Event) step_alone (layer.Record fs)))
+      ∙ fields_alike (begin_record (keys fs) (fields_in type)) (end_record (keys fs) (fields_in type))
+      (λ ns. begin_record ns None) (λ ns. end_record ns None) (known_fields (fields_in type)) ks refl refl
+      ∙ sym (ap events_of (sym (rolls-Record fs)) ∙ fold-roll-Dyn (List Event) events_step (layer.Record fs)))
   layers_alike (layer.Variant name index ks) type =
       let fs : List (Option Text × Dyn) = map (λ k. (k.0, k.1.0)) ks in
       subst (λ d. apart (events_by table type d) ≡ events_of d) (sym (rolls-Variant name index fs))
       (ap apart (variant_typed table type name index fs)
-      ∙ fields_alike (λ ns. begin_variant name index ns (shared_in type name)) (λ ns. end_variant name index ns (shared_in type name))
-      (λ ns. begin_variant name index ns false) (λ ns. end_variant name index ns false) (λ ns. refl) (λ ns. refl) ks (part_types table type index (length fs))
-      ∙ sym (ap events_of (sym (rolls-Variant name index fs)) ∙ fold-roll-Dyn (List Event) step_alone (layer.Variant name index fs)))
+      ∙ fields_alike (begin_variant name index (keys fs) (shared_in type name) (choice_in type index))
+      (end_variant name index (keys fs) (shared_in type name) (choice_in type index))
+      (λ ns. begin_variant name index ns false None) (λ ns. end_variant name index ns false None) (known_in (choice_in type index)) ks refl refl
+      ∙ sym (ap events_of (sym (rolls-Variant name index fs)) ∙ fold-roll-Dyn (List Event) events_step (layer.Variant name index fs)))
 
   -- every value's events, with all forgotten that types say, are those without types
   pub all_alike : (d : Dyn) → Alike d

@@ -1,6 +1,5 @@
 -- Values of primitive types have no parts.
-use Rattle.std.proofs.Common.{◌≡◌, ℕ, suc, zero, Bool, true, false, ◌==◌, List, [], ◌∷◌, ◌++◌, replicate, Option, Some, None, ap, sym, subst, ◌∙◌, refl}
-use Rattle.std.specs.List.{flat_map}
+use Rattle.std.proofs.Common.{◌≡◌, ℕ, Bool, true, false, ◌==◌, List, Some, ap, subst, refl}
 use Rattle.std.specs.Prelude.{if◌then◌else◌}
 use Rattle.std.specs.Str.{is_utf8}
 use Rattle.std.specs.Int.{w8, w16, w32, w64, w128, cast_signed}
@@ -8,15 +7,12 @@ use Rattle.scale_info_types.specs.Portable.{TypeDef}
 use Rattle.scale_info_types.specs.declared.ty.TypeDef.TheVariants as def
 use Rattle.scale_info_primitives.specs.declared.primitive.TypeDefPrimitive.{TypeDefPrimitive}
 use Rattle.scale_info_primitives.specs.declared.primitive.TypeDefPrimitive.TheVariants as kind
-use Rattle.scale_info_tables.specs.declared.portable.PortableRegistry.{PortableRegistry}
 use Rattle.scale_info_value.specs.declared.value.Dyn.{Dyn}
 use Rattle.scale_info_value.specs.declared.value.Dyn.TheVariants as dyn
-use Rattle.scale_info_value.specs.Outcomes.{Outcome, decoded, failed, malformed, Decoder, and_then, outcome_map, in_turn}
+use Rattle.scale_info_value.specs.Outcomes.{Outcome, decoded, failed, malformed, Decoder, and_then, outcome_map}
 use Rattle.scale_info_value.specs.IntegerDecoders.{byte, bytes, count, integer}
 use Rattle.scale_info_value.specs.ValueDefinitions.{primitive, truth, text}
-use Rattle.scale_info_visit.specs.Events.{events_of, is_byte}
-use Rattle.scale_info_visit.specs.Visits.{placed, value_by}
-use Rattle.scale_info_visit.proofs.Turns.{with_first}
+use Rattle.scale_info_visit.specs.Events.{is_byte}
 use Rattle.scale_info_visit.proofs.Events.{HasNoParts, truth_alone, unsigned_alone, signed_alone, text_alone}
 
 -- the value of an outcome, if there is one, has no parts
@@ -78,27 +74,6 @@ no_parts kind.I32 input = mapped_alone (λ n. dyn.Signed (cast_signed w32 n)) (i
 no_parts kind.I64 input = mapped_alone (λ n. dyn.Signed (cast_signed w64 n)) (integer 8 input) (λ n. signed_alone (cast_signed w64 n))
 no_parts kind.I128 input = mapped_alone (λ n. dyn.Signed (cast_signed w128 n)) (integer 16 input) (λ n. signed_alone (cast_signed w128 n))
 no_parts kind.I256 input = none_alone _
-
--- one value more
-next_alone :
-    (table : PortableRegistry) (types : List (Option TypeDef)) (v : Dyn) (ws : List Dyn) → HasNoParts v
-    → ((others : List (Option TypeDef)) → placed (value_by table) others ws ≡ flat_map events_of ws)
-    → placed (value_by table) types (v ∷ ws) ≡ flat_map events_of (v ∷ ws)
-next_alone table [] v ws h k = λ i. h table None i ++ k [] i
-next_alone table (t ∷ types) v ws h k = λ i. h table t i ++ k types i
-
--- so many values of a primitive type are shown alike, whatever is known of their types
-pub places_alone :
-    (table : PortableRegistry) (types : List (Option TypeDef)) (n : ℕ) (k : TypeDefPrimitive) (input : List ℕ)
-    (vs : List Dyn) (rest : List ℕ)
-    → in_turn (replicate n (primitive k)) input ≡ decoded vs rest → placed (value_by table) types vs ≡ flat_map events_of vs
-places_alone table types zero k input [] rest e = refl
-places_alone table types zero k input (v ∷ vs) rest e = cc
-places_alone table types (suc n) k input vs rest e =
-    let p = with_first (primitive k input) (replicate n (primitive k)) vs rest e in
-    ap (placed (value_by table) types) p.5
-    ∙ next_alone table types p.0 p.2 (no_parts k input p.0 p.1 p.3) (λ others. places_alone table others n k p.1 p.2 rest p.4)
-    ∙ sym (ap (flat_map events_of) p.5)
 
 -- a type whose values are bytes
 byte_kind : (k : TypeDefPrimitive) → is_byte (Some (def.Primitive k)) ≡ true → k ≡ kind.U8

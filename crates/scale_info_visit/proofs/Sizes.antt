@@ -1,5 +1,5 @@
 -- A value's events are of as many values as it is.
-use Rattle.std.proofs.Common.{◌≡◌, ◌+◌, ◌≤◌, ◌<◌, ℕ, Bool, false, List, [], ◌∷◌, ◌++◌, length, map, Option, refl, ap, sym, subst, ◌∙◌, append_assoc, arith}
+use Rattle.std.proofs.Common.{◌≡◌, ◌+◌, ◌≤◌, ◌<◌, ℕ, Bool, false, List, [], ◌∷◌, ◌++◌, length, map, Option, None, refl, ap, sym, subst, ◌∙◌, append_assoc, arith}
 use Rattle.std.specs.List.{flat_map, sum, sum_by}
 use Rattle.std.proofs.lemmas.List.Sums.{sum_by-append}
 use Rattle.scale_info_types.specs.Portable.{Text}
@@ -12,14 +12,13 @@ use Rattle.scale_info_value.specs.declared.value.Dyn.TheViews.{roll-Dyn}
 use Rattle.scale_info_value.specs.declared.value.Dyn.TheFolds.{fold-roll-Dyn, map-Dyn}
 use Rattle.scale_info_value.proofs.ByLayers.{Known, lower, by_layers}
 use Rattle.scale_info_visit.specs.Events.{Event, truth, unsigned, signed, text, bytes, begin_list, end_list, begin_record, end_record}
-use Rattle.scale_info_visit.specs.Events.{begin_variant, end_variant, field, field_events, keys, all_named, events_of, events, definition_at}
-use Rattle.scale_info_visit.specs.Sizes.{size_step, size, values, values_in}
-use Rattle.scale_info_visit.specs.Visits.{BeginsWith, HasStopped, IsVisitErrorOf}
+use Rattle.scale_info_visit.specs.Events.{begin_variant, end_variant, field, field_events, keys, all_named, events_step, events_of, events, definition_at}
+use Rattle.scale_info_visit.specs.Sizes.{size_step, size, values, values_in, HasPassed}
+use Rattle.scale_info_value.specs.declared.value.Failure.{Failure}
+use Rattle.scale_info_visit.specs.Visits.{BeginsWith, HasFailed, StopsWithin, IsVisitErrorOf}
 use Rattle.scale_info_visit.specs.declared.visitor.VisitError.{VisitError}
 use Rattle.scale_info_visit.specs.declared.visitor.VisitError.TheVariants as error
-use Rattle.scale_info_visit.proofs.Events.{step_alone}
 use Rattle.scale_info_visit.proofs.OneByOne.{without_type, all_alike}
-use Rattle.scale_info_visit.proofs.Visiting.{same_value}
 
 -- a sum by its first
 sum_more : {X : Type 0} (f : X → ℕ) (x : X) (xs : List X) → sum_by f (x ∷ xs) ≡ f x + sum_by f xs
@@ -45,11 +44,11 @@ one_apart (bytes b) =
     omega arith
 one_apart (begin_list n) = refl
 one_apart end_list = refl
-one_apart (begin_record ns) = refl
-one_apart (end_record ns) = refl
-one_apart (begin_variant t n ns b) = refl
-one_apart (end_variant t n ns b) = refl
-one_apart (field t b) = refl
+one_apart (begin_record ns known) = refl
+one_apart (end_record ns known) = refl
+one_apart (begin_variant t n ns b known) = refl
+one_apart (end_variant t n ns b known) = refl
+one_apart (field t b known) = refl
 
 -- so are all
 all_apart : (es : List Event) → values_in es ≡ values_in (flat_map without_type es)
@@ -102,9 +101,9 @@ fields_many named [] last none = omega arith
 fields_many named (k ∷ ks) last none =
     let here = k.1.1 in
     let rest = fields_many named ks last none in
-    let name = sum_more values (field k.0 named) (events_of k.1.0 ++ (shown_fields named ks ++ last ∷ [])) in
+    let name = sum_more values (field k.0 named None) (events_of k.1.0 ++ (shown_fields named ks ++ last ∷ [])) in
     let both =
-    ap (λ es. values_in (field k.0 named ∷ es)) (append_assoc (events_of k.1.0) (shown_fields named ks) (last ∷ [])) in
+    ap (λ es. values_in (field k.0 named None ∷ es)) (append_assoc (events_of k.1.0) (shown_fields named ks) (last ∷ [])) in
     let parts = sum_by-append values (events_of k.1.0) (shown_fields named ks ++ last ∷ []) in
     let more =
     sum_more (λ (f : Option Text × ℕ). f.1) (k.0, size k.1.0) (map (λ (f : Option Text × Dyn). (f.0, size f.1)) (fields_of ks)) in
@@ -118,7 +117,7 @@ begins_with first es n one many = let more = sum_more values first es in omega a
 -- one step of a layer
 step_counted :
     (y : Dyn-F (Known Counted))
-    → values_in (step_alone (map-Dyn Dyn (List Event) events_of (lower Counted y)))
+    → values_in (events_step (map-Dyn Dyn (List Event) events_of (lower Counted y)))
     ≡ size_step (map-Dyn Dyn ℕ size (lower Counted y))
 step_counted (layer.Bool b) = refl
 step_counted (layer.Unsigned n) = refl
@@ -129,17 +128,17 @@ step_counted (layer.List ks) =
     begins_with (begin_list (length items)) (flat_map (λ e. e) items ++ end_list ∷ []) _ refl (items_many ks end_list refl)
 step_counted (layer.Record ks) =
     let names = keys (plain_fields ks) in
-    begins_with (begin_record names) (shown_fields (all_named names) ks ++ end_record names ∷ []) _ refl
-    (fields_many (all_named names) ks (end_record names) refl)
+    begins_with (begin_record names None) (shown_fields (all_named names) ks ++ end_record names None ∷ []) _ refl
+    (fields_many (all_named names) ks (end_record names None) refl)
 step_counted (layer.Variant name index ks) =
     let names = keys (plain_fields ks) in
-    begins_with (begin_variant name index names false) (shown_fields (all_named names) ks ++ end_variant name index names false ∷ []) _ refl
-    (fields_many (all_named names) ks (end_variant name index names false) refl)
+    begins_with (begin_variant name index names false None) (shown_fields (all_named names) ks ++ end_variant name index names false None ∷ []) _ refl
+    (fields_many (all_named names) ks (end_variant name index names false None) refl)
 
 -- each layer
 layers_counted : (y : Dyn-F (Known Counted)) → Counted (roll-Dyn (lower Counted y))
 layers_counted y =
-    ap values_in (fold-roll-Dyn (List Event) step_alone (lower Counted y)) ∙ step_counted y
+    ap values_in (fold-roll-Dyn (List Event) events_step (lower Counted y)) ∙ step_counted y
     ∙ sym (fold-roll-Dyn ℕ size_step (lower Counted y))
 
 -- the events of a value are of as many values as it is
@@ -147,6 +146,12 @@ pub events_many : (table : PortableRegistry) (id : ℕ) (value : Dyn) → values
 events_many table id value =
     all_apart (events table id value) ∙ ap values_in (all_alike table value (definition_at table id))
     ∙ by_layers Counted layers_counted value
+
+-- one value that was decoded twice is the same
+same_value :
+    {A : Type 0} (outcome : Outcome A) (v w : A) (r s : List ℕ)
+    → outcome ≡ decoded v r → outcome ≡ decoded w s → v ≡ w
+same_value outcome v w r s e f = let h : decoded v r ≡ decoded w s = sym e ∙ f in cc
 
 -- a value that was shown is of as many values as its events, which are so many
 pub fits :
@@ -158,21 +163,43 @@ fits table id left limit outcome shown value rest other e h f =
     let many = events_many table id shown in
     omega arith
 
--- a value whose first events are of more values than the limit is larger
-pub larger :
-    (table : PortableRegistry) (id limit : ℕ) (value : Dyn) (first : List Event)
-    → limit < values_in first → BeginsWith (events table id value) first → limit < size value
-larger table id limit value first h begins =
-    let many = events_many table id value in
-    let parts = ap values_in begins.parts ∙ sum_by-append values first begins.rest in
-    omega arith
+-- what begins with some events begins with the first of them
+pub begins_with_both : {all some first : List Event} → BeginsWith all some → BeginsWith some first → BeginsWith all first
+begins_with_both {first = first} h k = record {
+  rest = k.rest ++ h.rest;
+  parts = h.parts ∙ ap (λ es. es ++ h.rest) k.parts ∙ append_assoc first k.rest h.rest;
+}
+
+-- it failed so
+pub failed_with :
+    {A V E : Type 0} (Visited : List Event → V → V → Type 0) (Stopped : List Event → V → E → V → Type 0)
+    (all : List Event) (outcome : Outcome A) (old new : V) (e : VisitError E) (why : Failure)
+    → e ≡ error.Failed why → IsVisitErrorOf Visited Stopped all outcome old new e
+    → HasFailed Visited all outcome why old new
+failed_with Visited Stopped all outcome old new e why f h =
+    subst (λ d. IsVisitErrorOf Visited Stopped all outcome old new d) f h
 
 -- the visitor stopped with this error
 pub stopped_with :
     {A V E : Type 0} (Visited : List Event → V → V → Type 0) (Stopped : List Event → V → E → V → Type 0)
-    (events : A → List Event) (outcome : Outcome A) (old new : V) (e : VisitError E) (why is : E)
-    → e ≡ error.Stopped why → why ≡ is → IsVisitErrorOf Visited Stopped events outcome old new e
-    → HasStopped Stopped events outcome old is new
-stopped_with Visited Stopped events outcome old new e why is f g h =
-    subst (λ w. HasStopped Stopped events outcome old w new) g
-    (subst (λ d. IsVisitErrorOf Visited Stopped events outcome old new d) f h)
+    (all : List Event) (outcome : Outcome A) (old new : V) (e : VisitError E) (why is : E)
+    → e ≡ error.Stopped why → why ≡ is → IsVisitErrorOf Visited Stopped all outcome old new e
+    → StopsWithin Stopped all old is new
+stopped_with Visited Stopped all outcome old new e why is f g h =
+    subst (λ w. StopsWithin Stopped all old w new) g
+    (subst (λ d. IsVisitErrorOf Visited Stopped all outcome old new d) f h)
+
+-- where fewer are left than an event is of, a visitor with a limit stops before it
+pub past_limit :
+    {V : Type 0} {Visited : List Event → V → V → Type 0} {old : V} (event : Event) (left : ℕ)
+    → Visited [] old old → left < values event → HasPassed Visited (event ∷ []) left old old
+past_limit event left none h =
+    let one = sum_more values event [] in
+    record {
+      shown = [];
+      next = event;
+      visited = none;
+      first = record { rest = []; parts = refl };
+      fits = omega arith;
+      past = omega arith;
+    }

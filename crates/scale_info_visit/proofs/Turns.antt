@@ -1,9 +1,8 @@
 -- What is decoded by decoders in turn.
-use Rattle.std.proofs.Common.{◌≡◌, ℕ, suc, List, [], ◌∷◌, ◌++◌, length, replicate}
+use Rattle.std.proofs.Common.{◌≡◌, ℕ, suc, List, [], ◌∷◌, length, replicate}
 use Rattle.std.proofs.Common.{refl, ap, sym, ◌∙◌}
 use Rattle.std.proofs.lemmas.List.{length-replicate}
 use Rattle.scale_info_value.specs.Outcomes.{Outcome, decoded, failed, Decoder, and_then, outcome_map, in_turn}
-use Rattle.scale_info_value.proofs.InOrder.{preceded}
 
 -- what is decoded by a function of a value is that of a value that was decoded
 pub mapped_from :
@@ -14,12 +13,6 @@ mapped_from f (decoded x s) value rest e =
     let q : s ≡ rest = cc in
     (x, (λ i. decoded x (q i)), sym p)
 mapped_from f (failed why) value rest e = cc
-
--- what was decoded before comes first
-pub preceded_from :
-    {A : Type 0} (done : List A) (o : Outcome (List A)) (values : List A) (rest : List ℕ)
-    → preceded done o ≡ decoded values rest → (more : List A) × (o ≡ decoded more rest) × (values ≡ done ++ more)
-preceded_from done o values rest e = mapped_from (λ more. done ++ more) o values rest e
 
 -- the parts of what is decoded in turn
 abbrev pub Parts : {A : Type 0} → Outcome A → List (Decoder A) → List A → List ℕ → Type 0

@@ -1,8 +1,8 @@
 -- Events that are taken each for itself.
 use Rattle.std.specs.Prelude.{◌≡◌, ◌++◌, List, [], ◌∷◌}
 use Rattle.scale_info_visit.specs.Events.{Event, truth, unsigned, signed, text, bytes, begin_list}
-use Rattle.scale_info_visit.specs.Events.{end_list, begin_record, end_record, names, begin_of}
-use Rattle.scale_info_visit.specs.Events.{end_of, field}
+use Rattle.scale_info_visit.specs.Events.{end_list, begin_fields, end_fields, begin_of, end_of}
+use Rattle.scale_info_visit.specs.Events.{field_of}
 use Rattle.scale_info_visit.specs.declared.event.ValueEvent.{ValueEvent}
 use Rattle.scale_info_visit.specs.declared.event.ValueEvent.TheVariants as value_event
 
@@ -15,11 +15,11 @@ event_of (value_event.Text t) = text t.now
 event_of (value_event.Bytes b) = bytes b.now
 event_of (value_event.BeginList n) = begin_list n
 event_of value_event.EndList = end_list
-event_of (value_event.BeginRecord fields) = begin_record (names fields.now)
-event_of (value_event.EndRecord fields) = end_record (names fields.now)
+event_of (value_event.BeginRecord fields) = begin_fields fields.now
+event_of (value_event.EndRecord fields) = end_fields fields.now
 event_of (value_event.BeginVariant choice v) = begin_of choice.now v.now
 event_of (value_event.EndVariant choice v) = end_of choice.now v.now
-event_of (value_event.Field f named) = field f.now.name named
+event_of (value_event.Field f named) = field_of named f.now
 
 -- `Taken event old new` says what one event does. These events were taken, one after another.
 abbrev pub TakesEach : {V : Type 0} → (Event → V → V → Type 0) → List Event → V → V → Type 0

@@ -5,6 +5,7 @@ ghost use Rattle.scale_info_value.specs.Readings.{reading};
 ghost use Rattle.scale_info_visit.specs.EachEvent.{event_of, TakesEach, RefusesLast};
 ghost use Rattle.scale_info_visit.specs.EventLaws.{takes_append, refuses_later};
 ghost use Rattle.scale_info_visit.specs.Events.{Event, events};
+ghost use Rattle.scale_info_visit.specs.Reads.{events_read};
 ghost use Rattle.scale_info_visit.specs.Visits.{HasVisited, IsVisitErrorOf};
 
 use crate::visit::visit_value;
@@ -213,8 +214,8 @@ impl<'v, V: EventVisitor> ValueVisitor for EachEvent<'v, V> {
 /// Passes the events of one value of the type with this id, which is at the start of the input, to
 /// the visitor's one function, and returns the rest. It does not allocate.
 ///
-/// It shows what `visit_value` shows, and has the same errors. After an error the visitor has taken
-/// some events.
+/// It shows what `visit_value` shows, and has the same errors. At `Failed` the visitor has taken all
+/// events of what is read; at `Stopped` it has refused one of them, and taken those before it.
 pub fn visit_events<'i, T: Definitions, V: EventVisitor>(
     table: &T,
     id: u32,
@@ -226,7 +227,7 @@ pub fn visit_events<'i, T: Definitions, V: EventVisitor>(
         (reading (T.table table.now) id 1 input.now)
         rest.now visitor.old visitor.new) }
     ensures err { IfErr result (IsVisitErrorOf (TakesEach V.taken) (RefusesLast V.taken V.refused)
-        (events (T.table table.now) id)
+        (events_read (T.table table.now) id input.now)
         (reading (T.table table.now) id 1 input.now)
         visitor.old visitor.new) }
 {

@@ -1,19 +1,17 @@
 //! Values of primitive types shown, alone and in lists.
-ghost use Rattle.std.specs.Prelude.{◌≡◌, List, ℕ, replicate, IfOk, IfErr};
-ghost use Rattle.std.specs.List.{flat_map};
-ghost use Rattle.scale_info_value.specs.Outcomes.{in_turn};
+ghost use Rattle.std.specs.Prelude.{◌≡◌, List, ℕ, replicate};
+ghost use Rattle.scale_info_primitives.specs.declared.primitive.TypeDefPrimitive.TheVariants as kinds;
 ghost use Rattle.scale_info_value.specs.IntegerWidths.{integer_within};
 ghost use Rattle.scale_info_value.specs.PrimitiveValues.{dyn_of, IsInRange};
-ghost use Rattle.scale_info_value.specs.ValueDefinitions.{truth, primitive};
+ghost use Rattle.scale_info_value.specs.ValueDefinitions.{primitive};
 ghost use Rattle.scale_info_visit.specs.Events.{events_of};
-ghost use Rattle.scale_info_visit.specs.Visits.{HasVisited, IsVisitErrorOf};
-ghost use Rattle.scale_info_visit.specs.Visits.{HasVisitedEach, IsErrorOfEach, HasReturned};
+ghost use Rattle.scale_info_visit.specs.Reads.{each, primitive_read};
+ghost use Rattle.scale_info_visit.specs.Visits.{HasReturned, HasShown};
 
 use crate::visitor::{ValueVisitor, VisitError, shown};
 use scale_info_types::ty::TypeDefPrimitive;
 use scale_info_value::integer::IntegerWidth;
 use scale_info_value::primitive::{PrimitiveValue, read_primitive, split_integer, truth};
-use scale_info_value::value::Failure;
 
 /// Shows a value that has no parts.
 #[inline(always)]
@@ -36,20 +34,16 @@ pub(crate) fn primitive<'i, V: ValueVisitor>(
     input: &'i [u8],
     visitor: &mut V,
 ) -> Result<&'i [u8], VisitError<V::Error>>
-    ensures ok { IfOk result (λ rest.
-        HasVisited V.visited events_of (primitive kind.now input.now)
-        rest.now visitor.old visitor.new) }
-    ensures err { IfErr result (IsVisitErrorOf V.visited V.stopped events_of
-        (primitive kind.now input.now)
-        visitor.old visitor.new) }
+    ensures { HasShown V.visited V.stopped
+        (primitive_read kind.now input.now) visitor.old visitor.new result }
 {
     let (value, rest) = read_primitive(kind, input)?;
     shown(show(value, visitor))?;
     Ok(rest)
 }
 
-/// Shows so many values of a primitive type that are integers of so many bytes. All bytes are there
-/// before one is shown.
+/// Shows so many values of a primitive type that are integers of so many bytes. Where all bytes are
+/// there, none is looked for again; else the first that is missing is found one by one.
 #[inline(always)]
 fn integers<'i, V: ValueVisitor>(
     kind: &TypeDefPrimitive,
@@ -60,14 +54,13 @@ fn integers<'i, V: ValueVisitor>(
     visitor: &mut V,
 ) -> Result<&'i [u8], VisitError<V::Error>>
     requires { (bytes : List ℕ) → primitive kind.now bytes ≡ integer_within form signed bytes }
-    ensures ok { IfOk result
-        (HasVisitedEach V.visited count (primitive kind.now) input.now visitor.old visitor.new) }
-    ensures err { IfErr result (IsErrorOfEach V.visited V.stopped
-        count (primitive kind.now) input.now visitor.old visitor.new) }
+    ensures { HasShown V.visited V.stopped
+        (each (replicate count (primitive_read kind.now)) input.now)
+        visitor.old visitor.new result }
 {
     let width = form.bytes();
     if input.len() < count as usize * width {
-        return Err(VisitError::Failed(Failure::Malformed));
+        return each(kind, count, input, visitor);
     }
     let mut rest = input;
     for _ in 0..count {
@@ -84,10 +77,9 @@ fn truths<'i, V: ValueVisitor>(
     input: &'i [u8],
     visitor: &mut V,
 ) -> Result<&'i [u8], VisitError<V::Error>>
-    ensures ok { IfOk result
-        (HasVisitedEach V.visited count truth input.now visitor.old visitor.new) }
-    ensures err { IfErr result (IsErrorOfEach V.visited V.stopped
-        count truth input.now visitor.old visitor.new) }
+    ensures { HasShown V.visited V.stopped
+        (each (replicate count (primitive_read kinds.Bool)) input.now)
+        visitor.old visitor.new result }
 {
     let mut rest = input;
     for _ in 0..count {
@@ -105,10 +97,9 @@ fn each<'i, V: ValueVisitor>(
     input: &'i [u8],
     visitor: &mut V,
 ) -> Result<&'i [u8], VisitError<V::Error>>
-    ensures ok { IfOk result
-        (HasVisitedEach V.visited count (primitive kind.now) input.now visitor.old visitor.new) }
-    ensures err { IfErr result (IsErrorOfEach V.visited V.stopped
-        count (primitive kind.now) input.now visitor.old visitor.new) }
+    ensures { HasShown V.visited V.stopped
+        (each (replicate count (primitive_read kind.now)) input.now)
+        visitor.old visitor.new result }
 {
     let mut rest = input;
     for _ in 0..count {
@@ -124,13 +115,9 @@ pub(crate) fn primitives<'i, V: ValueVisitor>(
     input: &'i [u8],
     visitor: &mut V,
 ) -> Result<&'i [u8], VisitError<V::Error>>
-    ensures ok { IfOk result (λ rest.
-        HasVisited V.visited (flat_map events_of)
-        (in_turn (replicate count (primitive kind.now)) input.now)
-        rest.now visitor.old visitor.new) }
-    ensures err { IfErr result (IsVisitErrorOf V.visited V.stopped (flat_map events_of)
-        (in_turn (replicate count (primitive kind.now)) input.now)
-        visitor.old visitor.new) }
+    ensures { HasShown V.visited V.stopped
+        (each (replicate count (primitive_read kind.now)) input.now)
+        visitor.old visitor.new result }
 {
     match kind {
         TypeDefPrimitive::Bool => truths(count, input, visitor),

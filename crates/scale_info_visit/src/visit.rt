@@ -1,17 +1,14 @@
 //! Values shown by the definitions of their types.
-ghost use Rattle.std.specs.Prelude.{◌≡◌, ◌≤◌, ◌∷◌, [], Some, IfOk, IfErr, OnOk, replicate, length};
-ghost use Rattle.scale_info_types.specs.declared.ty.TypeDef.TheVariants as def;
-ghost use Rattle.scale_info_value.specs.Outcomes.{in_turn};
-ghost use Rattle.scale_info_value.specs.Readings.{value_within, definition_within, fields_within};
-ghost use Rattle.scale_info_value.specs.Readings.{variant_within, items_within, members_within};
-ghost use Rattle.scale_info_value.specs.Readings.{pairs_within, reading};
-ghost use Rattle.scale_info_visit.specs.Events.{events, events_by, all_named, is_byte};
-ghost use Rattle.scale_info_visit.specs.Events.{definition_at, pair_of};
-ghost use Rattle.scale_info_visit.specs.Events.{begin_list, end_list, begin_record, end_record};
-ghost use Rattle.scale_info_visit.specs.Events.{names, begin_of, end_of, is_shared};
-ghost use Rattle.scale_info_visit.specs.Visits.{HasVisited, IsVisitErrorOf, StopsWithin};
-ghost use Rattle.scale_info_visit.specs.Visits.{field_within, bracketed, key_then_value, field_by};
-ghost use Rattle.scale_info_visit.specs.Visits.{fields_by, items_by, members_by, list_by};
+ghost use Rattle.std.specs.Prelude.{◌≡◌, ◌≤◌, ◌-◌, ◌∷◌, [], Some, None, false, IfOk, IfErr, OnOk};
+ghost use Rattle.std.specs.Prelude.{replicate};
+ghost use Rattle.scale_info_value.specs.Readings.{reading};
+ghost use Rattle.scale_info_visit.specs.Events.{events, all_named, is_byte, is_shared, names};
+ghost use Rattle.scale_info_visit.specs.Events.{definition_at, pair_of, list_events, begin_list, end_list};
+ghost use Rattle.scale_info_visit.specs.Reads.{value_read, record_read, variant_read, chosen_read};
+ghost use Rattle.scale_info_visit.specs.Reads.{fields_read, field_read, list_read, items_read};
+ghost use Rattle.scale_info_visit.specs.Reads.{tuple_read, members_read, each, between};
+ghost use Rattle.scale_info_visit.specs.Reads.{events_read, barred};
+ghost use Rattle.scale_info_visit.specs.Visits.{HasVisited, HasShown, IsVisitErrorOf, StopsWithin};
 
 use crate::list::{primitive, primitives};
 use crate::visitor::{ValueVisitor, VisitError, shown};
@@ -21,7 +18,7 @@ use scale_info_types::form::PortableForm;
 use scale_info_types::ty::variant::{TypeDefVariant, Variant};
 use scale_info_types::ty::{Field, TypeDef, TypeDefPrimitive};
 use scale_info_value::compact::compact_within;
-use scale_info_value::definition::{Definitions, definition_of};
+use scale_info_value::definition::Definitions;
 use scale_info_value::integer::{byte, bytes, count};
 use scale_info_value::value::Failure;
 use scale_info_value::variants::variant_with_index;
@@ -30,7 +27,8 @@ use scale_info_value::variants::variant_with_index;
 /// rest. It does not allocate.
 ///
 /// It decodes what `decode_value` decodes, by the same tables, in the same order, and has the same
-/// errors.
+/// errors. At `Failed` the visitor was shown all events of what is read before the failure, and no
+/// others; at `Stopped` it refused one of them, and was shown those before it.
 pub fn visit_value<'i, T: Definitions, V: ValueVisitor>(
     table: &T,
     id: u32,
@@ -42,11 +40,35 @@ pub fn visit_value<'i, T: Definitions, V: ValueVisitor>(
         (reading (T.table table.now) id 1 input.now)
         rest.now visitor.old visitor.new) }
     ensures err { IfErr result (IsVisitErrorOf V.visited V.stopped
-        (events (T.table table.now) id)
+        (events_read (T.table table.now) id input.now)
         (reading (T.table table.now) id 1 input.now)
         visitor.old visitor.new) }
 {
     value_within(table, id, 128, input, visitor)
+}
+
+/// The definition of the type with this id, where so many levels are left for a value of it.
+///
+/// Errors: `TooDeep`, where none is left; `NoSuchType`, where the id is no index.
+#[inline(always)]
+fn definition_of<T: Definitions>(
+    table: &T,
+    id: u32,
+    left: u8,
+) -> Result<&TypeDef<PortableForm>, Failure>
+    ensures level { IfOk result (λ _. 1 ≤ left) }
+    ensures found { IfOk result (λ found. definition_at (T.table table.now) id ≡ Some found.now) }
+    ensures free { IfOk result (λ _. barred left (definition_at (T.table table.now) id) ≡ None) }
+    ensures barred { IfErr result
+        (λ why. barred left (definition_at (T.table table.now) id) ≡ Some why) }
+{
+    if left == 0 {
+        return Err(Failure::TooDeep);
+    }
+    match table.definition(id) {
+        None => Err(Failure::NoSuchType),
+        Some(definition) => Ok(definition),
+    }
 }
 
 /// Shows a value of the type with this id, where so many levels are left.
@@ -58,14 +80,9 @@ fn value_within<'i, T: Definitions, V: ValueVisitor>(
     input: &'i [u8],
     visitor: &mut V,
 ) -> Result<&'i [u8], VisitError<V::Error>>
-    ensures ok { IfOk result (λ rest. HasVisited V.visited
-        (events (T.table table.now) id)
-        (value_within left (T.table table.now) id input.now)
-        rest.now visitor.old visitor.new) }
-    ensures err { IfErr result (IsVisitErrorOf V.visited V.stopped
-        (events (T.table table.now) id)
-        (value_within left (T.table table.now) id input.now)
-        visitor.old visitor.new) }
+    ensures { HasShown V.visited V.stopped
+        (value_read left (T.table table.now) (definition_at (T.table table.now) id) input.now)
+        visitor.old visitor.new result }
 {
     let definition = definition_of(table, id, left)?;
     value_by(table, definition, left, input, visitor)
@@ -81,14 +98,9 @@ fn value_by<'i, T: Definitions, V: ValueVisitor>(
     visitor: &mut V,
 ) -> Result<&'i [u8], VisitError<V::Error>>
     requires { 1 ≤ left }
-    ensures ok { IfOk result (λ rest. HasVisited V.visited
-        (events_by (T.table table.now) (Some definition.now))
-        (definition_within left (T.table table.now) definition.now input.now)
-        rest.now visitor.old visitor.new) }
-    ensures err { IfErr result (IsVisitErrorOf V.visited V.stopped
-        (events_by (T.table table.now) (Some definition.now))
-        (definition_within left (T.table table.now) definition.now input.now)
-        visitor.old visitor.new) }
+    ensures { HasShown V.visited V.stopped
+        (value_read left (T.table table.now) (Some definition.now) input.now)
+        visitor.old visitor.new result }
 {
     match definition {
         TypeDef::Composite(composite) => {
@@ -154,18 +166,9 @@ fn record<'i, T: Definitions, V: ValueVisitor>(
     visitor: &mut V,
 ) -> Result<&'i [u8], VisitError<V::Error>>
     requires { 1 ≤ left }
-    ensures ok { IfOk result (λ rest. HasVisited V.visited
-        (bracketed (begin_record (names all.now))
-        (fields_by (T.table table.now) (all_named (names all.now)) all.now)
-        (end_record (names all.now)))
-        (fields_within left (T.table table.now) all.now input.now)
-        rest.now visitor.old visitor.new) }
-    ensures err { IfErr result (IsVisitErrorOf V.visited V.stopped
-        (bracketed (begin_record (names all.now))
-        (fields_by (T.table table.now) (all_named (names all.now)) all.now)
-        (end_record (names all.now)))
-        (fields_within left (T.table table.now) all.now input.now)
-        visitor.old visitor.new) }
+    ensures { HasShown V.visited V.stopped
+        (record_read (T.table table.now) (value_read (left - 1) (T.table table.now)) all.now input.now)
+        visitor.old visitor.new result }
 {
     shown(visitor.begin_record(all))?;
     let rest = fields(table, all, all_named(all), left, input, visitor)?;
@@ -183,14 +186,9 @@ fn variant<'i, T: Definitions, V: ValueVisitor>(
     visitor: &mut V,
 ) -> Result<&'i [u8], VisitError<V::Error>>
     requires { 1 ≤ left }
-    ensures ok { IfOk result (λ rest. HasVisited V.visited
-        (events_by (T.table table.now) (Some (def.Variant choice.now)))
-        (variant_within left (T.table table.now) choice.now.variants input.now)
-        rest.now visitor.old visitor.new) }
-    ensures err { IfErr result (IsVisitErrorOf V.visited V.stopped
-        (events_by (T.table table.now) (Some (def.Variant choice.now)))
-        (variant_within left (T.table table.now) choice.now.variants input.now)
-        visitor.old visitor.new) }
+    ensures { HasShown V.visited V.stopped
+        (variant_read (T.table table.now) (value_read (left - 1) (T.table table.now)) choice.now.variants input.now)
+        visitor.old visitor.new result }
 {
     let (index, rest) = byte(input)?;
     let variants = choice.variants.as_slice();
@@ -211,18 +209,9 @@ fn chosen<'i, T: Definitions, V: ValueVisitor>(
     visitor: &mut V,
 ) -> Result<&'i [u8], VisitError<V::Error>>
     requires { 1 ≤ left }
-    ensures ok { IfOk result (λ rest. HasVisited V.visited
-        (bracketed (begin_of choice.now variant.now)
-        (fields_by (T.table table.now) (all_named (names variant.now.fields)) variant.now.fields)
-        (end_of choice.now variant.now))
-        (fields_within left (T.table table.now) variant.now.fields input.now)
-        rest.now visitor.old visitor.new) }
-    ensures err { IfErr result (IsVisitErrorOf V.visited V.stopped
-        (bracketed (begin_of choice.now variant.now)
-        (fields_by (T.table table.now) (all_named (names variant.now.fields)) variant.now.fields)
-        (end_of choice.now variant.now))
-        (fields_within left (T.table table.now) variant.now.fields input.now)
-        visitor.old visitor.new) }
+    ensures { HasShown V.visited V.stopped
+        (chosen_read (T.table table.now) (value_read (left - 1) (T.table table.now)) choice.now (Some variant.now) input.now)
+        visitor.old visitor.new result }
 {
     let all = variant.fields.as_slice();
     shown(visitor.begin_variant(choice, variant))?;
@@ -242,14 +231,9 @@ fn fields<'i, T: Definitions, V: ValueVisitor>(
     visitor: &mut V,
 ) -> Result<&'i [u8], VisitError<V::Error>>
     requires { 1 ≤ left }
-    ensures ok { IfOk result (λ rest. HasVisited V.visited
-        (fields_by (T.table table.now) named all.now)
-        (fields_within left (T.table table.now) all.now input.now)
-        rest.now visitor.old visitor.new) }
-    ensures err { IfErr result (IsVisitErrorOf V.visited V.stopped
-        (fields_by (T.table table.now) named all.now)
-        (fields_within left (T.table table.now) all.now input.now)
-        visitor.old visitor.new) }
+    ensures { HasShown V.visited V.stopped
+        (fields_read (T.table table.now) (value_read (left - 1) (T.table table.now)) named all.now input.now)
+        visitor.old visitor.new result }
 {
     let mut rest = input;
     for next in all {
@@ -269,16 +253,9 @@ fn field<'i, T: Definitions, V: ValueVisitor>(
     visitor: &mut V,
 ) -> Result<&'i [u8], VisitError<V::Error>>
     requires { 1 ≤ left }
-    ensures ok { IfOk result (λ rest. HasVisited V.visited
-        (λ f. field_by (T.table table.now) named f
-        (definition_at (T.table table.now) next.now.ty.id))
-        (field_within left (T.table table.now) next.now input.now)
-        rest.now visitor.old visitor.new) }
-    ensures err { IfErr result (IsVisitErrorOf V.visited V.stopped
-        (λ f. field_by (T.table table.now) named f
-        (definition_at (T.table table.now) next.now.ty.id))
-        (field_within left (T.table table.now) next.now input.now)
-        visitor.old visitor.new) }
+    ensures { HasShown V.visited V.stopped
+        (field_read (T.table table.now) (value_read (left - 1) (T.table table.now)) named next.now input.now)
+        visitor.old visitor.new result }
 {
     shown(visitor.field(next, named))?;
     value_within(table, next.ty.id, left - 1, input, visitor)
@@ -295,14 +272,9 @@ fn list<'i, T: Definitions, V: ValueVisitor>(
     visitor: &mut V,
 ) -> Result<&'i [u8], VisitError<V::Error>>
     requires { 1 ≤ left }
-    ensures ok { IfOk result (λ rest. HasVisited V.visited
-        (list_by (T.table table.now) (definition_at (T.table table.now) ty.now.id) count)
-        (items_within left (T.table table.now) ty.now count input.now)
-        rest.now visitor.old visitor.new) }
-    ensures err { IfErr result (IsVisitErrorOf V.visited V.stopped
-        (list_by (T.table table.now) (definition_at (T.table table.now) ty.now.id) count)
-        (items_within left (T.table table.now) ty.now count input.now)
-        visitor.old visitor.new) }
+    ensures { HasShown V.visited V.stopped
+        (list_read (left - 1) (value_read (left - 1) (T.table table.now)) (definition_at (T.table table.now) ty.now.id) count input.now)
+        visitor.old visitor.new result }
 {
     if count == 0 {
         shown(empty_list(table, ty, visitor))?;
@@ -339,10 +311,10 @@ fn empty_list<T: Definitions, V: ValueVisitor>(
     visitor: &mut V,
 ) -> Result<(), V::Error>
     ensures ok { OnOk result (V.visited
-        (list_by (T.table table.now) (definition_at (T.table table.now) ty.now.id) 0 [])
+        (list_events (is_byte (definition_at (T.table table.now) ty.now.id)) [])
         visitor.old visitor.new) }
     ensures err { IfErr result (λ e. StopsWithin V.stopped
-        (list_by (T.table table.now) (definition_at (T.table table.now) ty.now.id) 0 [])
+        (list_events (is_byte (definition_at (T.table table.now) ty.now.id)) [])
         visitor.old e visitor.new) }
 {
     if is_byte_at(table, ty.id) {
@@ -363,16 +335,9 @@ fn list_by<'i, T: Definitions, V: ValueVisitor>(
     visitor: &mut V,
 ) -> Result<&'i [u8], VisitError<V::Error>>
     requires { 1 ≤ left }
-    ensures ok { IfOk result (λ rest. HasVisited V.visited
-        (list_by (T.table table.now) (Some definition.now) count)
-        (in_turn (replicate count (definition_within left (T.table table.now) definition.now))
-        input.now)
-        rest.now visitor.old visitor.new) }
-    ensures err { IfErr result (IsVisitErrorOf V.visited V.stopped
-        (list_by (T.table table.now) (Some definition.now) count)
-        (in_turn (replicate count (definition_within left (T.table table.now) definition.now))
-        input.now)
-        visitor.old visitor.new) }
+    ensures { HasShown V.visited V.stopped
+        (items_read (is_byte (Some definition.now)) count (value_read left (T.table table.now) (Some definition.now)) input.now)
+        visitor.old visitor.new result }
 {
     if is_byte(definition) {
         let (all, rest) = bytes(count as usize, input)?;
@@ -393,18 +358,9 @@ fn list_of_items<'i, T: Definitions, V: ValueVisitor>(
     visitor: &mut V,
 ) -> Result<&'i [u8], VisitError<V::Error>>
     requires { 1 ≤ left }
-    ensures ok { IfOk result (λ rest. HasVisited V.visited
-        (bracketed (begin_list count) (items_by (T.table table.now) (Some definition.now) count)
-        end_list)
-        (in_turn (replicate count (definition_within left (T.table table.now) definition.now))
-        input.now)
-        rest.now visitor.old visitor.new) }
-    ensures err { IfErr result (IsVisitErrorOf V.visited V.stopped
-        (bracketed (begin_list count) (items_by (T.table table.now) (Some definition.now) count)
-        end_list)
-        (in_turn (replicate count (definition_within left (T.table table.now) definition.now))
-        input.now)
-        visitor.old visitor.new) }
+    ensures { HasShown V.visited V.stopped
+        (items_read false count (value_read left (T.table table.now) (Some definition.now)) input.now)
+        visitor.old visitor.new result }
 {
     shown(visitor.begin_list(count as usize))?;
     let rest = items(table, definition, count, left, input, visitor)?;
@@ -424,16 +380,9 @@ fn items<'i, T: Definitions, V: ValueVisitor>(
     visitor: &mut V,
 ) -> Result<&'i [u8], VisitError<V::Error>>
     requires { 1 ≤ left }
-    ensures ok { IfOk result (λ rest. HasVisited V.visited
-        (items_by (T.table table.now) (Some definition.now) count)
-        (in_turn (replicate count (definition_within left (T.table table.now) definition.now))
-        input.now)
-        rest.now visitor.old visitor.new) }
-    ensures err { IfErr result (IsVisitErrorOf V.visited V.stopped
-        (items_by (T.table table.now) (Some definition.now) count)
-        (in_turn (replicate count (definition_within left (T.table table.now) definition.now))
-        input.now)
-        visitor.old visitor.new) }
+    ensures { HasShown V.visited V.stopped
+        (each (replicate count (value_read left (T.table table.now) (Some definition.now))) input.now)
+        visitor.old visitor.new result }
 {
     if let TypeDef::Primitive(kind) = definition {
         return primitives(kind, count, input, visitor);
@@ -455,16 +404,9 @@ fn members<'i, T: Definitions, V: ValueVisitor>(
     visitor: &mut V,
 ) -> Result<&'i [u8], VisitError<V::Error>>
     requires { 1 ≤ left }
-    ensures ok { IfOk result (λ rest. HasVisited V.visited
-        (bracketed (begin_list (length types.now))
-        (members_by (T.table table.now) types.now) end_list)
-        (members_within left (T.table table.now) types.now input.now)
-        rest.now visitor.old visitor.new) }
-    ensures err { IfErr result (IsVisitErrorOf V.visited V.stopped
-        (bracketed (begin_list (length types.now))
-        (members_by (T.table table.now) types.now) end_list)
-        (members_within left (T.table table.now) types.now input.now)
-        visitor.old visitor.new) }
+    ensures { HasShown V.visited V.stopped
+        (tuple_read (T.table table.now) (value_read (left - 1) (T.table table.now)) types.now input.now)
+        visitor.old visitor.new result }
 {
     shown(visitor.begin_list(types.len()))?;
     let rest = each_member(table, types, left, input, visitor)?;
@@ -482,14 +424,9 @@ fn each_member<'i, T: Definitions, V: ValueVisitor>(
     visitor: &mut V,
 ) -> Result<&'i [u8], VisitError<V::Error>>
     requires { 1 ≤ left }
-    ensures ok { IfOk result (λ rest. HasVisited V.visited
-        (members_by (T.table table.now) types.now)
-        (members_within left (T.table table.now) types.now input.now)
-        rest.now visitor.old visitor.new) }
-    ensures err { IfErr result (IsVisitErrorOf V.visited V.stopped
-        (members_by (T.table table.now) types.now)
-        (members_within left (T.table table.now) types.now input.now)
-        visitor.old visitor.new) }
+    ensures { HasShown V.visited V.stopped
+        (members_read (T.table table.now) (value_read (left - 1) (T.table table.now)) types.now input.now)
+        visitor.old visitor.new result }
 {
     let mut rest = input;
     for ty in types {
@@ -510,16 +447,9 @@ fn pairs<'i, T: Definitions, V: ValueVisitor>(
     visitor: &mut V,
 ) -> Result<&'i [u8], VisitError<V::Error>>
     requires { 1 ≤ left }
-    ensures ok { IfOk result (λ rest. HasVisited V.visited
-        (bracketed (begin_list count)
-        (items_by (T.table table.now) (Some (pair_of key.now value.now)) count) end_list)
-        (pairs_within left (T.table table.now) key.now value.now count input.now)
-        rest.now visitor.old visitor.new) }
-    ensures err { IfErr result (IsVisitErrorOf V.visited V.stopped
-        (bracketed (begin_list count)
-        (items_by (T.table table.now) (Some (pair_of key.now value.now)) count) end_list)
-        (pairs_within left (T.table table.now) key.now value.now count input.now)
-        visitor.old visitor.new) }
+    ensures { HasShown V.visited V.stopped
+        (between (begin_list count) (each (replicate count (value_read (left - 1) (T.table table.now) (Some (pair_of key.now value.now))))) end_list input.now)
+        visitor.old visitor.new result }
 {
     shown(visitor.begin_list(count as usize))?;
     let rest = each_pair(table, key, value, count, left, input, visitor)?;
@@ -539,23 +469,18 @@ fn each_pair<'i, T: Definitions, V: ValueVisitor>(
     visitor: &mut V,
 ) -> Result<&'i [u8], VisitError<V::Error>>
     requires { 1 ≤ left }
-    ensures ok { IfOk result (λ rest. HasVisited V.visited
-        (items_by (T.table table.now) (Some (pair_of key.now value.now)) count)
-        (pairs_within left (T.table table.now) key.now value.now count input.now)
-        rest.now visitor.old visitor.new) }
-    ensures err { IfErr result (IsVisitErrorOf V.visited V.stopped
-        (items_by (T.table table.now) (Some (pair_of key.now value.now)) count)
-        (pairs_within left (T.table table.now) key.now value.now count input.now)
-        visitor.old visitor.new) }
+    ensures { HasShown V.visited V.stopped
+        (each (replicate count (value_read (left - 1) (T.table table.now) (Some (pair_of key.now value.now)))) input.now)
+        visitor.old visitor.new result }
 {
     let mut rest = input;
     for _ in 0..count {
-        rest = pair(table, key, value, left, rest, visitor)?;
+        rest = pair(table, key, value, left - 1, rest, visitor)?;
     }
     Ok(rest)
 }
 
-/// Shows the list of a key and a value.
+/// Shows the list of a key and a value, where so many levels are left for it.
 #[cycle(visit)]
 fn pair<'i, T: Definitions, V: ValueVisitor>(
     table: &T,
@@ -565,18 +490,13 @@ fn pair<'i, T: Definitions, V: ValueVisitor>(
     input: &'i [u8],
     visitor: &mut V,
 ) -> Result<&'i [u8], VisitError<V::Error>>
-    requires { 1 ≤ left }
-    ensures ok { IfOk result (λ rest. HasVisited V.visited
-        (bracketed (begin_list 2)
-        (members_by (T.table table.now) (key.now ∷ value.now ∷ [])) end_list)
-        (in_turn (key_then_value left (T.table table.now) key.now value.now) input.now)
-        rest.now visitor.old visitor.new) }
-    ensures err { IfErr result (IsVisitErrorOf V.visited V.stopped
-        (bracketed (begin_list 2)
-        (members_by (T.table table.now) (key.now ∷ value.now ∷ [])) end_list)
-        (in_turn (key_then_value left (T.table table.now) key.now value.now) input.now)
-        visitor.old visitor.new) }
+    ensures { HasShown V.visited V.stopped
+        (value_read left (T.table table.now) (Some (pair_of key.now value.now)) input.now)
+        visitor.old visitor.new result }
 {
+    if left == 0 {
+        return Err(VisitError::Failed(Failure::TooDeep));
+    }
     shown(visitor.begin_list(2))?;
     let rest = key_and_value(table, key, value, left, input, visitor)?;
     shown(visitor.end_list())?;
@@ -594,16 +514,10 @@ fn key_and_value<'i, T: Definitions, V: ValueVisitor>(
     visitor: &mut V,
 ) -> Result<&'i [u8], VisitError<V::Error>>
     requires { 1 ≤ left }
-    ensures ok { IfOk result (λ rest. HasVisited V.visited
-        (members_by (T.table table.now) (key.now ∷ value.now ∷ []))
-        (in_turn (key_then_value left (T.table table.now) key.now value.now) input.now)
-        rest.now visitor.old visitor.new) }
-    ensures err { IfErr result (IsVisitErrorOf V.visited V.stopped
-        (members_by (T.table table.now) (key.now ∷ value.now ∷ []))
-        (in_turn (key_then_value left (T.table table.now) key.now value.now) input.now)
-        visitor.old visitor.new) }
+    ensures { HasShown V.visited V.stopped
+        (members_read (T.table table.now) (value_read (left - 1) (T.table table.now)) (key.now ∷ value.now ∷ []) input.now)
+        visitor.old visitor.new result }
 {
-    let inner = left.saturating_sub(2);
-    let rest = value_within(table, key.id, inner, input, visitor)?;
-    value_within(table, value.id, inner, rest, visitor)
+    let rest = value_within(table, key.id, left - 1, input, visitor)?;
+    value_within(table, value.id, left - 1, rest, visitor)
 }

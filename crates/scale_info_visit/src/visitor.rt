@@ -3,8 +3,8 @@ ghost use Rattle.std.specs.Prelude.{◌≡◌, ◌∷◌, ◌++◌, [], List, Ok
 ghost use Rattle.scale_info_visit.specs.declared.visitor.VisitError.TheVariants as error;
 ghost use Rattle.scale_info_visit.specs.Events.{Event, truth, unsigned, signed, text};
 ghost use Rattle.scale_info_visit.specs.Events.{bytes, integers_events, begin_list, end_list};
-ghost use Rattle.scale_info_visit.specs.Events.{begin_record, end_record, names, begin_of, end_of};
-ghost use Rattle.scale_info_visit.specs.Events.{field};
+ghost use Rattle.scale_info_visit.specs.Events.{begin_fields, end_fields, begin_of, end_of};
+ghost use Rattle.scale_info_visit.specs.Events.{field_of};
 ghost use Rattle.scale_info_visit.specs.Visits.{StopsWithin};
 
 use scale_info_types::form::PortableForm;
@@ -99,15 +99,15 @@ pub trait ValueVisitor {
     /// Begins a composite with these fields, which are part of the table.
     fn begin_record(&mut self, fields: &[Field<PortableForm>]) -> Result<(), Self::Error>
         ensures ok { OnOk result
-            (visited (begin_record (names fields.now) ∷ []) self.old self.new) }
+            (visited (begin_fields fields.now ∷ []) self.old self.new) }
         ensures err { IfErr result
-            (λ e. stopped (begin_record (names fields.now) ∷ []) self.old e self.new) };
+            (λ e. stopped (begin_fields fields.now ∷ []) self.old e self.new) };
 
     /// Ends the composite with these fields.
     fn end_record(&mut self, fields: &[Field<PortableForm>]) -> Result<(), Self::Error>
-        ensures ok { OnOk result (visited (end_record (names fields.now) ∷ []) self.old self.new) }
+        ensures ok { OnOk result (visited (end_fields fields.now ∷ []) self.old self.new) }
         ensures err { IfErr result
-            (λ e. stopped (end_record (names fields.now) ∷ []) self.old e self.new) };
+            (λ e. stopped (end_fields fields.now ∷ []) self.old e self.new) };
 
     /// Begins a variant of an enum with these variants, which are part of the table.
     fn begin_variant(
@@ -133,9 +133,9 @@ pub trait ValueVisitor {
     /// Takes a field of the table, whose value comes next. `named` says whether each field of its
     /// record or variant has a name.
     fn field(&mut self, next: &Field<PortableForm>, named: bool) -> Result<(), Self::Error>
-        ensures ok { OnOk result (visited (field next.now.name named ∷ []) self.old self.new) }
+        ensures ok { OnOk result (visited (field_of named next.now ∷ []) self.old self.new) }
         ensures err { IfErr result
-            (λ e. stopped (field next.now.name named ∷ []) self.old e self.new) };
+            (λ e. stopped (field_of named next.now ∷ []) self.old e self.new) };
 
     /// Takes a list of bytes, a sequence or an array of `u8`, whole. It is part of the input.
     ///

@@ -1,13 +1,14 @@
 //! Values shown up to a limit.
-ghost use Rattle.std.specs.Prelude.{◌≡◌, ◌+◌, ◌<◌, ◌≤◌, List, ℕ, Ok, Err, OnOk, IfOk, IfErr};
+ghost use Rattle.std.specs.Prelude.{◌≡◌, ◌+◌, ◌≤◌, ◌∷◌, [], List, ℕ, Ok, Err, OnOk, IfOk, IfErr};
 ghost use Rattle.std.proofs.Common.{refl, ◌∙◌, add-zero};
 ghost use Rattle.scale_info_value.specs.Outcomes.{decoded};
 ghost use Rattle.scale_info_value.specs.Readings.{reading};
 ghost use Rattle.scale_info_value.specs.declared.value.Dyn as dyns;
 ghost use Rattle.scale_info_visit.specs.declared.within.Refusal.TheVariants as refusal;
-ghost use Rattle.scale_info_visit.specs.Events.{events};
+ghost use Rattle.scale_info_visit.specs.Events.{Event, events};
+ghost use Rattle.scale_info_visit.specs.Reads.{events_read};
 ghost use Rattle.scale_info_visit.specs.SizeLaws.{left_after, stops_later};
-ghost use Rattle.scale_info_visit.specs.Sizes.{size, values_in, IsWithinErrorOf, StopsAt};
+ghost use Rattle.scale_info_visit.specs.Sizes.{size, values, values_in, IsWithinErrorOf, StopsAt};
 ghost use Rattle.scale_info_visit.specs.Visits.{HasVisited};
 
 use crate::visit::visit_value;
@@ -63,12 +64,14 @@ struct Limited<'v, V> {
 }
 
 impl<'v, V: ValueVisitor> Limited<'v, V> {
-    /// Takes so many values from those that are left.
+    /// Takes so many values from those that are left: an event of so many may be passed on.
     fn take(&mut self, count: u64) -> Result<(), Refusal<V::Error>>
         ensures same { self.new.inner.ghost_name ≡ self.old.inner.ghost_name }
         ensures untouched { self.new.inner.now ≡ self.old.inner.now }
         ensures ok { OnOk result (self.new.left + count ≡ self.old.left) }
-        ensures err { IfErr result (λ e. (self.old.left < count) × (e ≡ refusal.TooLarge)) }
+        ensures err { IfErr result (λ e. (event : Event) → values event ≡ count
+            → StopsAt V.visited V.stopped (event ∷ [])
+            self.old.left self.old.inner.now e self.new.inner.now) }
     {
         if self.left < count {
             return Err(Refusal::TooLarge);
@@ -172,9 +175,9 @@ impl<'v, V: ValueVisitor> ValueVisitor for Limited<'v, V> {
 /// It ends at the first event past the limit. So an array of 4294967295 empty tuples, which is a
 /// table of two entries and takes no bytes, ends after as many of them as the limit allows.
 ///
-/// Errors: `Failed`, where the bytes are no value of the type; `TooLarge`, at the first value past
-/// the limit; `Stopped`, where the visitor stopped. After an error the visitor has been shown some
-/// events.
+/// Errors: `Failed`, where the bytes are no value of the type, after all events of what is read;
+/// `TooLarge`, before the first event that is of a value past the limit; `Stopped`, where the visitor
+/// stopped. So the visitor is never shown more values than the limit.
 pub fn visit_value_within<'i, T: Definitions, V: ValueVisitor>(
     table: &T,
     id: u32,
@@ -188,8 +191,10 @@ pub fn visit_value_within<'i, T: Definitions, V: ValueVisitor>(
         rest.now visitor.old visitor.new) }
     ensures fits { IfOk result (λ _. (value : dyns.Dyn) (rest : List ℕ)
         → reading (T.table table.now) id 1 input.now ≡ decoded value rest → size value ≤ limit) }
+    ensures shown { IfOk result
+        (λ _. values_in (events_read (T.table table.now) id input.now) ≤ limit) }
     ensures err { IfErr result (IsWithinErrorOf V.visited V.stopped
-        (events (T.table table.now) id) size
+        (events_read (T.table table.now) id input.now)
         (reading (T.table table.now) id 1 input.now)
         limit visitor.old visitor.new) }
 {

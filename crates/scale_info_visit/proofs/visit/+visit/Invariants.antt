@@ -1,8 +1,7 @@
-use Rattle.std.proofs.Common.{drop, Some}
-use Rattle.scale_info_value.specs.Readings.{definition_within, members_within, fields_within, pair_within}
+use Rattle.std.proofs.Common.{◌-◌, drop, replicate, Some}
 use Rattle.scale_info_visit.specs.Events.{pair_of}
-use Rattle.scale_info_visit.specs.Visits.{fields_by, items_by, members_by}
-use Rattle.scale_info_visit.proofs.Visiting.{IsVisiting, IsRepeating, visits_left}
+use Rattle.scale_info_visit.specs.Reads.{value_read, members_read, fields_read, each}
+use Rattle.scale_info_visit.proofs.Visiting.{IsAt, visits_left}
 use Rattle.scale_info_visit.proofs.visit.+visit.Given as goal
 
 abbrev pub decreases-value_within : goal.decreases-value_within
@@ -58,24 +57,26 @@ decreases-key_and_value g l = visits_left 7 l.left
 
 abbrev pub invariant-items-loop : goal.invariant-items-loop
 invariant-items-loop g l =
-    IsRepeating g.V.ValueVisitor.visited (items_by (g.T.Definitions.table l.table) (Some l.definition) l.count) l.count
-    (definition_within l.left (g.T.Definitions.table l.table) l.definition) l.input l.counter l.rest l.fn.visitor l.visitor
+    let read = value_read l.left (g.T.Definitions.table l.table) (Some l.definition) in
+    IsAt g.V.ValueVisitor.visited (each (replicate l.count read) l.input) (each (replicate (l.count - l.counter) read) l.rest)
+    l.fn.visitor l.visitor
 
 abbrev pub invariant-each_member-loop-ty : goal.invariant-each_member-loop-ty
 invariant-each_member-loop-ty g l =
-    IsVisiting g.V.ValueVisitor.visited (members_by (g.T.Definitions.table l.table) l.types) l.ty-index
-    (members_within l.left (g.T.Definitions.table l.table) l.types l.input)
-    (members_within l.left (g.T.Definitions.table l.table) (drop l.ty-index l.types) l.rest)
-    l.fn.visitor l.visitor
+    let table = g.T.Definitions.table l.table in
+    let part = value_read (l.left - 1) table in
+    IsAt g.V.ValueVisitor.visited (members_read table part l.types l.input)
+    (members_read table part (drop l.ty-index l.types) l.rest) l.fn.visitor l.visitor
 
 abbrev pub invariant-fields-loop-next : goal.invariant-fields-loop-next
 invariant-fields-loop-next g l =
-    IsVisiting g.V.ValueVisitor.visited (fields_by (g.T.Definitions.table l.table) l.named l.all) l.next-index
-    (fields_within l.left (g.T.Definitions.table l.table) l.all l.input)
-    (fields_within l.left (g.T.Definitions.table l.table) (drop l.next-index l.all) l.rest)
-    l.fn.visitor l.visitor
+    let table = g.T.Definitions.table l.table in
+    let part = value_read (l.left - 1) table in
+    IsAt g.V.ValueVisitor.visited (fields_read table part l.named l.all l.input)
+    (fields_read table part l.named (drop l.next-index l.all) l.rest) l.fn.visitor l.visitor
 
 abbrev pub invariant-each_pair-loop : goal.invariant-each_pair-loop
 invariant-each_pair-loop g l =
-    IsRepeating g.V.ValueVisitor.visited (items_by (g.T.Definitions.table l.table) (Some (pair_of l.key l.value)) l.count) l.count
-    (pair_within l.left (g.T.Definitions.table l.table) l.key l.value) l.input l.counter l.rest l.fn.visitor l.visitor
+    let read = value_read (l.left - 1) (g.T.Definitions.table l.table) (Some (pair_of l.key l.value)) in
+    IsAt g.V.ValueVisitor.visited (each (replicate l.count read) l.input) (each (replicate (l.count - l.counter) read) l.rest)
+    l.fn.visitor l.visitor
