@@ -12,10 +12,10 @@ use Rattle.scale_info_value_text.specs.ValueTexts.{error_by}
 -- the error of a visit is that of the outcome
 pub same_error :
     {V E : Type 0} (Visited : List Event → V → V → Type 0) (Stopped : List Event → V → E → V → Type 0)
-    (events : Dyn → List Event) (outcome : Outcome Dyn) (old new : V) (e : VisitError E)
-    → IsVisitErrorOf Visited Stopped events outcome old new e → IsErrorOf outcome (error_by e)
-same_error Visited Stopped events outcome old new (visit.Failed failure.NoSuchType) h = h.read
-same_error Visited Stopped events outcome old new (visit.Failed failure.Unsupported) h = h.read
-same_error Visited Stopped events outcome old new (visit.Failed failure.TooDeep) h = h.read
-same_error Visited Stopped events outcome old new (visit.Failed failure.Malformed) h = h.read
-same_error Visited Stopped events outcome old new (visit.Stopped e) h = tt
+    (all : List Event) (outcome : Outcome Dyn) (old new : V) (e : VisitError E)
+    → IsVisitErrorOf Visited Stopped all outcome old new e → IsErrorOf outcome (error_by e)
+same_error Visited Stopped all outcome old new (visit.Failed failure.NoSuchType) h = h.read
+same_error Visited Stopped all outcome old new (visit.Failed failure.Unsupported) h = h.read
+same_error Visited Stopped all outcome old new (visit.Failed failure.TooDeep) h = h.read
+same_error Visited Stopped all outcome old new (visit.Failed failure.Malformed) h = h.read
+same_error Visited Stopped all outcome old new (visit.Stopped e) h = tt

@@ -84,12 +84,12 @@ event_tokens (event.text t) = string t ∷ []
 event_tokens (event.bytes b) = bytes_token b ∷ []
 event_tokens (event.begin_list n) = begin_array ∷ []
 event_tokens event.end_list = end_array ∷ []
-event_tokens (event.begin_record names) = opening names ∷ []
-event_tokens (event.end_record names) = closing names ∷ []
-event_tokens (event.begin_variant name index names shared) =
+event_tokens (event.begin_record names known) = opening names ∷ []
+event_tokens (event.end_record names known) = closing names ∷ []
+event_tokens (event.begin_variant name index names shared known) =
     variant_opening shared name index names
-event_tokens (event.end_variant name index names shared) = variant_closing shared names
-event_tokens (event.field name named) = field_opening name named
+event_tokens (event.end_variant name index names shared known) = variant_closing shared names
+event_tokens (event.field name named known) = field_opening name named
 
 -- the tokens of a value of the type with this id
 abbrev pub value_tokens : PortableRegistry → ℕ → Dyn → List Token
