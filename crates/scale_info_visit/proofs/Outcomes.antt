@@ -27,8 +27,24 @@ events_of_value shown (decoded v r) read value rest h e =
     ap (λ r. r.events) h ∙ ap shown same
 events_of_value shown (failed why) read value rest h e = cc
 
+-- and the rest is left
+pub rest_of_value :
+    {A : Type 0} (shown : A → List Event) (o : Outcome A) (read : Read) (value : A) (rest : List ℕ)
+    → Agrees shown o read → o ≡ decoded value rest → read.end ≡ decoded tt rest
+rest_of_value shown (decoded v r) read value rest h e =
+    let same : r ≡ rest = cc in
+    ap (λ r. r.end) h ∙ ap (decoded tt) same
+rest_of_value shown (failed why) read value rest h e = cc
+
+-- where none is, what is read ends with the failure
+pub end_of_failure :
+    {A : Type 0} (shown : A → List Event) (o : Outcome A) (read : Read) (why : Failure)
+    → Agrees shown o read → o ≡ failed why → read.end ≡ failed why
+end_of_failure shown (decoded v r) read why h e = cc
+end_of_failure shown (failed w) read why h e = let same : w ≡ why = cc in h ∙ ap failed same
+
 -- what was read and ended with a rest was decoded
-read_through :
+pub read_through :
     {A : Type 0} (shown : A → List Event) (o : Outcome A) (read : Read) (rest : List ℕ)
     → Agrees shown o read → read.end ≡ decoded tt rest
     → (value : A) × (o ≡ decoded value rest) × (read.events ≡ shown value)
@@ -39,7 +55,7 @@ read_through shown (decoded value left) read rest h e =
 read_through shown (failed why) read rest h e = cc
 
 -- what was read and ended with a failure failed
-read_short :
+pub read_short :
     {A : Type 0} (shown : A → List Event) (o : Outcome A) (read : Read) (why : Failure)
     → Agrees shown o read → read.end ≡ failed why → o ≡ failed why
 read_short shown (decoded value left) read why h e =

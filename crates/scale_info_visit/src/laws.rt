@@ -1,9 +1,14 @@
 //! Laws of the events of values. A law does nothing when it runs: its contract is the law.
-ghost use Rattle.std.specs.Prelude.{◌≡◌, ℕ, map};
+ghost use Rattle.std.specs.Prelude.{◌≡◌, ℕ, List, map};
 ghost use Rattle.std.specs.List.{flat_map};
 ghost use Rattle.scale_info_tables.specs.declared.portable.PortableRegistry.{PortableRegistry};
 ghost use Rattle.scale_info_value.specs.declared.value.Dyn as dyns;
+ghost use Rattle.scale_info_value.specs.declared.value.Failure as failures;
+ghost use Rattle.scale_info_value.specs.Outcomes.{decoded, failed};
+ghost use Rattle.scale_info_value.specs.Readings.{reading};
 ghost use Rattle.scale_info_visit.specs.Events.{events, events_of, one_by_one, untyped};
+ghost use Rattle.scale_info_visit.specs.Reads.{read_of, events_read};
+ghost use Rattle.scale_info_visit.specs.Visits.{HasRest};
 
 /// What a type says of a value's events is which lists are bytes, which variants share their name,
 /// and what the table has of records, variants and fields, and nothing else. Where bytes are shown
@@ -15,4 +20,23 @@ ghost use Rattle.scale_info_visit.specs.Events.{events, events_of, one_by_one, u
 pub fn events_one_by_one()
     ensures { (table : PortableRegistry) (id : ℕ) (value : dyns.Dyn)
         → flat_map one_by_one (map untyped (events table id value)) ≡ events_of value }
+{}
+
+/// What is read of bytes is what is decoded of them. Where they begin with a value, its events are
+/// read, and the rest is left; where they do not, some events are read, and the failure is the same;
+/// and so the other way round.
+pub fn read_is_decoded()
+    ensures events { (table : PortableRegistry) (id : ℕ) (input : List ℕ) (value : dyns.Dyn)
+        (rest : List ℕ) → reading table id 1 input ≡ decoded value rest
+        → events_read table id input ≡ events table id value }
+    ensures rest { (table : PortableRegistry) (id : ℕ) (input : List ℕ) (value : dyns.Dyn)
+        (rest : List ℕ) → reading table id 1 input ≡ decoded value rest
+        → (read_of table id input).end ≡ decoded tt rest }
+    ensures failure { (table : PortableRegistry) (id : ℕ) (input : List ℕ) (why : failures.Failure)
+        → reading table id 1 input ≡ failed why → (read_of table id input).end ≡ failed why }
+    ensures value { (table : PortableRegistry) (id : ℕ) (input rest : List ℕ)
+        → (read_of table id input).end ≡ decoded tt rest
+        → HasRest (reading table id 1 input) rest }
+    ensures none { (table : PortableRegistry) (id : ℕ) (input : List ℕ) (why : failures.Failure)
+        → (read_of table id input).end ≡ failed why → reading table id 1 input ≡ failed why }
 {}

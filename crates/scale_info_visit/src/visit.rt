@@ -65,10 +65,7 @@ fn definition_of<T: Definitions>(
     if left == 0 {
         return Err(Failure::TooDeep);
     }
-    match table.definition(id) {
-        None => Err(Failure::NoSuchType),
-        Some(definition) => Ok(definition),
-    }
+    table.definition(id).ok_or(Failure::NoSuchType)
 }
 
 /// Shows a value of the type with this id, where so many levels are left.
