@@ -24,9 +24,9 @@ use Rattle.scale_info_value.specs.declared.value.Dyn.TheVariants.{rolls-List, ro
 use Rattle.scale_info_value.specs.declared.value.Dyn.TheViews.{roll-Dyn}
 use Rattle.scale_info_visit.proofs.Events.{list_typed, record_typed, variant_typed}
 use Rattle.scale_info_visit.specs.Events.{Event, all_named, are_bytes, begin_record, begin_variant}
-use Rattle.scale_info_visit.specs.Events.{definition_at, end_record, end_variant, events, events_by}
-use Rattle.scale_info_visit.specs.Events.{field, field_types, fields_of, in_place, is_byte, keys}
-use Rattle.scale_info_visit.specs.Events.{list_events, pair_of, part_types, shared_in, step_by}
+use Rattle.scale_info_visit.specs.Events.{choice_in, definition_at, end_record, end_variant, events}
+use Rattle.scale_info_visit.specs.Events.{events_by, field, fields_in, in_place, is_byte, item_types, keys}
+use Rattle.scale_info_visit.specs.Events.{known_fields, known_in, list_events, pair_of, shared_in, step_by}
 use Rattle.scale_info_visit.specs.Visits.{bracketed, field_by, placed, value_by}
 use Rattle.scale_info_walk.specs.TypeSystems.{entry_of}
 
@@ -39,26 +39,31 @@ abbrev Refers : (ℕ → Type 0) → Option TypeDef → Type 0
 Refers R None = Unit {0}
 Refers R (Some d) = Each R (definition_references d)
 
--- so it is of each of these
-abbrev AllRefer : (ℕ → Type 0) → List (Option TypeDef) → Type 0
-AllRefer R [] = Unit {0}
-AllRefer R (t ∷ types) = Refers R t × AllRefer R types
+-- each of these has Q
+abbrev AllHave : {T : Type 0} → (Option T → Type 0) → List (Option T) → Type 0
+AllHave Q [] = Unit {0}
+AllHave Q (t ∷ known) = Q t × AllHave Q known
 
--- parts that are shown alike at definitions whose references have R
+-- parts that are shown alike at what has Q
 in_place_alike :
-    {K P A : Type 0} (R : ℕ → Type 0) (f g : P → Option TypeDef → A) (part : K → P)
-    → ((k : K) (t : Option TypeDef) → Refers R t → f (part k) t ≡ g (part k) t)
-    → (ks : List K) (types : List (Option TypeDef)) → AllRefer R types
-    → in_place f (map part ks) types ≡ in_place g (map part ks) types
-in_place_alike R f g part law [] types all = refl
-in_place_alike R f g part law (k ∷ ks) [] all =
-    let first = law k None tt in
-    let rest = in_place_alike R f g part law ks [] tt in
+    {K P T A : Type 0} (Q : Option T → Type 0) (f g : P → Option T → A) (part : K → P)
+    → Q None → ((k : K) (t : Option T) → Q t → f (part k) t ≡ g (part k) t)
+    → (ks : List K) (known : List (Option T)) → AllHave Q known
+    → in_place f (map part ks) known ≡ in_place g (map part ks) known
+in_place_alike Q f g part none law [] known all = refl
+in_place_alike Q f g part none law (k ∷ ks) [] all =
+    let first = law k None none in
+    let rest = in_place_alike Q f g part none law ks [] tt in
     λ i. first i ∷ rest i
-in_place_alike R f g part law (k ∷ ks) (t ∷ types) all =
+in_place_alike Q f g part none law (k ∷ ks) (t ∷ known) all =
     let first = law k t all.0 in
-    let rest = in_place_alike R f g part law ks types all.1 in
+    let rest = in_place_alike Q f g part none law ks known all.1 in
     λ i. first i ∷ rest i
+
+-- the fields of a variant, if there is one
+abbrev fields_of : Option Variant → List Field
+fields_of None = []
+fields_of (Some v) = v.fields
 
 -- the fields of the first variant with an index are among those of all variants
 found_fields :
@@ -104,7 +109,7 @@ module _ (table part : PortableRegistry) (ids : List ℕ) (is : IsPartOf table i
 
   -- definitions by the table that are those by the part, and refer to what is reached
   abbrev AreKnown : List (Option TypeDef) → List (Option TypeDef) → Type 0
-  AreKnown types others = (types ≡ others) × AllRefer Reached types
+  AreKnown types others = (types ≡ others) × AllHave (Refers Reached) types
 
   -- one more of them
   one_known :
@@ -133,15 +138,36 @@ module _ (table part : PortableRegistry) (ids : List ℕ) (is : IsPartOf table i
       many_known n (definition_at table r.id) (definition_at part r.id) (known r.id reached)
       (refers r.id reached)
 
-  -- the definitions of fields that are reached
-  fields_known :
-      (fs : List Field) → Each Reached (field_references fs)
-      → AreKnown (field_types table fs) (field_types part fs)
-  fields_known [] h = (refl, tt)
-  fields_known (f ∷ fs) h =
-      one_known f.ty.id (field_types table fs) (field_types part fs)
-      (h f.ty (contains_head f.ty (field_references fs)))
-      (fields_known fs (λ r c. h r (contains_tail f.ty (field_references fs) r c)))
+  -- the type of a field, if there is one, is reached
+  abbrev IsReachedField : Option Field → Type 0
+  IsReachedField None = Unit {0}
+  IsReachedField (Some f) = Reached f.ty.id
+
+  -- so are those of fields
+  fields_reached : (fs : List Field) → Each Reached (field_references fs) → AllHave IsReachedField (map Some fs)
+  fields_reached [] h = tt
+  fields_reached (f ∷ fs) h = (
+    h f.ty (contains_head f.ty (field_references fs)),
+    fields_reached fs (λ r c. h r (contains_tail f.ty (field_references fs) r c)),
+  )
+
+  -- so are those of the fields of records of the type
+  record_reached : (type : Option TypeDef) → Refers Reached type → AllHave IsReachedField (known_fields (fields_in type))
+  record_reached (Some (def.Composite d)) h = fields_reached d.fields h
+  record_reached _ h = tt
+
+  -- so are those of a variant of the enum
+  variant_reached :
+      (type : Option TypeDef) (index : ℕ) → Refers Reached type → AllHave IsReachedField (known_in (choice_in type index))
+  variant_reached (Some (def.Variant d)) index h =
+      by (find (λ v. v.index == index) d.variants) (λ r c. h r (found_fields index d.variants r c))
+    where
+      by :
+          (o : Option Variant) → Each Reached (field_references (fields_of o))
+          → AllHave IsReachedField (known_in (option_map (λ v. (d.variants, v)) o))
+      by None h = tt
+      by (Some v) h = fields_reached v.fields h
+  variant_reached _ index h = tt
 
   -- those of members
   members_known :
@@ -153,22 +179,20 @@ module _ (table part : PortableRegistry) (ids : List ℕ) (is : IsPartOf table i
       one_known r.id (map (λ (t : Id). definition_at table t.id) rs)
       (map (λ (t : Id). definition_at part t.id) rs) (h r (contains_head r rs)) (members_known rs (λ s c. h s (contains_tail r rs s c)))
 
-  -- the definitions of the parts of a value, by the table and by the part
-  parts_known :
-      (type : Option TypeDef) (index count : ℕ) → Refers Reached type
-      → AreKnown (part_types table type index count) (part_types part type index count)
-  parts_known None index count h = (refl, tt)
-  parts_known (Some (def.Composite d)) index count h = fields_known d.fields h
-  parts_known (Some (def.Variant d)) index count h =
-      fields_known (fields_of (find (λ v. v.index == index) d.variants))
-      (λ r c. h r (found_fields index d.variants r c))
-  parts_known (Some (def.Sequence d)) index count h = items_known count d.type_param h
-  parts_known (Some (def.Array d)) index count h = items_known count d.type_param h
-  parts_known (Some (def.Tuple d)) index count h = members_known d.fields h
-  parts_known (Some (def.Primitive p)) index count h = (refl, tt)
-  parts_known (Some (def.Compact d)) index count h = (refl, tt)
-  parts_known (Some (def.BitSequence d)) index count h = (refl, tt)
-  parts_known (Some (def.Map d)) index count h =
+  -- the definitions of the items of a list, by the table and by the part
+  types_known :
+      (type : Option TypeDef) (count : ℕ) → Refers Reached type
+      → AreKnown (item_types table type count) (item_types part type count)
+  types_known None count h = (refl, tt)
+  types_known (Some (def.Composite d)) count h = (refl, tt)
+  types_known (Some (def.Variant d)) count h = (refl, tt)
+  types_known (Some (def.Sequence d)) count h = items_known count d.type_param h
+  types_known (Some (def.Array d)) count h = items_known count d.type_param h
+  types_known (Some (def.Tuple d)) count h = members_known d.fields h
+  types_known (Some (def.Primitive p)) count h = (refl, tt)
+  types_known (Some (def.Compact d)) count h = (refl, tt)
+  types_known (Some (def.BitSequence d)) count h = (refl, tt)
+  types_known (Some (def.Map d)) count h =
       many_known count (Some (pair_of d.key d.value)) (Some (pair_of d.key d.value)) refl h
 
   -- which lists are bytes
@@ -204,36 +228,35 @@ module _ (table part : PortableRegistry) (ids : List ℕ) (is : IsPartOf table i
   lists_alike : (ks : List (Known Alike)) → Alike (dyn.List (map (λ k. k.0) ks))
   lists_alike ks type h =
       let vs : List Dyn = map (λ k. k.0) ks in
-      let types = part_types table type 0 (length vs) in
+      let types = item_types table type (length vs) in
+      let are_known = types_known type (length vs) h in
       list_typed table type vs
       ∙ ap (λ b. list_events b (in_place (value_by table) vs types)) (bytes_known type h)
       ∙ ap (list_events (are_bytes part type))
-      (in_place_alike Reached (value_by table) (value_by part) (λ (k : Known Alike). k.0)
-      (λ k t r. k.1 t r) ks types
-      (parts_known type 0 (length vs) h).1)
-      ∙ ap (λ ts. list_events (are_bytes part type) (in_place (value_by part) vs ts))
-      (parts_known type 0 (length vs) h).0
+      (in_place_alike (Refers Reached) (value_by table) (value_by part) (λ (k : Known Alike). k.0) tt
+      (λ k t r. k.1 t r) ks types are_known.1)
+      ∙ ap (λ ts. list_events (are_bytes part type) (in_place (value_by part) vs ts)) are_known.0
       ∙ sym (list_typed part type vs)
+
+  -- a field
+  field_alike :
+      (named : Bool) (k : Option Text × Known Alike) (f : Option Field) → IsReachedField f
+      → field_by table named (k.0, k.1.0) f ≡ field_by part named (k.0, k.1.0) f
+  field_alike named k None h = ap (λ es. field k.0 named None ∷ es) (k.1.1 None tt)
+  field_alike named k (Some f) h =
+      ap (λ es. field k.0 named (Some f) ∷ es)
+      (k.1.1 (definition_at table f.ty.id) (refers f.ty.id h) ∙ ap (λ t. events_by part t k.1.0) (known f.ty.id h))
 
   -- fields between two events
   fields_alike :
-      (first last : Event) (named : Bool) (ks : List (Option Text × Known Alike))
-      (type : Option TypeDef) (index count : ℕ)
-      → Refers Reached type
-      → bracketed first (placed (field_by table named) (part_types table type index count)) last
-      (map (λ k. (k.0, k.1.0)) ks)
-      ≡ bracketed first (placed (field_by part named) (part_types part type index count)) last
-      (map (λ k. (k.0, k.1.0)) ks)
-  fields_alike first last named ks type index count h =
-      let fs : List (Option Text × Dyn) = map (λ k. (k.0, k.1.0)) ks in
-      let types = part_types table type index count in
+      (first last : Event) (named : Bool) (ks : List (Option Text × Known Alike)) (fields : List (Option Field))
+      → AllHave IsReachedField fields
+      → bracketed first (placed (field_by table named) fields) last (map (λ k. (k.0, k.1.0)) ks)
+      ≡ bracketed first (placed (field_by part named) fields) last (map (λ k. (k.0, k.1.0)) ks)
+  fields_alike first last named ks fields h =
       ap (λ es. first ∷ flat_map (λ e. e) es ++ last ∷ [])
-      (in_place_alike Reached (field_by table named) (field_by part named)
-      (λ (k : Option Text × Known Alike). (k.0, k.1.0))
-      (λ k t r. ap (λ es. field k.0 named ∷ es) (k.1.1 t r)) ks types
-      (parts_known type index count h).1)
-      ∙ ap (λ ts. bracketed first (placed (field_by part named) ts) last fs)
-      (parts_known type index count h).0
+      (in_place_alike IsReachedField (field_by table named) (field_by part named)
+      (λ (k : Option Text × Known Alike). (k.0, k.1.0)) tt (field_alike named) ks fields h)
 
   -- each layer of values that are shown alike
   layers_alike : (y : Dyn-F (Known Alike)) → Alike (roll-Dyn (lower Alike y))
@@ -248,14 +271,16 @@ module _ (table part : PortableRegistry) (ids : List ℕ) (is : IsPartOf table i
       let fs : List (Option Text × Dyn) = map (λ k. (k.0, k.1.0)) ks in
       subst (λ d. events_by table type d ≡ events_by part type d) (sym (rolls-Record fs))
       (record_typed table type fs
-      ∙ fields_alike (begin_record (keys fs)) (end_record (keys fs)) (all_named (keys fs)) ks type 0 (length fs) h
+      ∙ fields_alike (begin_record (keys fs) (fields_in type)) (end_record (keys fs) (fields_in type)) (all_named (keys fs)) ks
+      (known_fields (fields_in type)) (record_reached type h)
       ∙ sym (record_typed part type fs))
   layers_alike (layer.Variant name index ks) type h =
       let fs : List (Option Text × Dyn) = map (λ k. (k.0, k.1.0)) ks in
       subst (λ d. events_by table type d ≡ events_by part type d) (sym (rolls-Variant name index fs))
       (variant_typed table type name index fs
-      ∙ fields_alike (begin_variant name index (keys fs) (shared_in type name))
-      (end_variant name index (keys fs) (shared_in type name)) (all_named (keys fs)) ks type index (length fs) h
+      ∙ fields_alike (begin_variant name index (keys fs) (shared_in type name) (choice_in type index))
+      (end_variant name index (keys fs) (shared_in type name) (choice_in type index)) (all_named (keys fs)) ks
+      (known_in (choice_in type index)) (variant_reached type index h)
       ∙ sym (variant_typed part type name index fs))
 
   -- each value is shown alike
