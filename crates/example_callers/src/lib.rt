@@ -3,6 +3,7 @@
 #![tactic(auto)]
 
 pub mod call;
+pub mod copied;
 pub mod exported;
 pub mod facts;
 pub mod inspect;

@@ -1,4 +1,5 @@
 -- The words of the public clauses, each as the crate says it that defines it.
+pub mod LentBytes
 pub mod Types
 pub use Rattle.scale_info_types.specs.declared.ty.TypeDef.TheVariants as TypeDefs
 pub use Rattle.scale_info_numberings.specs.Systems
@@ -105,6 +106,7 @@ pub use Rattle.scale_info_visit.specs.declared.visitor.VisitError.TheVariants as
 pub use Rattle.scale_info_visit.specs.EachEvent
 pub use Rattle.scale_info_visit.specs.Events
 pub use Rattle.scale_info_visit.specs.Sizes
+pub use Rattle.scale_info_visit.specs.Reads
 pub use Rattle.scale_info_visit.specs.Visits
 pub use Rattle.scale_info_loaded.specs.LoadedLaws
 pub use Rattle.scale_info_loaded.specs.LoadedTables

@@ -111,5 +111,6 @@ pub use scale_info_value_json::laws::taken_is_encoded;
 pub use scale_info_value_json::laws::text_taken_back;
 pub use scale_info_view::laws::viewed_is_decoded;
 pub use scale_info_visit::laws::events_one_by_one;
+pub use scale_info_visit::laws::read_is_decoded;
 pub use scale_info_walk::laws::equal_numberings;
 pub use scale_info_walk::laws::equal_retain_errors;
