@@ -2,7 +2,7 @@
 use Rattle.std.proofs.Common.{◌≡◌, ◌+◌, ◌++◌, ◌≤◌, ◌^◌, ℕ, List, [], ◌∷◌, ap, ◌∙◌, arith}
 use Rattle.scale_info.specs.Types.{Dyn, VisitError}
 use Rattle.scale_info.specs.VisitErrors as error
-use Rattle.scale_info.specs.Outcomes.{Outcome}
+use Rattle.scale_info.specs.Outcomes.{Outcome, decoded}
 use Rattle.scale_info.specs.Events.{Event}
 use Rattle.scale_info.specs.Visits.{IsVisitErrorOf}
 use Rattle.scale_info.specs.EachEvent.{TakesEach, RefusesLast}
@@ -42,14 +42,17 @@ moves_too_much es fs a e c h =
     let here = ap (λ p. amount h.last p) before.1 in
     omega (arith, h.refused, before.0, all, first, last, here)
 
--- the error of a visit, as that of summing up
-pub is_moved_error : (events : Dyn → List Event) (outcome : Outcome Dyn) (a c : Transfers) (e : VisitError TooMuch)
+-- the error of a visit, as that of summing up, where of a value its events are read
+pub is_moved_error :
+    (all : List Event) (events : Dyn → List Event) (outcome : Outcome Dyn) (a c : Transfers) (e : VisitError TooMuch)
     → a.total ≡ 0 → place a ≡ outside
-    → IsVisitErrorOf (TakesEach Adds) (RefusesLast Adds AddsTooMuch) events outcome a c e → IsMovedError events outcome e
-is_moved_error events outcome a c (error.Failed why) none out h = h.read
-is_moved_error events outcome a c (error.Stopped e) none out h = λ value rest read.
-    let first = h.first value rest read in
+    → ((value : Dyn) (rest : List ℕ) → outcome ≡ decoded value rest → all ≡ events value)
+    → IsVisitErrorOf (TakesEach Adds) (RefusesLast Adds AddsTooMuch) all outcome a c e → IsMovedError events outcome e
+is_moved_error all events outcome a c (error.Failed why) none out read h = h.read
+is_moved_error all events outcome a c (error.Stopped e) none out read h = λ value rest is.
+    let first = h.first in
     let much = moves_too_much h.shown first.rest a e c h.stopped in
     let whole = ap (λ es. moved outside es) first.parts in
+    let same = ap (λ es. moved outside es) (read value rest is) in
     let from = ap (λ p. moved p (h.shown ++ first.rest)) out in
-    omega (arith, much, none, whole, from)
+    omega (arith, much, none, whole, same, from)

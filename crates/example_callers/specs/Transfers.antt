@@ -27,9 +27,9 @@ is_amount None = false
 
 -- where an event leads
 abbrev pub after : Event → Place → Place
-after (begin_variant name index names shared) place =
+after (begin_variant name index names shared known) place =
     record { in_transfer = bytes_eq name (codes "Transfer"); at_amount = false }
-after (field name named) place =
+after (field name named known) place =
     record { in_transfer = place.in_transfer; at_amount = is_amount name }
 after _ place = record { in_transfer = place.in_transfer; at_amount = false }
 

@@ -6,6 +6,7 @@ ghost use Rattle.example_callers.specs.Transfers.{Adds, AddsTooMuch, HasMoved, I
 ghost use Rattle.example_callers.specs.Transfers.{is_amount};
 
 use scale_info::form::PortableForm;
+use scale_info::laws::read_is_decoded;
 use scale_info::visit::{EventVisitor, ValueEvent, VisitError, visit_events};
 use scale_info::{Field, PortableRegistry};
 use thiserror::Error;
@@ -72,6 +73,7 @@ pub fn moved(table: &PortableRegistry, id: u32, input: &[u8]) -> Result<u128, Vi
         in_transfer: false,
         at_amount: false,
     };
+    read_is_decoded();
     match visit_events(table, id, input, &mut transfers) {
         Ok(_) => Ok(transfers.total),
         Err(error) => Err(error),

@@ -105,6 +105,7 @@ pub use Rattle.scale_info_encode.specs.Paths
 pub use Rattle.scale_info_visit.specs.declared.visitor.VisitError.TheVariants as VisitErrors
 pub use Rattle.scale_info_visit.specs.EachEvent
 pub use Rattle.scale_info_visit.specs.Events
+pub use Rattle.scale_info_visit.specs.Reads
 pub use Rattle.scale_info_visit.specs.Sizes
 pub use Rattle.scale_info_visit.specs.Reads
 pub use Rattle.scale_info_visit.specs.Visits

@@ -24,7 +24,7 @@ use Rattle.scale_info_encode.specs.DefinitionWriters as writers
 use Rattle.scale_info_encode.specs.DefinitionWriters.{Writers, held, variant_in, chosen_variant}
 use Rattle.scale_info_encode.proofs.ValueKinds.{variants}
 use Rattle.scale_info_encode.proofs.ValueKinds as kinds
-use Rattle.scale_info_visit.specs.Events.{definition_at, field_types, all_named, keys, begin_variant, end_variant, fields_of}
+use Rattle.scale_info_visit.specs.Events.{definition_at, all_named, keys, begin_variant, end_variant, known_in}
 use Rattle.scale_info_visit.specs.Events as event
 use Rattle.scale_info_visit.specs.Visits.{placed, field_by, bracketed}
 use Rattle.scale_info_visit.proofs.Events.{variant_typed}
@@ -131,7 +131,7 @@ module _ (table : PortableRegistry) (writers_of : Id → Writers) (takers_of : I
   record FieldsBack (fs : List Field) (values : List (Option Text × Dyn)) : Type 0 where
     content : Option Data
     reads :
-        Content (flat_map event_tokens (placed (field_by table (all_named (keys values))) (field_types table fs) values))
+        Content (flat_map event_tokens (placed (field_by table (all_named (keys values))) (map Some fs) values))
         (keys values) content
     is : variant_fields (fields_taken fs) content ≡ taken values
 
@@ -259,16 +259,19 @@ module _ (table : PortableRegistry) (writers_of : Id → Writers) (takers_of : I
           let q = passed_test (bytes_eq v.name name) (writers.fields (fields_written v.fields)) values b e in
           let c = variant_fields_back v.fields values b q.1 all own in
           let named = all_named (keys values) in
-          let inner = flat_map event_tokens (placed (field_by table named) (field_types table v.fields) values) in
+          let inner = flat_map event_tokens (placed (field_by table named) (map Some v.fields) values) in
           let type = Some (def.Variant d) in
-          let begins = begin_variant name index (keys values) (event.is_shared d.variants name) in
-          let ends = end_variant name index (keys values) (event.is_shared d.variants name) in
+          let shared = event.is_shared d.variants name in
+          let begins = begin_variant name index (keys values) shared in
+          let ends = end_variant name index (keys values) shared in
           let shows : tokens_by table type (dyn.Variant name index values)
-          ≡ variant_tokens (event.is_shared d.variants name) name index (keys values) inner =
+          ≡ variant_tokens shared name index (keys values) inner =
           ap (flat_map event_tokens) (variant_typed table type name index values)
-          ∙ ap (λ o. flat_map event_tokens (bracketed begins (placed (field_by table named) (field_types table (fields_of o))) ends values)) first
-          ∙ ap (λ ts. event_tokens begins ++ ts)
-          (flat_map-append event_tokens (placed (field_by table named) (field_types table v.fields) values) (ends ∷ [])) in
+          ∙ ap (λ o.
+          let c : Option (List Variant × Variant) = option_map (λ w. (d.variants, w)) o in
+          flat_map event_tokens (bracketed (begins c) (placed (field_by table named) (known_in c)) (ends c) values)) first
+          ∙ ap (λ ts. event_tokens (begins (Some (d.variants, v))) ++ ts)
+          (flat_map-append event_tokens (placed (field_by table named) (map Some v.fields) values) (ends (Some (d.variants, v)) ∷ [])) in
           subst (λ ts. IsShown ts (variant (map taken_variant d.variants)) (dyn.Variant name index values)) (sym shows)
           (by_shared name index values v first q.0 c.content c.is c.reads small (is_shared d.variants name) refl)
         where
@@ -276,12 +279,12 @@ module _ (table : PortableRegistry) (writers_of : Id → Writers) (takers_of : I
               (name : Text) (index : ℕ) (values : List (Option Text × Dyn)) (v : Variant)
               → find (λ w. w.index == index) d.variants ≡ Some v → bytes_eq v.name name ≡ true → (content : Option Data)
               → variant_fields (fields_taken v.fields) content ≡ taken values
-              → Content (flat_map event_tokens (placed (field_by table (all_named (keys values))) (field_types table v.fields) values))
+              → Content (flat_map event_tokens (placed (field_by table (all_named (keys values))) (map Some v.fields) values))
               (keys values) content
               → index < 256 → (shared : Bool) → is_shared d.variants name ≡ shared
               → IsShown
               (variant_tokens shared name index (keys values)
-              (flat_map event_tokens (placed (field_by table (all_named (keys values))) (field_types table v.fields) values)))
+              (flat_map event_tokens (placed (field_by table (all_named (keys values))) (map Some v.fields) values)))
               (variant (map taken_variant d.variants)) (dyn.Variant name index values)
           by_shared name index values v first same content is reads small true shared =
               shown_as _ (shared_tree name index content) (variant (map taken_variant d.variants)) (dyn.Variant name index values)

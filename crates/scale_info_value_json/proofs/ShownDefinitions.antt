@@ -26,7 +26,7 @@ use Rattle.scale_info_encode.specs.DefinitionWriters.{Writers, held, list_in, re
 use Rattle.scale_info_encode.proofs.Inverse.{as_many}
 use Rattle.scale_info_encode.proofs.ValueKinds.{IsKind, lists, records, truths, texts, unsigned_integers, signed_integers}
 use Rattle.scale_info_visit.specs.Events as event
-use Rattle.scale_info_visit.specs.Events.{Event, definition_at, field_types, keys, all_named, begin_record, end_record, pair_of, list_events, in_place, events_of}
+use Rattle.scale_info_visit.specs.Events.{Event, definition_at, keys, all_named, begin_record, end_record, pair_of, list_events, in_place, events_of}
 use Rattle.scale_info_visit.specs.Visits.{placed, field_by, value_by}
 use Rattle.scale_info_visit.proofs.Events.{HasNoParts, list_typed, record_typed, truth_alone, unsigned_alone, signed_alone, text_alone}
 use Rattle.scale_info_visit.proofs.Events.{truth_events, unsigned_events, signed_events, text_events}
@@ -180,8 +180,8 @@ module _ (table : PortableRegistry) (writers_of : Id → Writers) (takers_of : I
       let own_fields = sym (record_own x.0) ∙ ap has_own_names (sym x.1) ∙ own in
       let shows =
       ap (flat_map event_tokens) (record_typed table type x.0)
-      ∙ ap (λ ts. event_tokens (begin_record names) ++ ts)
-      (flat_map-append event_tokens (placed (field_by table named) (field_types table d.fields) x.0) (end_record names ∷ [])) in
+      ∙ ap (λ ts. event_tokens (begin_record names (Some d.fields)) ++ ts)
+      (flat_map-append event_tokens (placed (field_by table named) (map Some d.fields) x.0) (end_record names (Some d.fields) ∷ [])) in
       subst (λ v. IsShown (tokens_by table type v) take v) (sym x.1)
       (subst (λ ts. IsShown ts take (dyn.Record x.0)) (sym shows)
       (shown_map dyn.Record _ (takers.fields fs) x.0

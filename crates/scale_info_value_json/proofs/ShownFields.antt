@@ -23,7 +23,7 @@ use Rattle.scale_info_encode.specs.DefinitionWriters as writers
 use Rattle.scale_info_encode.specs.DefinitionWriters.{Writers}
 use Rattle.scale_info_encode.proofs.Inverse.{parted, part_written}
 use Rattle.scale_info_bytes.specs.Encodings.{IsByte}
-use Rattle.scale_info_visit.specs.Events.{definition_at, field_types, all_named, keys, names}
+use Rattle.scale_info_visit.specs.Events.{definition_at, all_named, keys, names}
 use Rattle.scale_info_visit.specs.Visits.{placed, field_by}
 use Rattle.scale_info_value_text.specs.ValueTexts.{event_tokens, field_opening, opening, closing}
 use Rattle.scale_info_value_json.specs.Takers.{Taker, refused, mismatch, taken_map, if_found, all_taken, in_turn}
@@ -138,18 +138,18 @@ module _ (table : PortableRegistry) (writers_of : Id → Writers) (takers_of : I
   -- the tokens of fields of which the first is this
   tokens_of_first :
       (named : Bool) (v : Option Text × Dyn) (f : Field) (all : List Field) (values : List (Option Text × Dyn))
-      → flat_map event_tokens (placed (field_by table named) (field_types table (f ∷ all)) (v ∷ values))
+      → flat_map event_tokens (placed (field_by table named) (map Some (f ∷ all)) (v ∷ values))
       ≡ (field_opening v.0 named ++ tokens_by table (definition_at table f.ty.id) v.1)
-      ++ flat_map event_tokens (placed (field_by table named) (field_types table all) values)
+      ++ flat_map event_tokens (placed (field_by table named) (map Some all) values)
   tokens_of_first named v f all values =
-      flat_map-append event_tokens (field_by table named v (definition_at table f.ty.id))
-      (placed (field_by table named) (field_types table all) values)
+      flat_map-append event_tokens (field_by table named v (Some f))
+      (placed (field_by table named) (map Some all) values)
 
   -- fields in an array are taken back
   array_back :
       (place : ℕ) (all : List Field) (values : List (Option Text × Dyn)) (b : List ℕ)
       → written_from place all values ≡ written b → AllByRecursion IsByte b → fields_own values ≡ true
-      → AreShown (flat_map event_tokens (placed (field_by table false) (field_types table all) values))
+      → AreShown (flat_map event_tokens (placed (field_by table false) (map Some all) values))
       (in_turn (map takers.field (map taken_field all))) values
   array_back place [] [] b e bytes own = none_shown (in_turn []) refl
   array_back place [] (v ∷ values) b e bytes own = cc
@@ -158,7 +158,7 @@ module _ (table : PortableRegistry) (writers_of : Id → Writers) (takers_of : I
       let p = parted_bytes (writers.field (written_field f) place v) (written_from (place + 1) all values) b e bytes in
       let o = and_parts (has_own_names v.1) (fields_own values) own in
       let ts = tokens_by table (definition_at table f.ty.id) v.1 in
-      let us = flat_map event_tokens (placed (field_by table false) (field_types table all) values) in
+      let us = flat_map event_tokens (placed (field_by table false) (map Some all) values) in
       let take = in_turn (map takers.field (map taken_field (f ∷ all))) in
       subst (λ all_tokens. AreShown all_tokens take (v ∷ values))
       (sym (tokens_of_first false v f all values ∙ ap (λ first. (first ++ ts) ++ us) (nothing_before v.0)))
@@ -180,7 +180,7 @@ module _ (table : PortableRegistry) (writers_of : Id → Writers) (takers_of : I
       (place : ℕ) (all : List Field) (values : List (Option Text × Dyn)) (b : List ℕ) (found : Members)
       → written_from place all values ≡ written b → AllByRecursion IsByte b → fields_own values ≡ true
       → all_named (names all) ≡ true → are_distinct (names all) ≡ true
-      → AreMembersShown (flat_map event_tokens (placed (field_by table true) (field_types table all) values)) found
+      → AreMembersShown (flat_map event_tokens (placed (field_by table true) (map Some all) values)) found
       (named_takers (map taken_field all)) values
   members_back place [] [] b found e bytes own named distinct = no_members_shown found
   members_back place [] (v ∷ values) b found e bytes own named distinct = cc
@@ -192,7 +192,7 @@ module _ (table : PortableRegistry) (writers_of : Id → Writers) (takers_of : I
       let d = apart f.name (names all) distinct in
       let name = n.0 in
       let ts = tokens_by table (definition_at table f.ty.id) v.1 in
-      let us = flat_map event_tokens (placed (field_by table true) (field_types table all) values) in
+      let us = flat_map event_tokens (placed (field_by table true) (map Some all) values) in
       let s = field_back place f v p.0 p.2 p.4 o.0 in
       let rest = members_back (place + 1) all values p.1 (put name s.tree found) p.3 p.5 o.1 n.2 d.1 in
       let alone : has_name (Some name) (names_of (named_takers (map taken_field all))) ≡ false =
@@ -211,7 +211,7 @@ module _ (table : PortableRegistry) (writers_of : Id → Writers) (takers_of : I
       → writers.fields (map written_field all) values ≡ written b → AllByRecursion IsByte b → (own_names (keys values) && fields_own values) ≡ true
       → IsShown
       (opening (keys values)
-      ∷ (flat_map event_tokens (placed (field_by table (all_named (keys values))) (field_types table all) values)
+      ∷ (flat_map event_tokens (placed (field_by table (all_named (keys values))) (map Some all) values)
       ++ closing (keys values) ∷ []))
       (takers.fields (map taken_field all)) values
   fields_back all values b e bytes own =
@@ -224,7 +224,7 @@ module _ (table : PortableRegistry) (writers_of : Id → Writers) (takers_of : I
           → (all_named (keys values) ≡ true → are_distinct (keys values) ≡ true) → fields_own values ≡ true
           → IsShown
           ((if named then token.begin_object else token.begin_array)
-          ∷ (flat_map event_tokens (placed (field_by table named) (field_types table all) values)
+          ∷ (flat_map event_tokens (placed (field_by table named) (map Some all) values)
           ++ (if named then token.end_object else token.end_array) ∷ []))
           (takers.fields (map taken_field all)) values
       by_names true is same distinct own =
@@ -232,7 +232,7 @@ module _ (table : PortableRegistry) (writers_of : Id → Writers) (takers_of : I
           let are_apart : are_distinct (names all) ≡ true = ap are_distinct (sym same) ∙ distinct is in
           let object_of : is_object_of (map (λ f. f.name) (map taken_field all)) ≡ true =
           ap is_object_of (names_stay all) ∙ (λ i. are_named i && are_apart i) in
-          object_shown (flat_map event_tokens (placed (field_by table true) (field_types table all) values))
+          object_shown (flat_map event_tokens (placed (field_by table true) (map Some all) values))
           (named_takers (map taken_field all)) values (takers.fields (map taken_field all)) values
           (λ found h count.
           ap (λ (t : Bool). if t then object_fields (map taken_field all) (object found)
@@ -244,7 +244,7 @@ module _ (table : PortableRegistry) (writers_of : Id → Writers) (takers_of : I
       by_names false is same distinct own =
           let array_of : is_object_of (map (λ f. f.name) (map taken_field all)) ≡ false =
           ap is_object_of (names_stay all) ∙ ap (λ (t : Bool). t && are_distinct (names all)) (ap all_named (sym same) ∙ is) in
-          array_shown (flat_map event_tokens (placed (field_by table false) (field_types table all) values))
+          array_shown (flat_map event_tokens (placed (field_by table false) (map Some all) values))
           (in_turn (map takers.field (map taken_field all))) values (takers.fields (map taken_field all)) values
           (λ trees h count.
           ap (λ (t : Bool). if t then object_fields (map taken_field all) (array trees)

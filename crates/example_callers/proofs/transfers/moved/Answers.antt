@@ -13,4 +13,6 @@ returns-in-Ok-clause-ok c =
     }
 
 pub returns-in-Err-clause-err : goal.returns-in-Err-clause-err
-returns-in-Err-clause-err c = is_moved_error _ _ _ _ c.in-Err.error refl refl c.in-Err.ensures.err
+returns-in-Err-clause-err c =
+    is_moved_error _ _ _ _ _ c.in-Err.error refl refl
+    (c.read_is_decoded.ensures.events c.args.table.now c.args.id c.args.input.now) c.in-Err.ensures.err
