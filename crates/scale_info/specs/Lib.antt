@@ -107,7 +107,6 @@ pub use Rattle.scale_info_visit.specs.EachEvent
 pub use Rattle.scale_info_visit.specs.Events
 pub use Rattle.scale_info_visit.specs.Reads
 pub use Rattle.scale_info_visit.specs.Sizes
-pub use Rattle.scale_info_visit.specs.Reads
 pub use Rattle.scale_info_visit.specs.Visits
 pub use Rattle.scale_info_loaded.specs.LoadedLaws
 pub use Rattle.scale_info_loaded.specs.LoadedTables

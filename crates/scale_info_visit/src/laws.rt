@@ -10,6 +10,8 @@ ghost use Rattle.scale_info_visit.specs.Events.{events, events_of, one_by_one, u
 ghost use Rattle.scale_info_visit.specs.Reads.{read_of, events_read};
 ghost use Rattle.scale_info_visit.specs.Visits.{HasRest};
 
+pub mod examples;
+
 /// What a type says of a value's events is which lists are bytes, which variants share their name,
 /// and what the table has of records, variants and fields, and nothing else. Where bytes are shown
 /// one by one, no name counts as shared and the table's part is left out, the events of a value of

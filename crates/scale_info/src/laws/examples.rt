@@ -7,3 +7,4 @@ pub use scale_info_numberings::laws::examples::{
 };
 pub use scale_info_tables::laws::examples::indices_are_nodes;
 pub use scale_info_value::laws::examples::{depths, fields, integers, lists, maps};
+pub use scale_info_visit::laws::examples::{fields_read, lists_read, maps_read};
