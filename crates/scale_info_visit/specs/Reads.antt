@@ -1,5 +1,5 @@
 -- What is read of bytes and shown, whether or not a value of the type is there.
-use Rattle.std.specs.Prelude.{ℕ, zero, suc, ◌==◌, Bool, true, false, List, [], ◌∷◌, ◌++◌}
+use Rattle.std.specs.Prelude.{ℕ, zero, suc, ◌-◌, ◌==◌, Bool, true, false, List, [], ◌∷◌, ◌++◌}
 use Rattle.std.specs.Prelude.{length, map, replicate, Option, Some, None, find}
 use Rattle.scale_info_types.specs.Portable.{Id, Field, Variant, TypeDef}
 use Rattle.scale_info_types.specs.declared.ty.TypeDef.TheVariants as def
@@ -14,7 +14,8 @@ use Rattle.scale_info_value.specs.ValueDefinitions.{primitive}
 use Rattle.scale_info_value.specs.Readings.{compact_within}
 use Rattle.scale_info_visit.specs.Events.{Event, unsigned, bytes, begin_list, end_list}
 use Rattle.scale_info_visit.specs.Events.{begin_fields, end_fields, begin_of, end_of, field_of}
-use Rattle.scale_info_visit.specs.Events.{events_of, definition_at, pair_of, is_byte, all_named, names}
+use Rattle.scale_info_visit.specs.Events.{events_of, definition_at, pair_of, is_byte, all_named}
+use Rattle.scale_info_visit.specs.Events.{names}
 
 -- what is read of bytes: the events in order, and how it ends, with the rest of the bytes or a
 -- failure
@@ -88,8 +89,8 @@ abbrev pub unless : Option Failure → Read → Read
 unless None read = read
 unless (Some why) read = fails why
 
--- In the following, `left` levels are left for the parts of a value, and `part` says what is read of
--- a part by the definition of its type, if there is one.
+-- In what follows, `left` levels are left for the parts of a value, and `part` says what is read of a
+-- part by the definition of its type, if there is one.
 
 -- A list of so many items of one type. Where there are any, no event is shown before it is known
 -- that their type has values.
@@ -161,6 +162,10 @@ unfoldable pub value_read : ℕ → PortableRegistry → Option TypeDef → Read
 value_read zero table type input = fails too_deep
 value_read (suc left) table None input = fails no_such_type
 value_read (suc left) table (Some d) input = kind_read left table (value_read left table) d input
+
+-- what is read of a part of a value, where so many levels are left for the value
+abbrev pub part_read : ℕ → PortableRegistry → Option TypeDef → Reader
+part_read left table type input = value_read (left - 1) table type input
 
 -- what is read of bytes by the type with this id; no value is deeper than 128
 abbrev pub read_of : PortableRegistry → ℕ → Reader

@@ -214,8 +214,8 @@ impl<'v, V: EventVisitor> ValueVisitor for EachEvent<'v, V> {
 /// Passes the events of one value of the type with this id, which is at the start of the input, to
 /// the visitor's one function, and returns the rest. It does not allocate.
 ///
-/// It shows what `visit_value` shows, and has the same errors. At `Failed` the visitor has taken all
-/// events of what is read; at `Stopped` it has refused one of them, and taken those before it.
+/// It shows what `visit_value` shows, and has the same errors. At `Failed` the visitor has taken
+/// all events of what is read; at `Stopped` it has refused one of them, and taken those before it.
 pub fn visit_events<'i, T: Definitions, V: EventVisitor>(
     table: &T,
     id: u32,

@@ -25,8 +25,8 @@ pub fn events_one_by_one()
 {}
 
 /// What is read of bytes is what is decoded of them. Where they begin with a value, its events are
-/// read, and the rest is left; where they do not, some events are read, and the failure is the same;
-/// and so the other way round.
+/// read, and the rest is left; where they do not, some events are read, and the failure is the
+/// same; and so the other way round.
 pub fn read_is_decoded()
     ensures events { (table : PortableRegistry) (id : ℕ) (input : List ℕ) (value : dyns.Dyn)
         (rest : List ℕ) → reading table id 1 input ≡ decoded value rest

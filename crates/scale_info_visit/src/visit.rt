@@ -3,8 +3,9 @@ ghost use Rattle.std.specs.Prelude.{◌≡◌, ◌≤◌, ◌-◌, ◌∷◌, []
 ghost use Rattle.std.specs.Prelude.{replicate};
 ghost use Rattle.scale_info_value.specs.Readings.{reading};
 ghost use Rattle.scale_info_visit.specs.Events.{events, all_named, is_byte, is_shared, names};
-ghost use Rattle.scale_info_visit.specs.Events.{definition_at, pair_of, list_events, begin_list, end_list};
-ghost use Rattle.scale_info_visit.specs.Reads.{value_read, record_read, variant_read, chosen_read};
+ghost use Rattle.scale_info_visit.specs.Events.{definition_at, pair_of, list_events};
+ghost use Rattle.scale_info_visit.specs.Events.{begin_list, end_list};
+ghost use Rattle.scale_info_visit.specs.Reads.{value_read, part_read, record_read, variant_read, chosen_read};
 ghost use Rattle.scale_info_visit.specs.Reads.{fields_read, field_read, list_read, items_read};
 ghost use Rattle.scale_info_visit.specs.Reads.{tuple_read, members_read, each, between};
 ghost use Rattle.scale_info_visit.specs.Reads.{events_read, barred};
@@ -164,7 +165,7 @@ fn record<'i, T: Definitions, V: ValueVisitor>(
 ) -> Result<&'i [u8], VisitError<V::Error>>
     requires { 1 ≤ left }
     ensures { HasShown V.visited V.stopped
-        (record_read (T.table table.now) (value_read (left - 1) (T.table table.now)) all.now input.now)
+        (record_read (T.table table.now) (part_read left (T.table table.now)) all.now input.now)
         visitor.old visitor.new result }
 {
     shown(visitor.begin_record(all))?;
@@ -184,7 +185,8 @@ fn variant<'i, T: Definitions, V: ValueVisitor>(
 ) -> Result<&'i [u8], VisitError<V::Error>>
     requires { 1 ≤ left }
     ensures { HasShown V.visited V.stopped
-        (variant_read (T.table table.now) (value_read (left - 1) (T.table table.now)) choice.now.variants input.now)
+        (variant_read (T.table table.now) (part_read left (T.table table.now))
+        choice.now.variants input.now)
         visitor.old visitor.new result }
 {
     let (index, rest) = byte(input)?;
@@ -207,7 +209,8 @@ fn chosen<'i, T: Definitions, V: ValueVisitor>(
 ) -> Result<&'i [u8], VisitError<V::Error>>
     requires { 1 ≤ left }
     ensures { HasShown V.visited V.stopped
-        (chosen_read (T.table table.now) (value_read (left - 1) (T.table table.now)) choice.now (Some variant.now) input.now)
+        (chosen_read (T.table table.now) (part_read left (T.table table.now))
+        choice.now (Some variant.now) input.now)
         visitor.old visitor.new result }
 {
     let all = variant.fields.as_slice();
@@ -229,7 +232,8 @@ fn fields<'i, T: Definitions, V: ValueVisitor>(
 ) -> Result<&'i [u8], VisitError<V::Error>>
     requires { 1 ≤ left }
     ensures { HasShown V.visited V.stopped
-        (fields_read (T.table table.now) (value_read (left - 1) (T.table table.now)) named all.now input.now)
+        (fields_read (T.table table.now) (part_read left (T.table table.now))
+        named all.now input.now)
         visitor.old visitor.new result }
 {
     let mut rest = input;
@@ -251,7 +255,8 @@ fn field<'i, T: Definitions, V: ValueVisitor>(
 ) -> Result<&'i [u8], VisitError<V::Error>>
     requires { 1 ≤ left }
     ensures { HasShown V.visited V.stopped
-        (field_read (T.table table.now) (value_read (left - 1) (T.table table.now)) named next.now input.now)
+        (field_read (T.table table.now) (part_read left (T.table table.now))
+        named next.now input.now)
         visitor.old visitor.new result }
 {
     shown(visitor.field(next, named))?;
@@ -270,7 +275,8 @@ fn list<'i, T: Definitions, V: ValueVisitor>(
 ) -> Result<&'i [u8], VisitError<V::Error>>
     requires { 1 ≤ left }
     ensures { HasShown V.visited V.stopped
-        (list_read (left - 1) (value_read (left - 1) (T.table table.now)) (definition_at (T.table table.now) ty.now.id) count input.now)
+        (list_read (left - 1) (part_read left (T.table table.now))
+        (definition_at (T.table table.now) ty.now.id) count input.now)
         visitor.old visitor.new result }
 {
     if count == 0 {
@@ -333,7 +339,8 @@ fn list_by<'i, T: Definitions, V: ValueVisitor>(
 ) -> Result<&'i [u8], VisitError<V::Error>>
     requires { 1 ≤ left }
     ensures { HasShown V.visited V.stopped
-        (items_read (is_byte (Some definition.now)) count (value_read left (T.table table.now) (Some definition.now)) input.now)
+        (items_read (is_byte (Some definition.now)) count
+        (value_read left (T.table table.now) (Some definition.now)) input.now)
         visitor.old visitor.new result }
 {
     if is_byte(definition) {
@@ -356,7 +363,8 @@ fn list_of_items<'i, T: Definitions, V: ValueVisitor>(
 ) -> Result<&'i [u8], VisitError<V::Error>>
     requires { 1 ≤ left }
     ensures { HasShown V.visited V.stopped
-        (items_read false count (value_read left (T.table table.now) (Some definition.now)) input.now)
+        (items_read false count
+        (value_read left (T.table table.now) (Some definition.now)) input.now)
         visitor.old visitor.new result }
 {
     shown(visitor.begin_list(count as usize))?;
@@ -378,7 +386,8 @@ fn items<'i, T: Definitions, V: ValueVisitor>(
 ) -> Result<&'i [u8], VisitError<V::Error>>
     requires { 1 ≤ left }
     ensures { HasShown V.visited V.stopped
-        (each (replicate count (value_read left (T.table table.now) (Some definition.now))) input.now)
+        (each (replicate count (value_read left (T.table table.now) (Some definition.now)))
+        input.now)
         visitor.old visitor.new result }
 {
     if let TypeDef::Primitive(kind) = definition {
@@ -402,7 +411,7 @@ fn members<'i, T: Definitions, V: ValueVisitor>(
 ) -> Result<&'i [u8], VisitError<V::Error>>
     requires { 1 ≤ left }
     ensures { HasShown V.visited V.stopped
-        (tuple_read (T.table table.now) (value_read (left - 1) (T.table table.now)) types.now input.now)
+        (tuple_read (T.table table.now) (part_read left (T.table table.now)) types.now input.now)
         visitor.old visitor.new result }
 {
     shown(visitor.begin_list(types.len()))?;
@@ -422,7 +431,7 @@ fn each_member<'i, T: Definitions, V: ValueVisitor>(
 ) -> Result<&'i [u8], VisitError<V::Error>>
     requires { 1 ≤ left }
     ensures { HasShown V.visited V.stopped
-        (members_read (T.table table.now) (value_read (left - 1) (T.table table.now)) types.now input.now)
+        (members_read (T.table table.now) (part_read left (T.table table.now)) types.now input.now)
         visitor.old visitor.new result }
 {
     let mut rest = input;
@@ -445,7 +454,9 @@ fn pairs<'i, T: Definitions, V: ValueVisitor>(
 ) -> Result<&'i [u8], VisitError<V::Error>>
     requires { 1 ≤ left }
     ensures { HasShown V.visited V.stopped
-        (between (begin_list count) (each (replicate count (value_read (left - 1) (T.table table.now) (Some (pair_of key.now value.now))))) end_list input.now)
+        (between (begin_list count) (each (replicate count
+        (part_read left (T.table table.now) (Some (pair_of key.now value.now)))))
+        end_list input.now)
         visitor.old visitor.new result }
 {
     shown(visitor.begin_list(count as usize))?;
@@ -467,7 +478,8 @@ fn each_pair<'i, T: Definitions, V: ValueVisitor>(
 ) -> Result<&'i [u8], VisitError<V::Error>>
     requires { 1 ≤ left }
     ensures { HasShown V.visited V.stopped
-        (each (replicate count (value_read (left - 1) (T.table table.now) (Some (pair_of key.now value.now)))) input.now)
+        (each (replicate count
+        (part_read left (T.table table.now) (Some (pair_of key.now value.now)))) input.now)
         visitor.old visitor.new result }
 {
     let mut rest = input;
@@ -512,7 +524,8 @@ fn key_and_value<'i, T: Definitions, V: ValueVisitor>(
 ) -> Result<&'i [u8], VisitError<V::Error>>
     requires { 1 ≤ left }
     ensures { HasShown V.visited V.stopped
-        (members_read (T.table table.now) (value_read (left - 1) (T.table table.now)) (key.now ∷ value.now ∷ []) input.now)
+        (members_read (T.table table.now) (part_read left (T.table table.now))
+        (key.now ∷ value.now ∷ []) input.now)
         visitor.old visitor.new result }
 {
     let rest = value_within(table, key.id, left - 1, input, visitor)?;

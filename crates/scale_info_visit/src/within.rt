@@ -176,8 +176,8 @@ impl<'v, V: ValueVisitor> ValueVisitor for Limited<'v, V> {
 /// table of two entries and takes no bytes, ends after as many of them as the limit allows.
 ///
 /// Errors: `Failed`, where the bytes are no value of the type, after all events of what is read;
-/// `TooLarge`, before the first event that is of a value past the limit; `Stopped`, where the visitor
-/// stopped. So the visitor is never shown more values than the limit.
+/// `TooLarge`, before the first event that is of a value past the limit; `Stopped`, where the
+/// visitor stopped. So the visitor is never shown more values than the limit.
 pub fn visit_value_within<'i, T: Definitions, V: ValueVisitor>(
     table: &T,
     id: u32,
