@@ -7,4 +7,5 @@ pub use scale_info_value::definition::Definitions;
 pub use scale_info_value::value::{Dyn, Failure, ValueError, decode_value, decode_value_by};
 pub use scale_info_value::variants::variant_index;
 pub use scale_info_value_json::error::ValueJsonError;
+pub use scale_info_value_json::names::has_own_names;
 pub use scale_info_value_json::take::from_json;

@@ -6,12 +6,7 @@ use Rattle.std.proofs.lemmas.List.{map-append}
 use Rattle.std.specs.Option.{is_some}
 use Rattle.std.specs.Str.{bytes_eq}
 use Rattle.scale_info_visit.specs.Events.{all_named}
-use Rattle.scale_info_types.specs.Portable.{Field}
 use Rattle.scale_info_value_json.specs.TreeParts.{are_distinct, has_name, is_object_of}
-
--- the names of fields
-abbrev pub names_of : List Field → List (Option (List ℕ))
-names_of fields = map (λ f. f.name) fields
 
 -- whether the map has a name, as what is found under it
 abbrev pub found : Bool → Option (Unit {0})
@@ -46,60 +41,11 @@ split_last (x ∷ y ∷ ys) d l =
     ap (λ t. x ∷ t) shorter
     ∙ ap (λ k. take k (x ∷ y ∷ ys) ++ get_or (x ∷ y ∷ ys) k d ∷ []) (sym n)
 
--- fields, where some that end with a field, and the others, are given
-pub regrouped :
-    (fields rest after : List Field) (field : Field) → fields ≡ rest ++ after → 1 ≤ length rest
-    → get_or rest (length rest - 1) field ≡ field → fields ≡ take (length rest - 1) rest ++ field ∷ after
-regrouped fields rest after field e some last =
-    let before = take (length rest - 1) rest in
-    e ∙ ap (λ t. t ++ after) (split_last rest field some ∙ ap (λ f. before ++ f ∷ []) last)
-    ∙ append_assoc before (field ∷ []) after
-
-names_join :
-    (before : List Field) (field : Field) (after : List Field)
-    → names_of (before ++ field ∷ after) ≡ names_of before ++ field.name ∷ names_of after
-names_join before field after = map-append (λ (f : Field). f.name) before (field ∷ after)
-
--- names among which a suffix is no names of members are none
-by_suffix :
-    (fields rest after : List Field) (field : Field) (name : Option (List ℕ)) → fields ≡ rest ++ after → 1 ≤ length rest
-    → get_or rest (length rest - 1) field ≡ field → field.name ≡ name → is_object_of (name ∷ names_of after) ≡ false
-    → is_object_of (names_of fields) ≡ false
-by_suffix fields rest after field name e some last is none =
-    let before = take (length rest - 1) rest in
-    ap (λ t. is_object_of (names_of t)) (regrouped fields rest after field e some last)
-    ∙ ap is_object_of (names_join before field after)
-    ∙ ap (λ n. is_object_of (names_of before ++ n ∷ names_of after)) is
-    ∙ not_suffix (names_of before) (name ∷ names_of after) none
-
--- some fields of which one has no name are no members of an object
-pub nameless :
-    (fields rest after : List Field) (field : Field) → fields ≡ rest ++ after → 1 ≤ length rest
-    → get_or rest (length rest - 1) field ≡ field → field.name ≡ None → is_object_of (names_of fields) ≡ false
-nameless fields rest after field e some last is = by_suffix fields rest after field None e some last is refl
-
 -- a name that is among those after it comes twice
 twice_of : (name : List ℕ) (others : List (Option (List ℕ))) → has_name (Some name) others ≡ true
     → is_object_of (Some name ∷ others) ≡ false
 twice_of name others h =
     ap (λ b. all_named others && (not b && are_distinct others)) h ∙ both_false (all_named others)
-
--- some fields of which one has a name that a later one has are no members of an object
-pub twice :
-    (fields rest after : List Field) (field : Field) (name : List ℕ) → fields ≡ rest ++ after → 1 ≤ length rest
-    → get_or rest (length rest - 1) field ≡ field → field.name ≡ Some name
-    → has_name (Some name) (names_of after) ≡ true → is_object_of (names_of fields) ≡ false
-twice fields rest after field name e some last is h =
-    by_suffix fields rest after field (Some name) e some last is (twice_of name (names_of after) h)
-
--- a field with a name of its own before members of an object
-pub one_more :
-    (field : Field) (after : List Field) (name : List ℕ) → field.name ≡ Some name
-    → is_object_of (names_of after) ≡ true → has_name (Some name) (names_of after) ≡ false
-    → is_object_of (names_of (field ∷ after)) ≡ true
-one_more field after name some is h =
-    ap (λ n. is_object_of (n ∷ names_of after)) some
-    ∙ ap (λ b. all_named (names_of after) && (not b && are_distinct (names_of after))) h ∙ is
 
 -- where something is found, the map has the name
 pub has_found : (is : Bool) → is_some (found is) ≡ true → is ≡ true
@@ -111,16 +57,79 @@ pub has_not_found : (is : Bool) → is_some (found is) ≡ false → is ≡ fals
 has_not_found true e = cc
 has_not_found false e = refl
 
--- what is found under a name in the map with one more
-pub found_more :
-    (field : Field) (after : List Field) (name : List ℕ) → field.name ≡ Some name
-    → (q : List ℕ)
-    → cond (bytes_eq name q) (Some tt) (found (has_name (Some q) (names_of after)))
-    ≡ found (has_name (Some q) (names_of (field ∷ after)))
-found_more field after name some q =
-    by (bytes_eq name q) (has_name (Some q) (names_of after))
-    ∙ ap (λ n. found (has_name (Some q) (n ∷ names_of after))) (sym some)
-  where
-    by : (a b : Bool) → cond a (Some tt) (found b) ≡ found (a || b)
-    by true b = refl
-    by false b = refl
+-- what may have names, each by this function
+module _ {A : Type 0} (named : A → Option (List ℕ)) where
+  -- the names of some
+  abbrev pub names_of : List A → List (Option (List ℕ))
+  names_of fields = map named fields
+
+  -- fields, where some that end with a field, and the others, are given
+  pub regrouped :
+      (fields rest after : List A) (field : A) → fields ≡ rest ++ after → 1 ≤ length rest
+      → get_or rest (length rest - 1) field ≡ field → fields ≡ take (length rest - 1) rest ++ field ∷ after
+  regrouped fields rest after field e some last =
+      let before = take (length rest - 1) rest in
+      e ∙ ap (λ t. t ++ after) (split_last rest field some ∙ ap (λ f. before ++ f ∷ []) last)
+      ∙ append_assoc before (field ∷ []) after
+
+  names_join :
+      (before : List A) (field : A) (after : List A)
+      → names_of (before ++ field ∷ after) ≡ names_of before ++ named field ∷ names_of after
+  names_join before field after = map-append named before (field ∷ after)
+
+  -- names among which a suffix is no names of members are none
+  by_suffix :
+      (fields rest after : List A) (field : A) (name : Option (List ℕ)) → fields ≡ rest ++ after → 1 ≤ length rest
+      → get_or rest (length rest - 1) field ≡ field → named field ≡ name → is_object_of (name ∷ names_of after) ≡ false
+      → is_object_of (names_of fields) ≡ false
+  by_suffix fields rest after field name e some last is none =
+      let before = take (length rest - 1) rest in
+      ap (λ t. is_object_of (names_of t)) (regrouped fields rest after field e some last)
+      ∙ ap is_object_of (names_join before field after)
+      ∙ ap (λ n. is_object_of (names_of before ++ n ∷ names_of after)) is
+      ∙ not_suffix (names_of before) (name ∷ names_of after) none
+
+  -- some fields of which one has no name are no members of an object
+  pub nameless :
+      (fields rest after : List A) (field : A) → fields ≡ rest ++ after → 1 ≤ length rest
+      → get_or rest (length rest - 1) field ≡ field → named field ≡ None → is_object_of (names_of fields) ≡ false
+  nameless fields rest after field e some last is = by_suffix fields rest after field None e some last is refl
+
+  -- some fields of which one has a name that a later one has are no members of an object
+  pub twice :
+      (fields rest after : List A) (field : A) (name : List ℕ) → fields ≡ rest ++ after → 1 ≤ length rest
+      → get_or rest (length rest - 1) field ≡ field → named field ≡ Some name
+      → has_name (Some name) (names_of after) ≡ true → is_object_of (names_of fields) ≡ false
+  twice fields rest after field name e some last is h =
+      by_suffix fields rest after field (Some name) e some last is (twice_of name (names_of after) h)
+
+  -- a field with a name of its own before members of an object
+  pub one_more :
+      (field : A) (after : List A) (name : List ℕ) → named field ≡ Some name
+      → is_object_of (names_of after) ≡ true → has_name (Some name) (names_of after) ≡ false
+      → is_object_of (names_of (field ∷ after)) ≡ true
+  one_more field after name some is h =
+      ap (λ n. is_object_of (n ∷ names_of after)) some
+      ∙ ap (λ b. all_named (names_of after) && (not b && are_distinct (names_of after))) h ∙ is
+
+  -- what is found under a name in the map with one more
+  pub found_more :
+      (field : A) (after : List A) (name : List ℕ) → named field ≡ Some name
+      → (q : List ℕ)
+      → cond (bytes_eq name q) (Some tt) (found (has_name (Some q) (names_of after)))
+      ≡ found (has_name (Some q) (names_of (field ∷ after)))
+  found_more field after name some q =
+      by (bytes_eq name q) (has_name (Some q) (names_of after))
+      ∙ ap (λ n. found (has_name (Some q) (n ∷ names_of after))) (sym some)
+    where
+      by : (a b : Bool) → cond a (Some tt) (found b) ≡ found (a || b)
+      by true b = refl
+      by false b = refl
+
+  -- some that end with others of which each has a name of its own; and the map, which finds this
+  -- under each name, has the names of these
+  pub record IsSplit (fields rest : List A) (in_map : List ℕ → Option (Unit {0})) : Type 0 where
+    pub after : List A
+    pub parts : fields ≡ rest ++ after
+    pub own : is_object_of (names_of after) ≡ true
+    pub finds : (q : List ℕ) → in_map q ≡ found (has_name (Some q) (names_of after))

@@ -10,7 +10,7 @@ mod definition;
 pub mod error;
 pub mod laws;
 mod list;
-mod names;
+pub mod names;
 mod number;
 mod primitive;
 pub mod take;

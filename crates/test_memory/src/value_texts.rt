@@ -1,7 +1,7 @@
 //! Values as JSON: their texts, and the values that are taken from trees.
 use crate::values::Given;
 use scale_info::PortableRegistry;
-use scale_info::value::{Dyn, encode_value, from_json};
+use scale_info::value::{Dyn, decode_value, encode_value, from_json, has_own_names};
 use scale_info::value_text::{ValueTextError, append_value_json, value_json};
 use serde_json::Value;
 use std::alloc::{AllocError, Global};
@@ -35,6 +35,15 @@ pub fn text(rt: &HostRuntime, row: &str) -> Result<Outcome, Fail> {
         Err(ValueTextError::Value(error)) => failed(rt.alloc(), &error),
         Err(error) => failed(rt.alloc(), &error),
     })
+}
+
+/// Whether each name comes once in the value of a row.
+pub fn own_names(rt: &HostRuntime, row: &str) -> Result<Outcome, Fail> {
+    let given = Given::read(rt.alloc(), row)?;
+    let (value, _) = decode_value(rt.alloc(), &given.table.0, given.id, &given.input)?;
+    let value = Held(value);
+    let returned = marked!(rt; has_own_names(rt.alloc(), &value.0));
+    Outcome::of(done(format!(in rt.alloc(); "{returned}")))
 }
 
 /// The encoding of a value in hexadecimal; of a value without an encoding the error.

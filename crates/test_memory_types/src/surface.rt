@@ -329,6 +329,7 @@ use scale_info::value::decode_value;
 use scale_info::value::decode_value_by;
 use scale_info::value::encode_value;
 use scale_info::value::from_json as value_from_json;
+use scale_info::value::has_own_names;
 use scale_info::value::variant_index;
 use scale_info::value_text::ValueTextError;
 use scale_info::value_text::append_value_json;
