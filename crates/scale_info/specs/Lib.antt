@@ -4,7 +4,7 @@ pub mod Types
 pub use Rattle.scale_info_types.specs.declared.ty.TypeDef.TheVariants as TypeDefs
 pub use Rattle.scale_info_numberings.specs.Systems
 pub use Rattle.scale_info_numberings.specs.Numberings
-pub use Rattle.scale_info_numberings.specs.Paths
+pub use Rattle.scale_info_numberings.specs.Paths as SystemPaths
 pub use Rattle.scale_info_numberings.specs.Tables
 pub use Rattle.scale_info_numberings.specs.Matches
 pub use Rattle.scale_info_numberings.specs.Unfoldings
