@@ -1,7 +1,7 @@
 //! A caller that copies a value as bytes, and only if it is one.
 ghost use Rattle.std.specs.Prelude.{◌≡◌, ◌++◌, OnOk};
 
-use anyhow::ensure;
+use anyhow::bail;
 use scale_info::PortableRegistry;
 use scale_info::laws::written_as_read;
 use scale_info::value::{decode_value, encode_value};
@@ -20,7 +20,9 @@ pub fn append_value(
 {
     written_as_read();
     let (value, rest) = decode_value(alloc, table, id, input)?;
-    ensure!(rest.is_empty(), "{} bytes after the value", rest.len());
+    if !rest.is_empty() {
+        bail!("{} bytes after the value", rest.len());
+    }
     encode_value(table, id, &value, out)?;
     Ok(())
 }
