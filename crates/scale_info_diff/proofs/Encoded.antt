@@ -16,7 +16,7 @@ use Rattle.scale_info_grammar.specs.TyLaws.{portable_type_law}
 use Rattle.scale_info_numberings.proofs.Places.{at_seam, contains_at}
 use Rattle.scale_info_numberings.proofs.FirstOutside.{outside_reached}
 use Rattle.scale_info_numberings.specs.Systems.{Entry, IsFirstOutside, IsReached, next, root}
-use Rattle.scale_info_prune.specs.SameTypes.{IsRenumberingError}
+use Rattle.scale_info_prune.specs.SameTypes.{IsRenumberingError, IsSameTypesError}
 use Rattle.scale_info_prune.specs.TableIndexes.{HasTrailing}
 use Rattle.scale_info_prune.specs.declared.prune.PruneError.{PruneError}
 use Rattle.scale_info_prune.specs.declared.prune.PruneError.TheVariants.{Decode, Encode, Memory}
@@ -171,7 +171,7 @@ pub compare_error :
     (types others : List PortableType) (paths : List Text) (old new ids other_ids : List ℕ)
     → EncodesTypes types old → EncodesTypes others new
     → AreCommonIds types others paths ids other_ids
-    → (e : PruneError) → IsRenumberingError old ids e ⊎ IsRenumberingError new other_ids e
+    → (e : PruneError) → IsSameTypesError old ids new other_ids e
     → IsCompareError types others e
 compare_error types others paths old new ids other_ids x y common e h =
     let own =
@@ -184,7 +184,7 @@ compare_error types others paths old new ids other_ids x y common e h =
     either_error types others e
     (elim h [
       | inl a ↦ inl (one_error types old ids x own e a)
-      | inr b ↦ inr (one_error others new other_ids y theirs e b)
+      | inr b ↦ inr (one_error others new other_ids y theirs e b.1)
     ])
 
 -- where no prefix is a table, none is types
