@@ -45,8 +45,8 @@ values _ = 0
 abbrev pub values_in : List Event → ℕ
 values_in events = sum_by values events
 
--- shown all these events, a visitor would be shown more values than the limit: it was shown the
--- first of them, which are not more, and with the next event they are
+-- All these events are of more values than the limit. The visitor was shown the first of them, which
+-- are not, and with the next event they are.
 pub record HasPassed {V : Type 0} (Visited : List Event → V → V → Type 0) (all : List Event)
     (limit : ℕ) (old new : V) : Type 0 where
   pub shown : List Event

@@ -48,13 +48,14 @@ pub(crate) fn shown<E>(answer: Result<(), E>) -> Result<(), VisitError<E>>
 /// What is shown the events of a value, one after another.
 ///
 /// Any type may implement it. An implementor states what events do to it, `visited`, and what it is
-/// to stop, `stopped`; it owes the contracts of the functions and the proofs of the laws. Texts and
-/// names are lent for the time of a call.
+/// to stop, `stopped`; it owes the contracts of the functions and the proofs of the laws. Texts, and
+/// the fields and variants of the table, are lent for the time of a call.
 ///
-/// What holds of the visitor after an error follows from the two: some events were shown, all of
-/// them taken or all but the last. So a visitor that appends to an output says in both that the old
-/// output is a prefix of the new one, and then every visit keeps what was there. One that never
-/// stops says `⊥` in `stopped`, and then every error is of the bytes.
+/// What holds of the visitor after an error follows from the two. At `Failed` it took all events of
+/// what was read. At `Stopped` it took the first of them, but for the last that it was shown. So a
+/// visitor that appends to an output says in both that the old output is a prefix of the new one,
+/// and then every visit keeps what was there. One that never stops says `⊥` in `stopped`, and then
+/// every error is of the bytes.
 pub trait ValueVisitor {
     /// Why the visitor stops.
     type Error: Drop;
