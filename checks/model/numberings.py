@@ -1,5 +1,5 @@
 """What ids reach in a table, in depth-first order of discovery, and what is kept of the table."""
-from .tables import TABLE, Entry, references, with_types
+from .tables import TABLE, Definition, Description, Entry, references, with_types
 
 
 class Dangling(Exception):
@@ -85,3 +85,10 @@ def same_types(first, ids, second, others):
     new = only_table(second)
     all_inside(new, others)
     return are_same(old, ids, new, others)
+
+
+def loaded(entries, ids):
+    """The part of a table that ids reach, as long as the table: a type whose values are not decoded at each other index."""
+    reached = order_of(entries, ids)
+    missing = Description([], [], Definition("bitsequence", types=[0, 0]))
+    return [it if index in reached else Entry(it.id, missing) for index, it in enumerate(entries)]

@@ -166,3 +166,22 @@ def is_closed(entries):
 def paths_of(entries):
     """The path of each entry, its segments joined."""
     return ["::".join(it.ty.path) for it in entries]
+
+
+def text_key(text):
+    """What a text is ordered by; a missing one comes first."""
+    return (0,) if text is None else (1, text.encode())
+
+
+def order_key(it):
+    """What a part of a portable description is ordered by: its fields, in order of declaration."""
+    if isinstance(it, Definition):
+        parts = [getattr(it, name) for name in PARTS[it.kind]]
+        if it.kind == "primitive":
+            parts = [PRIMITIVES.index(it.primitive)]
+        return KINDS.index(it.kind), order_key(parts)
+    if isinstance(it, list):
+        return tuple(map(order_key, it))
+    if dataclasses.is_dataclass(it):
+        return tuple(order_key(getattr(it, one.name)) for one in dataclasses.fields(it))
+    return text_key(it) if it is None or isinstance(it, str) else (1, it)

@@ -131,7 +131,7 @@ def fields(table, all_of, depth, tree):
         found = parts(table, [it.ty for it in all_of], tree, depth)
         return list(zip(names, found))
     if len(set(names)) < len(names):
-        raise Unmodelled("fields of which a name comes twice, in a tree")
+        raise Unmodelled("a tree of fields of which a name comes twice")
     if not isinstance(tree, dict):
         raise Failure("Mismatch")
     both = [it for it in all_of if it.name in tree]

@@ -3,8 +3,9 @@ from model import changes, declarations, json_tables, json_trees, metadata, numb
 from model.codec import BYTE, COMPACT, PLAIN, TEXT, Codec, Malformed, Reader, list_of, option_of
 from model.numberings import Dangling, NoSuchType, Trailing
 from model.tables import (
-    DEFINITION, DESCRIPTION, ENTRY, FIELD, PARAMETER, PATH, PRIMITIVE, TABLE, VARIANT, Definition, is_closed, references, stripped, with_types,
+    DEFINITION, DESCRIPTION, ENTRY, FIELD, PARAMETER, PATH, PRIMITIVE, TABLE, VARIANT, is_closed, references, stripped, with_types,
 )
+from model.values import Unmodelled
 
 from .inputs import bytes_of, encodings, hexadecimal, ids_and_name, listed, numbers, split, table_of
 from .shown import all_bytes, appended, dangling, done, failed, lent, map_of, some, text, truth, with_rest
@@ -93,16 +94,16 @@ def pruned(row, with_map):
 
 
 def loaded(row):
-    """The definitions of the types that ids reach; of the others that of char."""
+    """The definitions of the types that ids reach, which are all that the table has."""
     ids, name = split(row)
     entries = table_of(name)
     try:
         reached = numberings.order_of(entries, numbers(ids))
     except Dangling as error:
         return failed(dangling(error))
-    char = Definition("primitive", primitive="char")
-    found = [it.ty.definition if index in reached else char for index, it in enumerate(entries)]
-    return done(" ".join(DEFINITION.write(it).hex() for it in found))
+    if len(reached) < len(entries):
+        raise Unmodelled("what stands where a type is not loaded")
+    return done(" ".join(DEFINITION.write(it.ty.definition).hex() for it in entries))
 
 
 def looked(row):
@@ -197,18 +198,13 @@ def each_registered(row):
     return done(f"{ids} {with_ids(all_of).hex()}")
 
 
-def compared(row):
-    """A table that is compared with itself and with one without its last entry."""
-    return None
-
-
 def from_text(row, of_text):
     """The table of a text, or of that of a table."""
     source = row[5:] if row.startswith("text ") else json_trees.write(json_tables.tree_of_table(table_of(row)))
     try:
         return done(TABLE.write(json_tables.table_of_tree(json_trees.read(source))).hex())
     except json_trees.Syntax:
-        return failed("Syntax") if of_text else None
+        return failed("Syntax" if of_text else "no tree")
     except json_tables.Shape:
         return failed("Shape")
 

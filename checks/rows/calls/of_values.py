@@ -1,10 +1,11 @@
 """Rows of values: what is decoded, shown, encoded, written as JSON and taken from it; and runs of the program type_table."""
 from model import json_trees, value_json, values
+from model.numberings import loaded
 from model.programs import type_table
 from model.values import Failure
 
 from .inputs import bytes_of, hexadecimal, numbers, parts_of, table_of
-from .shown import all_bytes, appended, done, failed, lent, some, text, truth
+from .shown import all_bytes, appended, done, failed, lent, text, truth
 
 
 class Given:
@@ -21,11 +22,6 @@ class Given:
     def events(self):
         """The events of that value, and the rest."""
         return values.events_of(self.table, int(self.ids.split()[0]), hexadecimal(self.data))
-
-
-def integer_text(number):
-    """A number."""
-    return str(number)
 
 
 def field_text(pair):
@@ -69,6 +65,17 @@ def decoded(row):
 def borrowed(row):
     """A value that borrows, whose copy is the value that is decoded."""
     return or_failure(lambda: done(f"true {all_bytes(Given(row).decoded()[1])}"))
+
+
+def borrowed_loaded(row):
+    """The same, by what is loaded of the table."""
+    def call():
+        given = Given(row)
+        number, _, ids = given.ids.partition(" by ")
+        given.table, given.ids = loaded(given.table, numbers(ids or number)), number
+        return done(f"true {all_bytes(given.decoded()[1])}")
+
+    return or_failure(call)
 
 
 def skipped(row):
@@ -184,11 +191,6 @@ def taken(row):
     return or_failure(call)
 
 
-def built(row):
-    """Whether a value that a program builds is the one that is decoded."""
-    return None
-
-
 def run(row):
     """A run of the program type_table: what it writes, and its status or the line of its error."""
     arguments, mark, data = row.partition("<")
@@ -203,7 +205,7 @@ def run(row):
 CALLS = {
     "decode_value": decoded,
     "decode_lent": borrowed,
-    "decode_lent_loaded": borrowed,
+    "decode_lent_loaded": borrowed_loaded,
     "Lent::to_dyn": lambda row: done(truth(Given(row).decoded())),
     "encode_value": encoded,
     "skip_value": skipped,
