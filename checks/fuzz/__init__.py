@@ -1,0 +1,1 @@
+"""Inputs made by chance for the programs, and cases of them made small."""
