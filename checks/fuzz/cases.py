@@ -40,7 +40,9 @@ class Chance(Maker):
         """Bytes as a text of digits."""
         digits = data.hex()
         digits = digits.upper() if self.chance.random() < 0.2 else digits
-        return (self.chance.choice(["", "0x", '"0x', " 0x", "0X"]) + digits + self.chance.choice(["", "\n", '"\n', " ", "0", "\t"])).encode()
+        before = self.chance.choice(["", "0x", '"0x', " 0x", "\n"])
+        after = self.chance.choice(["", "\n", '"\n', " "])
+        return self.seldom(lambda: f"0X{digits}0", before + digits + after, 0.05).encode()
 
     def input(self, data):
         """Bytes of a table as one of the inputs that have it."""

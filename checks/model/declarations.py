@@ -3,7 +3,7 @@ from .numberings import order_of
 from .tables import references
 from .values import Unmodelled
 
-NAME_DEPTH = 8
+NAME_DEPTH, LONGEST_NAME = 8, 20000
 GENERIC = {"sequence": "Vec", "compact": "Compact", "bitsequence": "BitSequence", "map": "BTreeMap"}
 
 
@@ -57,7 +57,10 @@ def name_of(table, number, within=NAME_DEPTH):
     if number >= len(table):
         return f"#{number}"
     ty = table[number].ty
-    return pathed_name(table, ty, within - 1) if ty.path else written_out(table, ty.definition, within - 1)
+    name = pathed_name(table, ty, within - 1) if ty.path else written_out(table, ty.definition, within - 1)
+    if len(name) > LONGEST_NAME:
+        raise Unmodelled("a name that is too long for a model")
+    return name
 
 
 def title(table, ty):

@@ -53,6 +53,8 @@ def table_of(data):
 def bytes_of_text(data):
     """The bytes that a text writes in hexadecimal digits; None where it is no such text."""
     found = re.fullmatch(rb'[ \n"]*(?:0x)?((?:[0-9a-fA-F]{2})*)[ \n"]*', data)
+    if not data:
+        return None
     if found and not found[1]:
         raise Unmodelled("whether a text of no digits is one")
     return bytes.fromhex(found[1].decode()) if found else None
@@ -60,7 +62,5 @@ def bytes_of_text(data):
 
 def bytes_of_input(data):
     """The bytes that an input has, and whether it has them as a text."""
-    if not data:
-        return data, False
     found = bytes_of_text(data)
     return (data, False) if found is None else (found, True)

@@ -87,21 +87,29 @@ def table_in(data):
     return numberings.only_table(body), body, f"input: {what}" + (", in hexadecimal digits" if is_text else "") + "\n"
 
 
+def type_given(table, word):
+    """The ids of the types that are given by an id or a path, and why there are none."""
+    number = number_of(word)
+    if number is None:
+        ids = declarations.find_by_path(table, word)
+        return ids, None if ids else f"no such path {word}"
+    return [number], None if number < len(table) else f"no such type {number}"
+
+
+def only_error(faults):
+    """Refuses by an error, if there is one; where there are several, the pages do not say which."""
+    faults = list(dict.fromkeys(it for it in faults if it))
+    if len(faults) > 1:
+        raise Unmodelled("which of several errors is reported")
+    for it in faults:
+        raise Refused(it)
+
+
 def types_given(table, words):
     """The ids of the types that are given, each by its id or its path."""
-    found = []
-    for it in words:
-        number = number_of(it)
-        if number is None:
-            ids = declarations.find_by_path(table, it)
-            if not ids:
-                raise Refused(f"no such path {it}")
-            found += ids
-        elif number >= len(table):
-            raise Refused(f"no such type {number}")
-        else:
-            found.append(number)
-    return found
+    found = [type_given(table, it) for it in words]
+    only_error(fault for _, fault in found)
+    return [it for ids, _ in found for it in ids]
 
 
 def one_type(table, word):
@@ -113,10 +121,8 @@ def one_type(table, word):
 
 
 def pathed(table, number):
-    """An id and the path of its type."""
-    if not table[number].ty.path:
-        raise Unmodelled("the line of a type without a path")
-    return f"{number} {paths_of(table)[number]}"
+    """An id and the path of its type; of a type without a path the id alone."""
+    return f"{number} {paths_of(table)[number]}" if table[number].ty.path else str(number)
 
 
 def listing(table, words):
@@ -187,15 +193,26 @@ def change_line(mark, path, old, new):
     return f"~ {path}" + (f": {words}" if words else "") + "\n"
 
 
+def both_tables(old, new):
+    """The tables that two inputs have."""
+    tables, faults = [], []
+    for data in (old, new):
+        try:
+            tables.append(table_in(data)[0])
+        except Refused as error:
+            faults.append(str(error))
+    only_error(faults)
+    return tables
+
+
 def compared(words, old, new):
     """What diff writes of two inputs."""
     with_docs = words[:1] == ["--docs"]
     paths = words[3 if with_docs else 2:]
-    tables = [table_in(it)[0] for it in (old, new)]
+    tables = both_tables(old, new)
     old, new = tables if with_docs else map(stripped, tables)
-    for path in paths:
-        if path not in changes.ids_by_path(old) and path not in changes.ids_by_path(new):
-            raise Refused(f"no such path {path}")
+    known = {**changes.ids_by_path(old), **changes.ids_by_path(new)}
+    only_error(None if path in known else f"no such path {path}" for path in paths)
     found = [it for it in changes.changes_of(old, new) if not paths or it[1] in paths]
     return Written(1 if found else 0, "".join(change_line(*it, old, new) for it in found).encode())
 

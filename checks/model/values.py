@@ -5,7 +5,7 @@ a name, which may be None, and a value. An event is a tuple too.
 """
 from .codec import Malformed, Reader, read_compact, read_text, write_compact, write_text
 
-DEEPEST, MOST_EVENTS = 128, 300000
+DEEPEST, MOST_EVENTS = 128, 20000
 UNSIGNED = {"u8": 1, "u16": 2, "u32": 4, "u64": 8, "u128": 16}
 SIGNED = {"i8": 1, "i16": 2, "i32": 4, "i64": 8, "i128": 16}
 SCALARS = {"begin list", "begin record", "begin variant", "truth", "unsigned", "signed", "text"}
