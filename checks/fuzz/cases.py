@@ -2,7 +2,7 @@
 import json
 from dataclasses import dataclass, field
 
-from model import json_trees, value_json, values
+from model import json_trees, value_bytes, value_json, values
 from model.codec import write_compact
 from model.programs import Written, type_reader, type_table
 from model.tables import TABLE
@@ -10,7 +10,9 @@ from model.values import Failure, Unmodelled
 
 from .tables import TEXTS, Maker, decoded
 
-TREES = [None, True, False, 0, 1, -1, 255, 256, 65536, 1.0, 18446744073709551615, 18446744073709551616, "1", "-1", "0x01ff", "0x", "zz", [], {}]
+TREES = [
+    None, True, False, 0, 1, -1, 255, 256, 65536, 1.0, 18446744073709551615, 18446744073709551616, "1", "-1", "0x01ff", "0x", "zz", [], {},
+]
 WORDS = ["0", "1", "2", "7", "00", "4294967295", "4294967296", "-1", "+1", "", "x", "demo", "demo::Recursive", "Option", "a::b", "::", "é"]
 
 
@@ -63,8 +65,9 @@ class Chance(Maker):
     def type_words(self, table, most):
         """Words that give types of a table."""
         paths = ["::".join(it.ty.path) for it in table if it.ty.path] or ["demo"]
-        return [self.chance.choice([str(self.chance.randrange(len(table) + 1)), self.chance.choice(paths), self.seldom(lambda: self.chance.choice(WORDS), "0")])
-                for _ in range(self.chance.randrange(1, most + 1))]
+        numbers = list(map(str, range(len(table) or 1)))
+        found = [self.chance.choice(self.chance.choice([numbers, paths])) for _ in range(self.chance.randrange(1, most + 1))]
+        return [self.seldom(lambda: self.chance.choice([*WORDS, str(len(table))]), it, 0.1) for it in found]
 
     def value(self, table, number, depth=1):
         """A value of a type, by its definition, as far as one is found."""
@@ -93,8 +96,8 @@ class Chance(Maker):
     def integer(self, width):
         """An integer of so many bytes."""
         bits = 8 * width
-        number = self.chance.choice([0, 1, 63, 64, 16383, 16384, 1 << 30, (1 << 53) - 1, 1 << 53, (1 << bits) - 1, self.chance.getrandbits(bits)])
-        return number & ((1 << bits) - 1)
+        edges = [0, 1, 63, 64, 16383, 16384, 1 << 30, (1 << 53) - 1, 1 << 53, (1 << bits) - 1]
+        return self.chance.choice([*edges, self.chance.getrandbits(bits)]) & ((1 << bits) - 1)
 
     def scalar(self, name):
         """A value of a primitive."""
@@ -108,7 +111,7 @@ class Chance(Maker):
     def value_bytes(self, table, number):
         """Bytes that may be those of a value."""
         try:
-            data = values.encode(table, number, self.value(table, number))
+            data = value_bytes.encode(table, number, self.value(table, number))
         except (Failure, RecursionError):
             data = bytes(self.chance.choices(range(8), k=self.chance.randrange(12)))
         return self.changed_bytes(data) if self.chance.random() < 0.3 else data
@@ -147,8 +150,10 @@ class Chance(Maker):
         """A case of type_table."""
         data = self.table_bytes()
         table = decoded(data) or []
-        ids = [str(self.chance.randrange(len(table) + 1)) for _ in range(self.chance.randrange(4))] + self.seldom(lambda: [self.chance.choice(WORDS)], [])
-        words = self.chance.choice([["check"], ["json"], ["prune", *ids], ["prune", *ids], ["prune", "0", *ids], [self.chance.choice(WORDS), *ids]])
+        ids = self.several(lambda: str(self.chance.randrange(len(table) or 1)), 3)
+        ids += self.seldom(lambda: [self.chance.choice([*WORDS, str(len(table))])], [])
+        words = self.chance.choice([["check"], ["json"], ["prune", *ids], ["prune", *ids], ["prune", "0", *ids]])
+        words = self.seldom(lambda: [self.chance.choice(WORDS), *ids], words, 0.05)
         return Case("type_table", words, {}, self.seldom(lambda: data + b"\0", data, 0.05))
 
     def reader_case(self):

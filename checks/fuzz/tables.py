@@ -1,7 +1,6 @@
 """Tables for inputs: worked ones, made ones, and changed ones."""
 import copy
 import glob
-import os
 
 from calls.inputs import NAMED, TOP
 from model.codec import Malformed
@@ -13,7 +12,11 @@ BYTES = [0, 1, 2, 3, 4, 5, 6, 7, 8, 9, 12, 16, 20, 64, 127, 128, 252, 253, 254, 
 
 def samples():
     """The files of samples/ that hold bytes."""
-    return [open(it, "rb").read() for it in sorted(glob.glob(f"{TOP}/samples/*.scale"))]
+    found = []
+    for path in sorted(glob.glob(f"{TOP}/samples/*.scale")):
+        with open(path, "rb") as it:
+            found.append(it.read())
+    return found
 
 
 WORKED = [it for it in [*NAMED.values(), *samples()] if len(it) < 2000]

@@ -38,16 +38,14 @@ def refuse(_):
 DECODER = json.JSONDecoder(parse_int=integer, parse_float=real, parse_constant=refuse)
 
 
-def check(tree, deepest=DEEPEST):
-    """Asks that strings hold characters alone, and that nothing lies too deep."""
+def check(tree):
+    """Asks that strings hold whole characters alone."""
     if isinstance(tree, str):
         if any("\ud800" <= it <= "\udfff" for it in tree):
             raise Syntax
     elif isinstance(tree, (list, dict)):
-        if not deepest:
-            raise Syntax
         for part in tree if isinstance(tree, list) else [*tree.keys(), *tree.values()]:
-            check(part, deepest - 1)
+            check(part)
 
 
 def depth(text):

@@ -2,7 +2,7 @@
 import re
 from dataclasses import dataclass
 
-from . import changes, declarations, json_tables, json_trees, metadata, numberings, value_json, values
+from . import changes, declarations, json_tables, json_trees, metadata, numberings, value_bytes, value_json
 from .codec import Malformed
 from .numberings import Dangling, NoSuchType, Trailing
 from .tables import TABLE, paths_of, stripped
@@ -162,9 +162,11 @@ def encoding_line(table, number, text):
     except (json_trees.Syntax, UnicodeDecodeError):
         raise NoValue("no JSON") from None
     value = by_failure(value_json.from_json, table, number, tree)
-    return b"0x" + by_failure(values.encode, table, number, value).hex().encode() + b"\n"
+    return b"0x" + by_failure(value_bytes.encode, table, number, value).hex().encode() + b"\n"
 
 
+# How many arguments come after a command, or how many at least.
+EXACTLY, AT_LEAST = {"table": 1, "strip": 1, "find": 2}, {"list": 1, "prune": 2, "graph": 2}
 LINES = {"value": value_line, "encode": encoding_line}
 
 
@@ -248,8 +250,9 @@ def is_command(words):
         return len(given) == 2 and given != ["-", "-"]
     if command in LINES:
         return count == 3 or count == 2 and words[1] != "-"
-    least, most = {"table": (1, 1), "strip": (1, 1), "list": (1, None), "find": (2, 2), "prune": (2, None), "graph": (2, None)}.get(command, (1, 0))
-    return least <= count and (most is None or count <= most)
+    if command in EXACTLY:
+        return count == EXACTLY[command]
+    return command in AT_LEAST and count >= AT_LEAST[command]
 
 
 def type_reader(words, files, data):

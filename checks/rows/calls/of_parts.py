@@ -1,18 +1,18 @@
 """Rows of parts: paths, identifiers, orders, copies, built values, values of a program's types, and texts of errors."""
-from model import paths, typed, values
+from model import paths, typed, value_bytes
 from model.codec import COMPACT
-from model.standard_types import known, term
+from model.standard_types import term
 from model.tables import (
-    DEFINITION, DESCRIPTION, FIELD, PARAMETER, PATH, TABLE, VARIANT, Definition, Description, Field, Variant, order_key, with_types,
+    DEFINITION, DESCRIPTION, FIELD, PARAMETER, PATH, VARIANT, Definition, Description, Field, Variant, order_key, with_types,
 )
 from model.typed import BOOL, NoneOfType, TEXT, U16, U64
 from model.values import Failure, Unmodelled
 
-from .inputs import bracketed, hexadecimal, listed, numbers, split, table_of
-from .of_types import converted, definition_text
+from .inputs import bracketed, hexadecimal, numbers, table_of
+from .of_types import converted
 from .of_values import Given, other_id, refusal
 from .shown import appended, done, failed, some, text, truth, with_rest
-from .type_names import description_named, type_named
+from .type_names import description_named
 
 SIGNS = {-1: "Less", 0: "Equal", 1: "Greater"}
 TYPES = {
@@ -148,7 +148,7 @@ def typed_row(row):
 
 def encoded_as(ty, given, number, it):
     """The bytes of a program's value by the type with this id."""
-    return values.encode(given.table, number, typed.to_value(ty, it, given.table, number))
+    return value_bytes.encode(given.table, number, typed.to_value(ty, it, given.table, number))
 
 
 def decoded_as(row):

@@ -289,7 +289,12 @@ def drawn(row):
 def changed(row, with_docs):
     """What became of the paths of two tables."""
     old, new = map(bytes_of, row.split(";"))
-    return errors_of_prune(lambda: done("[" + ", ".join(f"{word}({text(path)})" for word, path in changes.changes(old, new, with_docs)) + "]"))
+
+    def call():
+        found = changes.changes(old, new, with_docs)
+        return done("[" + ", ".join(f"{word}({text(path)})" for word, path in found) + "]")
+
+    return errors_of_prune(call)
 
 
 def differing(row, find, shown):

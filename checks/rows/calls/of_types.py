@@ -4,12 +4,11 @@ from model.codec import COMPACT
 from model.standard_types import Conflict, Registry, TooLong, Undescribed, add, known, term
 from model.tables import (
     DEFINITION, DESCRIPTION, FIELD, PARAMETER, PATH, TABLE, VARIANT, Definition, Description, Entry, Field, Parameter, Variant, is_closed,
-    with_types,
 )
 
 from . import type_names
-from .inputs import bracketed, listed, numbers, split
-from .shown import appended, done, failed, lent, map_of, text, truth
+from .inputs import listed, numbers, split
+from .shown import done, failed, lent, map_of, text, truth
 from .type_names import CATALOGUE, description_named, own_term, registry_of, type_named, types_named
 
 DEEPEST = 8
@@ -229,9 +228,9 @@ def id_of(it):
     return it.definition.types[0]
 
 
-def list_of_fields(_, made):
-    """The encoding of fields."""
-    return listed(list(map(FIELD.write, made.definition.fields)))
+def fields_of(description):
+    """The encoding of the fields of a composite."""
+    return listed(list(map(FIELD.write, description.definition.fields)))
 
 
 def left(value, registry, catalogue, shown, codec, part):
@@ -338,7 +337,7 @@ def fields_left(row):
     second = type_names.DOCUMENTED_FIELD if row == "two fields" else Field(None, own_term("Missing"))
     registry = registry_of("u8")
     value = hull(fields=[type_names.DOCUMENTED_FIELD, second])
-    return with_registry(registry, marked, lambda: list_of_fields(None, registry.portable(value, CATALOGUE)).hex())
+    return with_registry(registry, marked, lambda: fields_of(registry.portable(value, CATALOGUE)).hex())
 
 
 def registry_looked_at(row):

@@ -1,5 +1,5 @@
 """Rows of values: what is decoded, shown, encoded, written as JSON and taken from it; and runs of the program type_table."""
-from model import json_trees, value_json, values
+from model import json_trees, value_bytes, value_json, values
 from model.numberings import loaded
 from model.programs import type_table
 from model.values import Failure
@@ -151,7 +151,7 @@ def encoded(row):
     given = Given(row)
     value, _ = given.decoded()
     try:
-        return appended(values.encode(given.table, other_id(given.ids), value), done("()"))
+        return appended(value_bytes.encode(given.table, other_id(given.ids), value), done("()"))
     except Failure as failure:
         return appended(b"", failed(refusal(failure)))
 
@@ -184,7 +184,7 @@ def taken(row):
     def call():
         value = value_json.from_json(entries, int(ids), json_trees.read(data))
         try:
-            return done(values.encode(entries, int(ids), value).hex())
+            return done(value_bytes.encode(entries, int(ids), value).hex())
         except Failure as failure:
             return done(refusal(failure))
 

@@ -1,13 +1,14 @@
 """The types that rows name: their own terms, their descriptions, and the catalogue of test_memory_common."""
 import re
 
-from model.standard_types import Conflict, Registry, add, described, field, known, term
-from model.tables import Definition, Description, Field, Parameter, Variant, references, with_types
+from model.standard_types import Registry, add, described, field, known, term
+from model.tables import Definition, Description, Field, Parameter, Variant
 
 from .inputs import TOP
 
 MEMBERS = (
-    "u8 u16 u32 u64 u128 i8 i16 i32 i64 i128 bool char NonZeroU8 NonZeroU16 NonZeroU32 NonZeroU64 NonZeroU128 NonZeroI8 NonZeroI16 NonZeroI32"
+    "u8 u16 u32 u64 u128 i8 i16 i32 i64 i128 bool char"
+    " NonZeroU8 NonZeroU16 NonZeroU32 NonZeroU64 NonZeroU128 NonZeroI8 NonZeroI16 NonZeroI32"
 ).split()
 MANY = (
     "(tuple of 20, Vec<u32>, [u8; 32], [u32; 16], (u32, bool), (u32, [u8; 32], bool), Option<(u32, bool)>, Compact<u32>, Range<u8>,"
