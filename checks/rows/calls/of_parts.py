@@ -195,18 +195,21 @@ def definition_made(kind, row):
     return done(DEFINITION.write(made).hex())
 
 
-# Errors that print the cause that they hold, or words, as the rows make them.
-WITH_CAUSE = {
-    "DecodeAsError", "EncodeAsError", "ValueTextError", "VisitError", "WithinError", "MetadataError", "EncodeValueError::Mismatch",
+# The causes of errors that print theirs, as the rows make them; and errors that print words or a path.
+CAUSES = {
+    "ValueTextError::Value": "Malformed", "VisitError::Failed": "TooDeep", "VisitError::Stopped": "Shape", "WithinError::Failed": "TooDeep",
+    "WithinError::Stopped": "Shape", "DecodeAsError::Decode": "Malformed", "DecodeAsError::Convert": "Mismatch",
+    "EncodeAsError::Convert": "Mismatch",
 }
+IN_WORDS = {"MetadataError", "EncodeValueError::Mismatch", "EncodeAsError::Encode"}
 
 
 def error_text(row):
-    """The text of an error: the name of its variant."""
+    """The text of an error: that of its cause, or the name of its variant."""
     kind, variant = row.split("::")
-    if {kind, row} & WITH_CAUSE:
-        raise Unmodelled("the text of an error that holds a cause or a path, or that has words")
-    return done(variant)
+    if {kind, row} & IN_WORDS:
+        raise Unmodelled("the text of an error that has words or a path")
+    return done(CAUSES.get(row, variant))
 
 
 CALLS = {
