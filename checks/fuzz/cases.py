@@ -112,8 +112,9 @@ class Chance(Maker):
         """Bytes that may be those of a value."""
         try:
             data = value_bytes.encode(table, number, self.value(table, number))
-        except (Failure, RecursionError):
-            data = bytes(self.chance.choices(range(8), k=self.chance.randrange(12)))
+        except Failure:
+            some_lists = b"\4" * self.chance.randrange(125, 131) + b"\1"
+            data = self.seldom(lambda: some_lists, bytes(self.chance.choices(range(8), k=self.chance.randrange(12))), 0.5)
         return self.changed_bytes(data) if self.chance.random() < 0.3 else data
 
     def changed_tree(self, tree):

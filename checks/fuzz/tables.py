@@ -2,11 +2,11 @@
 import copy
 import glob
 
-from calls.inputs import NAMED, TOP
+from calls.inputs import NAMED, TOP, chain
 from model.codec import Malformed
 from model.tables import KINDS, PRIMITIVES, TABLE, Definition, Description, Entry, Field, Parameter, Variant
 
-TEXTS = ["a", "b", "c", "x", "Foo", "Bar", "None", "Some", "T", "demo", "r#type", "é", "🦀", '"q\\', "", "0", "a b"]
+TEXTS = ["long" * 17, "a", "b", "c", "x", "Foo", "Bar", "None", "Some", "T", "demo", "r#type", "é", "🦀", '"q\\', "", "0", "a b"]
 BYTES = [0, 1, 2, 3, 4, 5, 6, 7, 8, 9, 12, 16, 20, 64, 127, 128, 252, 253, 254, 255]
 
 
@@ -19,7 +19,7 @@ def samples():
     return found
 
 
-WORKED = [it for it in [*NAMED.values(), *samples()] if len(it) < 2000]
+WORKED = [*NAMED.values(), *samples(), *map(chain, (127, 128, 129, 130))]
 
 
 def decoded(data):
@@ -92,7 +92,7 @@ class Maker:
 
     def table(self):
         """A table."""
-        self.count = self.chance.randrange(1, 9)
+        self.count = self.seldom(lambda: 70, self.chance.randrange(1, 9), 0.03)
         return [Entry(self.seldom(self.id, index, 0.03), self.description()) for index in range(self.count)]
 
     def changed(self, table):
