@@ -5,10 +5,9 @@ from model.numberings import Dangling, NoSuchType, Trailing
 from model.tables import (
     DEFINITION, DESCRIPTION, ENTRY, FIELD, PARAMETER, PATH, PRIMITIVE, TABLE, VARIANT, is_closed, references, stripped, with_types,
 )
-from model.values import Unmodelled
 
 from .inputs import bytes_of, encodings, hexadecimal, ids_and_name, listed, numbers, split, table_of
-from .shown import all_bytes, appended, dangling, done, failed, lent, map_of, some, text, truth, with_rest
+from .shown import Matching, all_bytes, appended, dangling, done, failed, lent, map_of, some, text, truth, with_rest
 
 
 def errors_of_prune(call):
@@ -93,17 +92,20 @@ def pruned(row, with_map):
     return answer if len(answer) > 1 else appended(b"", answer)
 
 
+# The definitions of types whose values are not decoded: char, u256, i256 and sequences of bits.
+NOT_DECODED = "(0501|0508|050e|07[0-9a-f]+)"
+
+
 def loaded(row):
-    """The definitions of the types that ids reach, which are all that the table has."""
+    """The definitions of the types that ids reach; at each other index one of a type whose values are not decoded."""
     ids, name = split(row)
     entries = table_of(name)
     try:
         reached = numberings.order_of(entries, numbers(ids))
     except Dangling as error:
         return failed(dangling(error))
-    if len(reached) < len(entries):
-        raise Unmodelled("what stands where a type is not loaded")
-    return done(" ".join(DEFINITION.write(it.ty.definition).hex() for it in entries))
+    found = [DEFINITION.write(it.ty.definition).hex() if at in reached else NOT_DECODED for at, it in enumerate(entries)]
+    return done(Matching(" ".join(found)))
 
 
 def looked(row):

@@ -1,9 +1,23 @@
 """How outcomes are printed."""
+import re
+
+
+class Matching:
+    """A text of which the pages leave a part open: it is equal to each text that a pattern matches."""
+
+    def __init__(self, pattern):
+        self.pattern = pattern
+
+    def __eq__(self, other):
+        return re.fullmatch(self.pattern, other) is not None
+
+    def __repr__(self):
+        return f"what matches {self.pattern}"
 
 
 def done(text):
     """The outcome of a value that is shown as this text."""
-    return [("done", str(text))]
+    return [("done", text if isinstance(text, Matching) else str(text))]
 
 
 def failed(text):
