@@ -63,8 +63,8 @@ class Chance(Maker):
         return self.hexadecimal(data) if self.chance.random() < 0.5 else data
 
     def type_words(self, table, most):
-        """Words that give types of a table."""
-        paths = ["::".join(it.ty.path) for it in table if it.ty.path] or ["demo"]
+        """Words that give types of a table; no argument of a program has a zero byte."""
+        paths = [it for it in ("::".join(it.ty.path) for it in table if it.ty.path) if "\0" not in it] or ["demo"]
         numbers = list(map(str, range(len(table) or 1)))
         found = [self.chance.choice(self.chance.choice([numbers, paths])) for _ in range(self.chance.randrange(1, most + 1))]
         return [self.seldom(lambda: self.chance.choice([*WORDS, str(len(table))]), it, 0.1) for it in found]

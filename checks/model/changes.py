@@ -1,4 +1,7 @@
 """What changed between two tables, and the first change in words."""
+import re
+from itertools import zip_longest
+
 from .declarations import lines_of
 from .numberings import Dangling, are_same, kept, only_table, order_of, pruned
 from .tables import ENTRY, paths_of, stripped
@@ -51,48 +54,50 @@ def first_difference(old, ids, new, others):
     for at, (left, right) in enumerate(zip(first, second)):
         if ENTRY.write(left) != ENTRY.write(right):
             return tuple(next(key for key, value in it.items() if value == at) for it in (numbers, new_numbers))
-    if len(first) != len(second):
-        raise Unmodelled("the first difference where one table has more entries")
     return None
 
 
+def written(line):
+    """A line with its indentation."""
+    level, text = line
+    return " " * 4 * level + text
+
+
+def without_indentation(line):
+    """A line without the four blanks of each level before it."""
+    return re.sub("^(    )+", "", line)
+
+
 def first_line(left, right):
-    """The first line of one declaration that is another one in the other, and that other line."""
-    for (_, line), (_, other) in zip(left, right):
-        if line != other:
-            return line, other
-    raise Unmodelled("the first line that differs, where one declaration has more lines")
+    """The first line of one declaration that is another one in the other, and that other line; past the last come empty ones."""
+    both = zip_longest(map(written, left), map(written, right), fillvalue="")
+    return next(((line, other) for line, other in both if line != other), None)
 
 
-def name_before(first, second, at, roots):
-    """What stands before the words of a change: the path of the type, if it is another one than the roots."""
-    if at == 0:
-        return ""
-    left, right = first[at].ty.path, second[at].ty.path
-    if at < roots or not left or left != right:
-        raise Unmodelled("which type a change is said to be of")
-    return "::".join(left) + ": "
+def path_before(table, at):
+    """What stands before the words of a change: the path of the type at a place, if it has one and is not the first."""
+    path = table[at].ty.path if 0 < at < len(table) else []
+    return "::".join(path) + ": " if path else ""
 
 
-def declared_change(first, second, roots):
+def declared_change(first, second):
     """The first line by which a type of pruned tables is declared otherwise, in words; None, where there is none."""
-    for at in range(min(len(first), len(second))):
-        left, right = lines_of(first, at), lines_of(second, at)
-        if left != right:
-            if any("\n" in text for _, text in left + right):
-                raise Unmodelled("the lines of a declaration with a line feed in a name")
-            line, other = first_line(left, right)
-            return f"{name_before(first, second, at, roots)}{line} -> {other}"
+    for at in range(max(len(first), len(second))):
+        left, right = lines_of(first, at) or [], lines_of(second, at) or []
+        if left != right and any("\n" in text for _, text in left + right):
+            raise Unmodelled("the lines of a declaration with a line feed in a name")
+        lines = first_line(left, right)
+        if lines:
+            return path_before(first, at) + " -> ".join(map(without_indentation, lines))
     return None
 
 
 def first_declared_change(old, ids, new, others):
     """The same of tables as bytes, each pruned to given ids."""
     (first, _), (second, _) = pruned(old, ids), pruned(new, others)
-    return declared_change(first, second, max(len(set(ids)), len(set(others))))
+    return declared_change(first, second)
 
 
 def declared_change_of(old, ids, new, others):
     """The same of tables that are read, of which all ids are indices."""
-    first, second = kept(old, order_of(old, ids))[0], kept(new, order_of(new, others))[0]
-    return declared_change(first, second, max(len(ids), len(others)))
+    return declared_change(kept(old, order_of(old, ids))[0], kept(new, order_of(new, others))[0])

@@ -65,7 +65,7 @@ def name_of(table, number, within=NAME_DEPTH):
 
 def title(table, ty):
     """A blank and the name of a type that has a path."""
-    return " " + pathed_name(table, ty, NAME_DEPTH - 1) if ty.path else ""
+    return " " + pathed_name(table, ty, NAME_DEPTH) if ty.path else ""
 
 
 def docs_lines(docs, level):
@@ -98,7 +98,7 @@ def lines_of(table, number):
         for it in definition.variants:
             lines += docs_lines(it.docs, 1) + fields_lines(table, it.name, it.fields, 1, f" = {it.index},")
         return lines + [(0, "}")]
-    what = written_out(table, definition, NAME_DEPTH - 1)
+    what = written_out(table, definition, NAME_DEPTH)
     return docs + [(0, f"type{title(table, ty)} = {what};" if ty.path else what)]
 
 

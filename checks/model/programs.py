@@ -146,10 +146,10 @@ def by_failure(call, *given):
 
 def value_line(table, number, digits):
     """The text of the value that digits write."""
-    data = metadata.bytes_of_text(digits)
-    if data is None:
+    digits = digits.removeprefix(b"0x")
+    if len(digits) % 2 or not re.fullmatch(rb"[0-9a-fA-F]*", digits):
         raise NoValue("no hexadecimal digits")
-    text, rest = by_failure(value_json.text, table, number, data)
+    text, rest = by_failure(value_json.text, table, number, bytes.fromhex(digits.decode()))
     if rest:
         raise NoValue("trailing bytes")
     return text.encode() + b"\n"
