@@ -15,7 +15,7 @@ use Rattle.scale_info_prune.specs.declared.prune.PruneError.TheVariants.{Trailin
 use Rattle.scale_info_types.specs.declared.ty.PortableType.{PortableType}
 use Rattle.scale_info_walk.specs.TypeSystems.{entry_of}
 use Rattle.scale_info_diff.proofs.Encoded.{has_prefix, no_trailing, one_table}
-use Rattle.scale_info_diff.specs.Differences.{IsPrunedTo, TellsOfPruned}
+use Rattle.scale_info_diff.specs.Differences.{CanBePruned, IsPrunedTo, TellsOfPruned}
 
 -- what pruning appends to no bytes encodes the entries that it keeps
 pub kept_encoding :
@@ -24,6 +24,23 @@ pub kept_encoding :
 kept_encoding input given order old new none x =
     subst (EncodesTypes x.kept)
     (sym (x.appends.parts ∙ ap (λ xs. xs ++ x.appends.encoding) none)) x.appends.encodes
+
+-- what pruning keeps of an input, which can be pruned so
+pub can_be_pruned :
+    {input given : List ℕ} (kept : List PortableType)
+    → (order : List ℕ) × IsPrunedTo input given order kept → CanBePruned input given
+can_be_pruned kept x = record { order = x.0; kept = kept; pruned = x.1 }
+
+-- an input that is no table is not pruned
+pub table_prune_error :
+    (input given : List ℕ) (e : PruneError) → IsTableError input e → IsPruneError input given e
+table_prune_error input given (Decode decode.Malformed) h = h
+table_prune_error input given (Decode decode.Memory) h = h
+table_prune_error input given Trailing h = h
+table_prune_error input given (NoSuchType id) h = absurd h
+table_prune_error input given (Retain e) h = absurd h
+table_prune_error input given (Encode e) h = h
+table_prune_error input given Memory h = h
 
 -- bytes that encode types are refused for memory alone
 pub only_memory :

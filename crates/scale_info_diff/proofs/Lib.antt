@@ -4,6 +4,7 @@ pub mod Compared
 pub mod Differences
 pub mod Encoded
 pub mod EntriesOf
+pub mod Indented
 pub mod Inputs
 pub mod Listed
 pub mod Marked

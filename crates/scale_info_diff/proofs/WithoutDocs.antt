@@ -1,6 +1,7 @@
 -- Docs have no references, and tables without docs.
 use Rattle.std.proofs.Common.{◌≡◌, ◌∙◌, ◌++◌, ◌∷◌, ◌≤◌, ℕ, List, [], Contains, map, slice_get}
-use Rattle.std.proofs.Common.{ap, sym, subst, refl}
+use Rattle.std.proofs.Common.{ap, inl, inr, sym, subst, refl}
+use Rattle.std.proofs.Math.Logic.{⊎_map}
 use Rattle.std.proofs.lemmas.List.{length-map}
 use Rattle.std.proofs.lemmas.Option.{slice_get-map}
 use Rattle.std.specs.List.{flat_map}
@@ -8,6 +9,7 @@ use Rattle.scale_info_bytes.specs.declared.error.DecodeError.TheVariants as deco
 use Rattle.scale_info_docs.specs.WithoutDocs.{definition_without_docs, description_without_docs}
 use Rattle.scale_info_docs.specs.WithoutDocs.{entry_without_docs, field_without_docs}
 use Rattle.scale_info_docs.specs.WithoutDocs.{variant_without_docs}
+use Rattle.scale_info_prune.specs.Prunes.{IsTableError}
 use Rattle.scale_info_prune.specs.declared.prune.PruneError.{PruneError}
 use Rattle.scale_info_prune.specs.declared.prune.PruneError.TheVariants.{Decode, Encode, Memory}
 use Rattle.scale_info_prune.specs.declared.prune.PruneError.TheVariants.{NoSuchType, Retain}
@@ -22,7 +24,8 @@ use Rattle.scale_info_walk.specs.declared.walk.RetainError.TheVariants as retain
 use Rattle.scale_info_diff.proofs.Encoded.{has_prefix, mapped_some, no_trailing, one_table}
 use Rattle.scale_info_diff.specs.NamedTables.{IsWithoutDocs}
 use Rattle.scale_info_diff.specs.TableChanges.{AreChanges, AreTableChanges, AreTableChangesWithDocs}
-use Rattle.scale_info_diff.specs.TableChanges.{IsDangling, IsInputError}
+use Rattle.scale_info_diff.specs.TableChanges.{IsChangesError, IsDangling, IsOneTable}
+use Rattle.scale_info_diff.specs.TableChanges.{IsReferenceError}
 use Rattle.scale_info_diff.specs.declared.change.Change.{Change}
 
 -- ---- references
@@ -74,17 +77,29 @@ dangling_with_docs types id h =
 
 -- ---- tables that were written without docs
 
--- why one is refused
-pub plain_error :
+-- such a table is refused for memory alone
+plain_table_error :
     (input bytes : List ℕ)
-    → IsWithoutDocs input bytes → (e : PruneError) → IsInputError bytes e → IsInputError input e
-plain_error input bytes x (Decode decode.Malformed) h =
+    → IsWithoutDocs input bytes → (e : PruneError) → IsTableError bytes e → IsTableError input e
+plain_table_error input bytes x (Decode decode.Malformed) h =
     absurd (has_prefix (map entry_without_docs x.types) bytes x.written h)
-plain_error input bytes x (Decode decode.Memory) h = h
-plain_error input bytes x Trailing h =
+plain_table_error input bytes x (Decode decode.Memory) h = h
+plain_table_error input bytes x Trailing h =
     absurd (no_trailing (map entry_without_docs x.types) bytes x.written h)
-plain_error input bytes x (NoSuchType id) h = h
-plain_error input bytes x (Retain (retain.Dangling id)) h =
+plain_table_error input bytes x (NoSuchType id) h = h
+plain_table_error input bytes x (Retain e) h = h
+plain_table_error input bytes x (Encode e) h = h
+plain_table_error input bytes x Memory h = tt
+
+-- why one is not compared
+plain_reference_error :
+    (input bytes : List ℕ)
+    → IsWithoutDocs input bytes → (e : PruneError) → IsReferenceError bytes e
+    → IsReferenceError input e
+plain_reference_error input bytes x (Decode e) h = h
+plain_reference_error input bytes x Trailing h = h
+plain_reference_error input bytes x (NoSuchType id) h = h
+plain_reference_error input bytes x (Retain (retain.Dangling id)) h =
     record {
       types = x.types;
       encodes = x.encodes;
@@ -93,10 +108,29 @@ plain_error input bytes x (Retain (retain.Dangling id)) h =
           (subst (λ ts. IsDangling ts id)
           (one_table h.types (map entry_without_docs x.types) bytes h.encodes x.written) h.dangling);
     }
-plain_error input bytes x (Retain retain.TooManyTypes) h = h
-plain_error input bytes x (Retain retain.Memory) h = h
-plain_error input bytes x (Encode e) h = h
-plain_error input bytes x Memory h = tt
+plain_reference_error input bytes x (Retain retain.TooManyTypes) h = h
+plain_reference_error input bytes x (Retain retain.Memory) h = h
+plain_reference_error input bytes x (Encode e) h = h
+plain_reference_error input bytes x Memory h = tt
+
+-- the table with its docs
+with_docs : (input bytes : List ℕ) → IsWithoutDocs input bytes → IsOneTable input
+with_docs input bytes x = record { types = x.types; encodes = x.encodes }
+
+-- why two are not compared
+pub plain_changes_error :
+    (old new bytes others : List ℕ)
+    → IsWithoutDocs old bytes → IsWithoutDocs new others
+    → (e : PruneError) → IsChangesError bytes others e → IsChangesError old new e
+plain_changes_error old new bytes others x y e (inl h) = inl (plain_table_error old bytes x e h)
+plain_changes_error old new bytes others x y e (inr (inl h)) =
+    inr (inl (with_docs old bytes x, plain_table_error new others y e h.1))
+plain_changes_error old new bytes others x y e (inr (inr h)) =
+    inr (inr (
+      with_docs old bytes x,
+      with_docs new others y,
+      ⊎_map (plain_reference_error old bytes x e) (plain_reference_error new others y e) h.2,
+    ))
 
 -- changes between two
 pub plain_changes :

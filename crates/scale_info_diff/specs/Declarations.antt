@@ -1,7 +1,7 @@
 -- The first lines in which the declarations of two tables' types differ.
 use Rattle.std.specs.Prelude.{◌≡◌, ◌≢◌, ◌<◌, ◌++◌, ℕ, List, [], ◌∷◌, Option, None, Some}
 use Rattle.std.specs.Prelude.{MatchOption, ◌==◌, codes, if◌then◌else◌, slice_get, unwrap_or}
-use Rattle.std.specs.Str.{trim_start}
+use Rattle.std.specs.List.{repeat}
 use Rattle.std.specs.Str.Lines.{lines}
 use Rattle.scale_info_describe.specs.TypeDeclarations.{description_at}
 use Rattle.scale_info_describe.specs.TypeNames.{type_at}
@@ -18,16 +18,26 @@ line_at texts place = unwrap_or (slice_get texts place) []
 abbrev pub AreLinesAlike : List Text → List Text → Type 0
 AreLinesAlike texts others = (i : ℕ) → line_at texts i ≡ line_at others i
 
--- the change of a line: the line, an arrow and the other line, both without the blanks before them
-abbrev pub line_change : Text → Text → Text
-line_change line other = trim_start line ++ (codes " -> " ++ trim_start other)
+-- this stands in a line after its indentation, which is four blanks for each level
+pub record IsIndented (line text : Text) : Type 0 where
+  pub levels : ℕ
+  pub spelled : line ≡ repeat levels (codes "    ") ++ text
+  pub whole : (rest : Text) → text ≢ codes "    " ++ rest
+
+-- the change of a line: the line, an arrow and the other line, both without their indentation
+pub record IsChangeOf (line other change : Text) : Type 0 where
+  pub text : Text
+  pub other_text : Text
+  pub indented : IsIndented line text
+  pub other_indented : IsIndented other other_text
+  pub is : change ≡ text ++ (codes " -> " ++ other_text)
 
 -- this is the change of the first line that differs
 pub record IsLineChange (texts others : List Text) (change : Text) : Type 0 where
   pub place : ℕ
   pub below : (i : ℕ) → i < place → line_at texts i ≡ line_at others i
   pub differ : line_at texts place ≢ line_at others place
-  pub is : change ≡ line_change (line_at texts place) (line_at others place)
+  pub is : IsChangeOf (line_at texts place) (line_at others place) change
 
 -- the lines of the declaration of the type with an id; none, where the id is no index
 abbrev pub lines_at : PortableRegistry → ℕ → List Text

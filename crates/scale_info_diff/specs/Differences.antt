@@ -1,7 +1,8 @@
 -- Where two tables differ first, from given ids on.
-use Rattle.std.specs.Prelude.{◌≡◌, ◌≢◌, ◌<◌, ℕ, List, [], Option, Some, MatchOption, slice_get}
+use Rattle.std.specs.Prelude.{◌≡◌, ◌≢◌, ◌<◌, ◌⊎◌, ℕ, List, [], Option, Some, MatchOption, slice_get}
 use Rattle.scale_info_grammar.specs.Ty.{EncodesTypes}
-use Rattle.scale_info_prune.specs.Prunes.{IsPrunedEncoding}
+use Rattle.scale_info_prune.specs.Prunes.{IsPruneError, IsPrunedEncoding}
+use Rattle.scale_info_prune.specs.declared.prune.PruneError.{PruneError}
 use Rattle.scale_info_types.specs.declared.ty.PortableType.{PortableType}
 
 -- what pruning the input to the given ids keeps: the old ids of the entries, in depth-first order
@@ -10,6 +11,18 @@ pub record IsPrunedTo (input given order : List ℕ) (kept : List PortableType) 
   pub bytes : List ℕ
   pub pruned : IsPrunedEncoding input given order [] bytes
   pub encodes : EncodesTypes kept bytes
+
+-- the input can be pruned to the given ids
+pub record CanBePruned (input given : List ℕ) : Type 0 where
+  pub order : List ℕ
+  pub kept : List PortableType
+  pub pruned : IsPrunedTo input given order kept
+
+-- why two inputs are not pruned to their ids: the old one is not; or it is, and the new one is not
+abbrev pub IsDifferenceError : (old old_ids new new_ids : List ℕ) → PruneError → Type 0
+IsDifferenceError old old_ids new new_ids error =
+    IsPruneError old old_ids error
+    ⊎ (CanBePruned old old_ids × IsPruneError new new_ids error)
 
 -- at each place below this one both lists have the same entry
 abbrev pub AgreeBelow : ℕ → List PortableType → List PortableType → Type 0

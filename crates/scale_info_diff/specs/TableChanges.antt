@@ -2,12 +2,10 @@
 use Rattle.std.specs.Prelude.{◌≡◌, ◌≢◌, ◌≤◌, ◌++◌, ◌⊎◌, ℕ, List, [], ◌∷◌, Contains, Some}
 use Rattle.std.specs.Prelude.{length, map, slice_get}
 use Rattle.std.specs.List.{AllZip, flat_map}
-use Rattle.scale_info_bytes.specs.Encodings.{HasNoPrefix}
-use Rattle.scale_info_bytes.specs.declared.error.DecodeError.TheVariants as decode
 use Rattle.scale_info_docs.specs.WithoutDocs.{entry_without_docs}
 use Rattle.scale_info_grammar.specs.Ty.{EncodesTypes}
 use Rattle.scale_info_numberings.specs.Matches.{IsMatch}
-use Rattle.scale_info_prune.specs.TableIndexes.{HasTrailing}
+use Rattle.scale_info_prune.specs.Prunes.{IsTableError}
 use Rattle.scale_info_prune.specs.declared.prune.PruneError.{PruneError}
 use Rattle.scale_info_prune.specs.declared.prune.PruneError.TheVariants.{Decode, Trailing}
 use Rattle.scale_info_prune.specs.declared.prune.PruneError.TheVariants.{NoSuchType, Retain}
@@ -92,17 +90,30 @@ pub record HasDanglingReference (input : List ℕ) (id : ℕ) : Type 0 where
   pub encodes : EncodesTypes types input
   pub dangling : IsDangling types id
 
--- why an input is refused
-abbrev pub IsInputError : List ℕ → PruneError → Type 0
-IsInputError input (Decode decode.Malformed) = HasNoPrefix EncodesTypes input
-IsInputError input (Decode decode.Memory) = ⊥
-IsInputError input Trailing = HasTrailing input
-IsInputError input (NoSuchType id) = ⊥
-IsInputError input (Retain (retain.Dangling id)) = HasDanglingReference input id
-IsInputError input (Retain retain.TooManyTypes) = ⊥
-IsInputError input (Retain retain.Memory) = ⊥
-IsInputError input (Encode e) = ⊥
-IsInputError input Memory = Unit {0}
+-- the input encodes a table
+pub record IsOneTable (input : List ℕ) : Type 0 where
+  pub types : List PortableType
+  pub encodes : EncodesTypes types input
+
+-- why a table is not compared with others
+abbrev pub IsReferenceError : List ℕ → PruneError → Type 0
+IsReferenceError input (Decode e) = ⊥
+IsReferenceError input Trailing = ⊥
+IsReferenceError input (NoSuchType id) = ⊥
+IsReferenceError input (Retain (retain.Dangling id)) = HasDanglingReference input id
+IsReferenceError input (Retain retain.TooManyTypes) = ⊥
+IsReferenceError input (Retain retain.Memory) = ⊥
+IsReferenceError input (Encode e) = ⊥
+IsReferenceError input Memory = Unit {0}
+
+-- why two inputs are not compared: the old one is no table; or it is one, and the new one is none;
+-- or both are, and one of them refers to an id that is no index
+abbrev pub IsChangesError : (old new : List ℕ) → PruneError → Type 0
+IsChangesError old new error =
+    IsTableError old error
+    ⊎ ((IsOneTable old × IsTableError new error)
+    ⊎ (IsOneTable old × IsOneTable new
+    × (IsReferenceError old error ⊎ IsReferenceError new error)))
 
 -- why types are not compared with others
 abbrev pub IsCompareError : List PortableType → List PortableType → PruneError → Type 0

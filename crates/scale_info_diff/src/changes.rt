@@ -1,8 +1,8 @@
 //! What changed between two tables.
-ghost use Rattle.std.specs.Prelude.{◌≡◌, ◌++◌, ◌⊎◌, List, IfOk, IfErr, OnOk, map};
+ghost use Rattle.std.specs.Prelude.{◌≡◌, ◌++◌, List, IfOk, IfErr, OnOk, map};
 ghost use Rattle.std.specs.List.{flat_map};
 ghost use Rattle.scale_info_diff.specs.TableChanges.{AreTableChanges, AreTableChangesWithDocs};
-ghost use Rattle.scale_info_diff.specs.TableChanges.{IsInputError, new_change};
+ghost use Rattle.scale_info_diff.specs.TableChanges.{IsChangesError, new_change};
 ghost use Rattle.scale_info_diff.specs.NamedTables.{IsNamedTable, IsWithoutDocs};
 ghost use Rattle.scale_info_prune.specs.Prunes.{IsTableError};
 ghost use Rattle.scale_info_types.specs.declared.ty.PortableType.{PortableType};
@@ -44,8 +44,7 @@ use std::alloc::{AllocError, Global};
 /// [`same_types`]: scale_info_prune::same_types::same_types
 pub fn changes(alloc: Global, old: &[u8], new: &[u8]) -> Result<Vec<Change>, PruneError>
     ensures ok { IfOk result (λ changes. AreTableChanges old.now new.now changes.items) }
-    ensures cause { IfErr result
-        (λ error. IsInputError old.now error ⊎ IsInputError new.now error) }
+    ensures cause { IfErr result (IsChangesError old.now new.now) }
 {
     let old = without_docs(alloc, old)?;
     let new = without_docs(alloc, new)?;
@@ -63,8 +62,7 @@ pub fn changes(alloc: Global, old: &[u8], new: &[u8]) -> Result<Vec<Change>, Pru
 /// ```
 pub fn changes_with_docs(alloc: Global, old: &[u8], new: &[u8]) -> Result<Vec<Change>, PruneError>
     ensures ok { IfOk result (λ changes. AreTableChangesWithDocs old.now new.now changes.items) }
-    ensures cause { IfErr result
-        (λ error. IsInputError old.now error ⊎ IsInputError new.now error) }
+    ensures cause { IfErr result (IsChangesError old.now new.now) }
 {
     let old = NamedTable::of(alloc, old)?;
     let new = NamedTable::of(alloc, new)?;

@@ -1,5 +1,5 @@
 //! The first lines in which the declarations of two tables' types differ.
-ghost use Rattle.std.specs.Prelude.{◌≡◌, ◌≤◌, ◌⊎◌, ◌++◌, [], ℕ, List, IfOk, IfErr, MatchOption};
+ghost use Rattle.std.specs.Prelude.{◌≡◌, ◌≤◌, ◌++◌, [], ℕ, List, IfOk, IfErr, MatchOption};
 ghost use Rattle.std.specs.Prelude.{length, option_map, string_bytes, unwrap_or};
 ghost use Rattle.scale_info_describe.specs.TypeDeclarations.{description_at};
 ghost use Rattle.scale_info_describe.specs.TypeNames.{Appends, type_at};
@@ -7,7 +7,7 @@ ghost use Rattle.scale_info_diff.specs.Declarations.{AreDeclaredAlike, AreLinesA
 ghost use Rattle.scale_info_diff.specs.Declarations.{IsDeclaredChange, IsLineChange, lines_at};
 ghost use Rattle.scale_info_diff.specs.Declarations.{TellsDeclaredChange, place_before};
 ghost use Rattle.scale_info_diff.specs.Declarations.{type_before};
-ghost use Rattle.scale_info_diff.specs.Differences.{IsPrunedTo};
+ghost use Rattle.scale_info_diff.specs.Differences.{IsDifferenceError, IsPrunedTo};
 ghost use Rattle.scale_info_prune.specs.Prunes.{IsPruneError};
 ghost use Rattle.scale_info_prune.specs.TableIndexes.{IsIndexed};
 
@@ -21,8 +21,8 @@ use std::alloc::{AllocError, Global};
 
 /// What two tables declare otherwise first, from given ids on, in words: the path of a type, if it
 /// has one and is not that of the least id, and the first line of its declaration that differs, as
-/// it is in the old table and as it is in the new one; None, where no types are declared by other
-/// lines.
+/// it is in the old table and as it is in the new one, both without the four blanks of each level
+/// before them; None, where no types are declared by other lines.
 ///
 /// So it says why a path has changed: the ids are those of the types with the path. Both
 /// tables are pruned to their ids, which count in ascending order, each once; then the types that
@@ -50,8 +50,8 @@ pub fn first_declared_change(
 ) -> Result<Option<String>, PruneError>
     ensures ok { IfOk result (λ found. TellsDeclaredChange old.now old_ids.now new.now
         new_ids.now (option_map string_bytes found)) }
-    ensures cause { IfErr result (λ error. IsPruneError old.now old_ids.now error
-        ⊎ IsPruneError new.now new_ids.now error) }
+    ensures cause { IfErr result
+        (IsDifferenceError old.now old_ids.now new.now new_ids.now) }
 {
     let mut old = IndexedTable::of(alloc, old)?;
     let table = pruned_to(alloc, &mut old, old_ids)?;
@@ -81,7 +81,7 @@ pub fn declared_change_of(
         (option_map string_bytes found)) }
     ensures cause { IfErr result (λ error. (input other : List ℕ)
         → IsIndexed input old.old → IsIndexed other new.old
-        → IsPruneError input old_ids.now error ⊎ IsPruneError other new_ids.now error) }
+        → IsDifferenceError input old_ids.now other new_ids.now error) }
     ensures old { (input : List ℕ) → IsIndexed input old.old → IsIndexed input old.new }
     ensures new { (input : List ℕ) → IsIndexed input new.old → IsIndexed input new.new }
 {

@@ -1,9 +1,9 @@
 //! Where two tables differ first, from given types on.
-ghost use Rattle.std.specs.Prelude.{◌≡◌, ◌⊎◌, List, Some, ℕ, IfOk, IfErr, IfSome, IfNone};
+ghost use Rattle.std.specs.Prelude.{◌≡◌, List, Some, ℕ, IfOk, IfErr, IfSome, IfNone};
 ghost use Rattle.std.specs.BTreeMap.{get};
 ghost use Rattle.std.specs.Ordering.{nat_cmp};
-ghost use Rattle.scale_info_diff.specs.Differences.{AgreeThroughout, IsFirstPlace, IsPrunedTo};
-ghost use Rattle.scale_info_diff.specs.Differences.{TellsDifference};
+ghost use Rattle.scale_info_diff.specs.Differences.{AgreeThroughout, IsDifferenceError};
+ghost use Rattle.scale_info_diff.specs.Differences.{IsFirstPlace, IsPrunedTo, TellsDifference};
 ghost use Rattle.scale_info_prune.specs.Prunes.{HasNewIds, IsPruneError};
 
 use crate::named::table_of;
@@ -42,8 +42,8 @@ pub fn first_difference(
     new_ids: &[u32],
 ) -> Result<Option<(u32, u32)>, PruneError>
     ensures ok { IfOk result (TellsDifference old.now old_ids.now new.now new_ids.now) }
-    ensures cause { IfErr result (λ error. IsPruneError old.now old_ids.now error
-        ⊎ IsPruneError new.now new_ids.now error) }
+    ensures cause { IfErr result
+        (IsDifferenceError old.now old_ids.now new.now new_ids.now) }
 {
     let (table, places) = pruned(alloc, old, old_ids)?;
     let (other_table, other_places) = pruned(alloc, new, new_ids)?;

@@ -2,8 +2,8 @@
 ghost use Rattle.std.specs.Prelude.{◌≡◌, IfOk, MatchOption, option_map, string_bytes};
 ghost use Rattle.std.specs.Str.Lines.{lines};
 ghost use Rattle.scale_info_segments.specs.TypePaths.{texts};
-ghost use Rattle.scale_info_diff.specs.Declarations.{AreLinesAlike, IsLineChange, line_at};
-ghost use Rattle.scale_info_diff.specs.Declarations.{line_change};
+ghost use Rattle.scale_info_diff.specs.Declarations.{AreLinesAlike, IsChangeOf, IsIndented};
+ghost use Rattle.scale_info_diff.specs.Declarations.{IsLineChange, line_at};
 
 use std::alloc::{AllocError, Global};
 
@@ -24,14 +24,21 @@ fn line_at<'a>(lines: &[&'a str], place: usize) -> &'a str
     }
 }
 
-/// The line, an arrow and the other line, both without the blanks before them.
+/// What stands in a line after its indentation.
+fn without_indentation(line: &str) -> &str
+    ensures { IsIndented line.now result.now }
+{
+    line.trim_start_matches("    ")
+}
+
+/// The line, an arrow and the other line, both without their indentation.
 fn change_of(alloc: Global, line: &str, other: &str) -> Result<String, AllocError>
-    ensures { IfOk result (λ change. string_bytes change ≡ line_change line.now other.now) }
+    ensures { IfOk result (λ change. IsChangeOf line.now other.now (string_bytes change)) }
 {
     let mut change = String::new(alloc);
-    change.push_str(line.trim_start())?;
+    change.push_str(without_indentation(line))?;
     change.push_str(" -> ")?;
-    change.push_str(other.trim_start())?;
+    change.push_str(without_indentation(other))?;
     Ok(change)
 }
 

@@ -1,7 +1,7 @@
 -- What is said of changes, by what is known of the inputs.
 use Rattle.std.proofs.Common.{◌≡◌, ◌≢◌, ◌⊎◌, ◌++◌, ◌∙◌, ℕ, List, [], ◌∷◌, Option, None, Some, IfSome}
-use Rattle.std.proofs.Common.{ap, arith, flat_map, get_or, inl, inr, length, map, refl, subst, sym}
-use Rattle.std.proofs.KnownBytes.{Appends-nil}
+use Rattle.std.proofs.Common.{All, ap, arith, flat_map, get_or, inl, inr, length, map, refl, subst, sym}
+use Rattle.std.proofs.KnownBytes.{Appends-nil, Keeps-refl}
 use Rattle.std.proofs.lemmas.List.Concat.{flat_map-cons}
 use Rattle.scale_info_diff.specs.Declarations.{TellsDeclaredChange}
 use Rattle.scale_info_diff.specs.TypesByPath.{ids_of}
@@ -13,12 +13,12 @@ use Rattle.type_reader_io.specs.declared.command.Docs.{Docs}
 use Rattle.type_reader_io.specs.declared.command.Comparison.{Comparison}
 use Rattle.type_reader_io.specs.declared.error.ReaderError.{ReaderError}
 use Rattle.type_reader_io.specs.declared.error.ReaderError.TheVariants as errors
-use Rattle.type_reader_run.specs.Differences.{AreLines, AreTold, IfBoth, IsDiffError}
-use Rattle.type_reader_run.specs.Differences.{IsNotPruned, IsOwnError, IsPathError, IsReason}
-use Rattle.type_reader_run.specs.Differences.{IsComparedAs, IsReferenceError, IsSideOf}
+use Rattle.type_reader_run.specs.Differences.{AreLines, AreTold, ExplainsDiff, IfBoth, IsDiffError}
+use Rattle.type_reader_run.specs.Differences.{IsComparedAs, IsInEither, IsNotPruned, IsPathError}
+use Rattle.type_reader_run.specs.Differences.{IsReason, IsReferenceError, IsSideOf}
 use Rattle.type_reader_run.specs.Differences.{ToldChange, WritesChanges, told_line}
 use Rattle.type_reader_run.specs.declared.reason.Side.{Side}
-use Rattle.type_reader_run.specs.Tables.{HasTable, input_bytes}
+use Rattle.type_reader_run.specs.Tables.{HasTable, IsFoundError, input_bytes}
 
 no_line : (lines : List ℕ) → length lines ≡ 0 → lines ≡ []
 no_line [] none = refl
@@ -65,22 +65,76 @@ writes_none comparison input second output bytes others lines is_first is_second
   appends = Appends-nil output;
 }
 
--- an error of its own bytes
-pub own_error :
+-- why the changes of two inputs are not told
+pub explains_diff :
+    (comparison : Comparison) (input second output : Option (List ℕ)) (bytes others : List ℕ)
+    → IsRead input bytes → IsRead second others → (error : ReaderError)
+    → IsDiffError comparison.paths.now bytes others error
+    → ExplainsDiff comparison input second output output error
+explains_diff comparison input second output bytes others is are errors.Malformed cause = (
+  of_inputs (λ x y. IsDiffError comparison.paths.now x y errors.Malformed) input second bytes others is are cause,
+  Keeps-refl output,
+)
+explains_diff comparison input second output bytes others is are errors.TrailingBytes cause = (
+  of_inputs (λ x y. IsDiffError comparison.paths.now x y errors.TrailingBytes) input second bytes others is are cause,
+  Keeps-refl output,
+)
+explains_diff comparison input second output bytes others is are (errors.Version version) cause = (
+  of_inputs (λ x y. IsDiffError comparison.paths.now x y (errors.Version version)) input second bytes others is are cause,
+  Keeps-refl output,
+)
+explains_diff comparison input second output bytes others is are (errors.NoSuchType id) cause = (
+  of_inputs (λ x y. IsDiffError comparison.paths.now x y (errors.NoSuchType id)) input second bytes others is are cause,
+  Keeps-refl output,
+)
+explains_diff comparison input second output bytes others is are (errors.NoSuchPath path) cause = (
+  of_inputs (λ x y. IsDiffError comparison.paths.now x y (errors.NoSuchPath path)) input second bytes others is are cause,
+  Keeps-refl output,
+)
+explains_diff comparison input second output bytes others is are (errors.SharedPath path) cause = (
+  of_inputs (λ x y. IsDiffError comparison.paths.now x y (errors.SharedPath path)) input second bytes others is are cause,
+  Keeps-refl output,
+)
+explains_diff comparison input second output bytes others is are (errors.NoValue fault) cause = (
+  of_inputs (λ x y. IsDiffError comparison.paths.now x y (errors.NoValue fault)) input second bytes others is are cause,
+  Keeps-refl output,
+)
+explains_diff comparison input second output bytes others is are (errors.Dangling id) cause = (
+  of_inputs (λ x y. IsDiffError comparison.paths.now x y (errors.Dangling id)) input second bytes others is are cause,
+  Keeps-refl output,
+)
+explains_diff comparison input second output bytes others is are errors.Memory cause = (
+  of_inputs (λ x y. IsDiffError comparison.paths.now x y errors.Memory) input second bytes others is are cause,
+  Keeps-refl output,
+)
+explains_diff comparison input second output bytes others is are errors.Input (inl cause) =
+    absurd cause
+explains_diff comparison input second output bytes others is are errors.Input (inr cause) =
+    absurd cause.2
+explains_diff comparison input second output bytes others is are errors.Output (inl cause) =
+    absurd cause
+explains_diff comparison input second output bytes others is are errors.Output (inr cause) =
+    absurd cause.2
+
+-- bytes in which no table is found
+pub found_error :
     (paths : List (List ℕ)) (bytes others : List ℕ) (error : ReaderError)
-    → IsOwnError bytes error ⊎ IsOwnError others error → IsDiffError paths bytes others error
-own_error paths bytes others errors.Malformed cause = cause
-own_error paths bytes others errors.TrailingBytes cause = cause
-own_error paths bytes others (errors.Version version) cause = cause
-own_error paths bytes others (errors.NoSuchType id) cause = cause
-own_error paths bytes others (errors.NoSuchPath path) (inl cause) = absurd cause
-own_error paths bytes others (errors.NoSuchPath path) (inr cause) = absurd cause
-own_error paths bytes others (errors.SharedPath path) cause = cause
-own_error paths bytes others (errors.NoValue fault) cause = cause
-own_error paths bytes others (errors.Dangling id) cause = cause
-own_error paths bytes others errors.Memory cause = tt
-own_error paths bytes others errors.Input cause = cause
-own_error paths bytes others errors.Output cause = cause
+    → IsFoundError bytes error
+    ⊎ ((table : List ℕ) × HasTable bytes table × IsFoundError others error)
+    → IsDiffError paths bytes others error
+found_error paths bytes others errors.Malformed cause = cause
+found_error paths bytes others errors.TrailingBytes cause = cause
+found_error paths bytes others (errors.Version version) cause = cause
+found_error paths bytes others (errors.NoSuchType id) cause = cause
+found_error paths bytes others (errors.NoSuchPath path) (inl cause) = absurd cause
+found_error paths bytes others (errors.NoSuchPath path) (inr cause) = absurd cause.2
+found_error paths bytes others (errors.SharedPath path) cause = cause
+found_error paths bytes others (errors.NoValue fault) cause = cause
+found_error paths bytes others (errors.Dangling id) (inl cause) = absurd cause
+found_error paths bytes others (errors.Dangling id) (inr cause) = absurd cause.2
+found_error paths bytes others errors.Memory cause = tt
+found_error paths bytes others errors.Input cause = cause
+found_error paths bytes others errors.Output cause = cause
 
 -- a path that is refused
 pub path_error :
@@ -100,43 +154,40 @@ path_error paths errors.Memory has_old has_new cause = tt
 path_error paths errors.Input has_old has_new cause = absurd cause
 path_error paths errors.Output has_old has_new cause = absurd cause
 
--- a table that refers to an id that is no index
-reference_error :
-    {bytes table : List ℕ} (error : ReaderError)
-    → HasTable bytes table → IsReferenceError table error
-    → IsOwnError bytes error ⊎ (error ≡ errors.Memory)
-reference_error errors.Malformed has cause = absurd cause
-reference_error errors.TrailingBytes has cause = absurd cause
-reference_error (errors.Version version) has cause = absurd cause
-reference_error (errors.NoSuchType id) has cause = absurd cause
-reference_error (errors.NoSuchPath path) has cause = absurd cause
-reference_error (errors.SharedPath path) has cause = absurd cause
-reference_error (errors.NoValue fault) has cause = absurd cause
-reference_error {table = table} (errors.Dangling id) has cause =
-    inl (record { table = table; has_table = has; dangling = cause })
-reference_error errors.Memory has cause = inr refl
-reference_error errors.Input has cause = absurd cause
-reference_error errors.Output has cause = absurd cause
-
--- an error of one of two inputs, or that of an allocation
-own_or_memory :
-    (paths : List (List ℕ)) (bytes others : List ℕ) (error : ReaderError) {Own : Type 0}
-    → (Own → IsOwnError bytes error ⊎ IsOwnError others error) → Own ⊎ (error ≡ errors.Memory)
-    → IsDiffError paths bytes others error
-own_or_memory paths bytes others error by (inl own) = own_error paths bytes others error (by own)
-own_or_memory paths bytes others error by (inr memory) =
-    subst (IsDiffError paths bytes others) (sym memory) tt
-
 -- one of two tables that refers to an id that is no index
 pub changes_error :
     (paths : List (List ℕ)) {bytes others old new : List ℕ} (error : ReaderError)
-    → HasTable bytes old → HasTable others new
+    → HasTable bytes old → HasTable others new → All (IsInEither old new) paths
     → IsReferenceError old error ⊎ IsReferenceError new error
     → IsDiffError paths bytes others error
-changes_error paths {bytes = bytes} {others = others} error has_old has_new (inl cause) =
-    own_or_memory paths bytes others error (λ own. inl own) (reference_error error has_old cause)
-changes_error paths {bytes = bytes} {others = others} error has_old has_new (inr cause) =
-    own_or_memory paths bytes others error (λ own. inr own) (reference_error error has_new cause)
+changes_error paths errors.Malformed has_old has_new known (inl cause) = absurd cause
+changes_error paths errors.Malformed has_old has_new known (inr cause) = absurd cause
+changes_error paths errors.TrailingBytes has_old has_new known (inl cause) = absurd cause
+changes_error paths errors.TrailingBytes has_old has_new known (inr cause) = absurd cause
+changes_error paths (errors.Version version) has_old has_new known (inl cause) = absurd cause
+changes_error paths (errors.Version version) has_old has_new known (inr cause) = absurd cause
+changes_error paths (errors.NoSuchType id) has_old has_new known (inl cause) = absurd cause
+changes_error paths (errors.NoSuchType id) has_old has_new known (inr cause) = absurd cause
+changes_error paths (errors.NoSuchPath path) has_old has_new known (inl cause) = absurd cause
+changes_error paths (errors.NoSuchPath path) has_old has_new known (inr cause) = absurd cause
+changes_error paths (errors.SharedPath path) has_old has_new known (inl cause) = absurd cause
+changes_error paths (errors.SharedPath path) has_old has_new known (inr cause) = absurd cause
+changes_error paths (errors.NoValue fault) has_old has_new known (inl cause) = absurd cause
+changes_error paths (errors.NoValue fault) has_old has_new known (inr cause) = absurd cause
+changes_error paths {old = old} {new = new} (errors.Dangling id) has_old has_new known cause =
+    record {
+      old = old;
+      new = new;
+      has_old = has_old;
+      has_new = has_new;
+      known = known;
+      dangling = cause;
+    }
+changes_error paths errors.Memory has_old has_new known cause = tt
+changes_error paths errors.Input has_old has_new known (inl cause) = absurd cause
+changes_error paths errors.Input has_old has_new known (inr cause) = absurd cause
+changes_error paths errors.Output has_old has_new known (inl cause) = absurd cause
+changes_error paths errors.Output has_old has_new known (inr cause) = absurd cause
 
 -- what a reason says of the ids of two tables
 abbrev TellsReason : Option (List ℕ) → (old old_ids new new_ids : List ℕ) → Type 0

@@ -195,22 +195,26 @@ pub record HavePathError (paths : List (List ℕ)) (bytes others path : List ℕ
   pub has_new : HasTable others new
   pub unknown : HasUnknownPath paths old new path
 
--- the bytes have a table, which refers to this id, and it is no index
-pub record HaveDangling (bytes : List ℕ) (id : ℕ) : Type 0 where
-  pub table : List ℕ
-  pub has_table : HasTable bytes table
-  pub dangling : HasDanglingReference table id
+-- the bytes have tables, of which one or the other has each path, and one of them refers to this
+-- id, which is no index of it
+pub record HaveDangling (paths : List (List ℕ)) (bytes others : List ℕ) (id : ℕ) : Type 0 where
+  pub old : List ℕ
+  pub new : List ℕ
+  pub has_old : HasTable bytes old
+  pub has_new : HasTable others new
+  pub known : All (IsInEither old new) paths
+  pub dangling : HasDanglingReference old id ⊎ HasDanglingReference new id
 
--- why bytes are not compared with any others
-abbrev pub IsOwnError : (bytes : List ℕ) → ReaderError → Type 0
-IsOwnError bytes (errors.Dangling id) = HaveDangling bytes id
-IsOwnError bytes error = IsFoundError bytes error
-
--- why the changes of the paths between the tables of the bytes are not told; an allocation may fail
+-- why the changes of the paths between the tables of the bytes are not told: no table is found in
+-- the old ones; or one is, and none in the new ones; or a path or a reference leads nowhere; or an
+-- allocation failed
 abbrev pub IsDiffError : (paths : List (List ℕ)) → (bytes others : List ℕ) → ReaderError → Type 0
 IsDiffError paths bytes others (errors.NoSuchPath path) = HavePathError paths bytes others path
+IsDiffError paths bytes others (errors.Dangling id) = HaveDangling paths bytes others id
 IsDiffError paths bytes others errors.Memory = Unit {0}
-IsDiffError paths bytes others error = IsOwnError bytes error ⊎ IsOwnError others error
+IsDiffError paths bytes others error =
+    IsFoundError bytes error
+    ⊎ ((table : List ℕ) × HasTable bytes table × IsFoundError others error)
 
 -- the fact holds of the two inputs, where both are known
 abbrev pub IfBoth : (input second : Option (List ℕ)) → (List ℕ → List ℕ → Type 0) → Type 0

@@ -3,7 +3,7 @@ ghost use Rattle.std.specs.Prelude.{◌≡◌, ◌≢◌, ◌++◌, ◌⊎◌, �
 ghost use Rattle.std.specs.Prelude.{IsFalse, IsTrue, OnOk, codes, filter, option_map};
 ghost use Rattle.std.specs.Prelude.{string_bytes};
 ghost use Rattle.scale_info_describe.specs.TypeNames.{Appends};
-ghost use Rattle.scale_info_diff.specs.TableChanges.{IsInputError};
+ghost use Rattle.scale_info_diff.specs.TableChanges.{IsChangesError};
 ghost use Rattle.scale_info_diff.specs.TypesByPath.{ids_of};
 ghost use Rattle.scale_info_diff.specs.declared.change.Change.TheVariants as changed;
 ghost use Rattle.scale_info_prune.specs.TableIndexes.{IsIndexed};
@@ -208,8 +208,7 @@ fn check_paths(alloc: Global, old: &[u8], new: &[u8], paths: &[Text]) -> Result<
 /// Errors: as those of [`changes`].
 fn changes_by(alloc: Global, docs: Docs, old: &[u8], new: &[u8]) -> Result<Vec<Change>, PruneError>
     ensures ok { IfOk result (λ changes. AreChangesBy docs old.now new.now changes.items) }
-    ensures err { IfErr result
-        (λ error. IsInputError old.now error ⊎ IsInputError new.now error) }
+    ensures err { IfErr result (IsChangesError old.now new.now) }
 {
     match docs {
         Docs::LeftOut => changes(alloc, old, new),
@@ -239,9 +238,9 @@ fn changes_between(
 
 /// The lines of what changed between the tables of two inputs, of the paths of the comparison.
 ///
-/// Errors: as those of [`table_in`], of either input; `NoSuchPath`, where neither table has a
-/// path; `Dangling`, where an entry of one of them refers to an id that is no index; `Memory`, if
-/// an allocation failed.
+/// Errors: as those of [`table_in`], of the old input before the new one; then `NoSuchPath`, where
+/// neither table has a path; then `Dangling`, where an entry of one of them refers to an id that is
+/// no index; `Memory`, if an allocation failed.
 pub fn lines_between(
     alloc: Global,
     comparison: &Comparison<'_>,

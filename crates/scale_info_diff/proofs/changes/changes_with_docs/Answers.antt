@@ -1,8 +1,8 @@
-use Rattle.std.proofs.Common.{◌∙◌, ◌++◌, [], List, ap, subst}
+use Rattle.std.proofs.Common.{◌∙◌, ◌++◌, [], List, ap, inl, inr, subst}
 use Rattle.std.proofs.lemmas.Result.{err_from_is_err_and}
 use Rattle.std.specs.List.{flat_map}
 use Rattle.scale_info_grammar.specs.Ty.{EncodesTypes}
-use Rattle.scale_info_diff.proofs.Inputs.{input_error}
+use Rattle.scale_info_diff.proofs.Inputs.{changes_error}
 use Rattle.scale_info_diff.proofs.Listed.{are_changes}
 use Rattle.scale_info_diff.specs.TableChanges.{new_change}
 use Rattle.scale_info_diff.specs.Comparisons.{AddsOldChanges}
@@ -17,11 +17,24 @@ returns-in_err-push_old_changes-clause-cause c =
     err_from_is_err_and c.from_residual-in_err-push_old_changes.result
     c.from_residual-in_err-push_old_changes.ensures.1 in
     rw (p.1, p.2)
-    (input_error c.args.old.now c.args.new.now x.0 y.0
+    (changes_error c.args.old.now c.args.new.now x.0 y.0
     (subst (EncodesTypes x.0) c.in_ok-old.ensures.bytes x.1.encodes)
     (subst (EncodesTypes y.0) c.in_ok-new.ensures.bytes y.1.encodes)
     c.in_err-push_old_changes.field-0.0
     (c.in_err-push_old_changes.ensures.cause x.0 y.0 x.1 y.1))
+
+pub returns-in_err-new-clause-cause : goal.returns-in_err-new-clause-cause
+returns-in_err-new-clause-cause c =
+    let x = c.in_ok-old.ensures.ok in
+    let p = err_from_is_err_and c.from_residual-in_err-new.result c.from_residual-in_err-new.ensures.1 in
+    rw (p.1, p.2)
+    (inr (inl (
+      record {
+        types = x.0;
+        encodes = subst (EncodesTypes x.0) c.in_ok-old.ensures.bytes x.1.encodes;
+      },
+      c.in_err-new.ensures.cause,
+    )))
 
 pub returns-clause-ok : goal.returns-clause-ok
 returns-clause-ok c =

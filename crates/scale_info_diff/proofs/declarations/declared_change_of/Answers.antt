@@ -1,6 +1,6 @@
 use Rattle.std.proofs.Common.{inl, inr}
 use Rattle.std.proofs.lemmas.Result.{err_from_is_err_and}
-use Rattle.scale_info_diff.proofs.Differences.{told}
+use Rattle.scale_info_diff.proofs.Differences.{can_be_pruned, told}
 use Rattle.scale_info_diff.proofs.Encoded.{few_types}
 use Rattle.scale_info_diff.proofs.declarations.declared_change_of.Goals as goal
 
@@ -12,7 +12,12 @@ returns-in_err-table-clause-cause c =
 pub returns-in_err-other-clause-cause : goal.returns-in_err-other-clause-cause
 returns-in_err-other-clause-cause c =
     let p = err_from_is_err_and c.from_residual-in_err-other.result c.from_residual-in_err-other.ensures.1 in
-    rw (p.1, p.2) (λ input other x y. inr (c.in_err-other.ensures.cause other y))
+    rw (p.1, p.2)
+    (λ input other x y.
+    inr (
+      can_be_pruned c.in_ok-table.table.types (c.in_ok-table.ensures.ok input x),
+      c.in_err-other.ensures.cause other y,
+    ))
 
 pub change_between-requires-clause-few : goal.change_between-requires-clause-few
 change_between-requires-clause-few c =

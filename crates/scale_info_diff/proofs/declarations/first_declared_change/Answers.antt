@@ -1,6 +1,28 @@
-use Rattle.scale_info_diff.proofs.Differences.{told}
+use Rattle.std.proofs.Common.{inr}
+use Rattle.std.proofs.lemmas.Result.{err_from_is_err_and}
+use Rattle.scale_info_diff.proofs.Differences.{can_be_pruned, table_prune_error, told}
 use Rattle.scale_info_diff.proofs.Encoded.{few_types}
 use Rattle.scale_info_diff.proofs.declarations.first_declared_change.Goals as goal
+
+pub returns-in_err-new-clause-cause : goal.returns-in_err-new-clause-cause
+returns-in_err-new-clause-cause c =
+    let p = err_from_is_err_and c.from_residual-in_err-new.result c.from_residual-in_err-new.ensures.1 in
+    rw (p.1, p.2)
+    (inr (
+      can_be_pruned c.in_ok-table.table.types
+          (c.in_ok-table.ensures.ok c.args.old.now c.in_ok-old.ensures.ok),
+      table_prune_error c.args.new.now c.args.new_ids.now c.in_err-new.field-0.0 c.in_err-new.ensures.err,
+    ))
+
+pub returns-in_err-other-clause-cause : goal.returns-in_err-other-clause-cause
+returns-in_err-other-clause-cause c =
+    let p = err_from_is_err_and c.from_residual-in_err-other.result c.from_residual-in_err-other.ensures.1 in
+    rw (p.1, p.2)
+    (inr (
+      can_be_pruned c.in_ok-table.table.types
+          (c.in_ok-table.ensures.ok c.args.old.now c.in_ok-old.ensures.ok),
+      c.in_err-other.ensures.cause c.args.new.now c.in_ok-new.ensures.ok,
+    ))
 
 pub change_between-requires-clause-few : goal.change_between-requires-clause-few
 change_between-requires-clause-few c =

@@ -1,6 +1,20 @@
-use Rattle.scale_info_diff.proofs.Differences.{kept_place, of_same, told}
+use Rattle.std.proofs.Common.{inr}
+use Rattle.std.proofs.lemmas.Result.{err_from_is_err_and}
+use Rattle.scale_info_diff.proofs.Differences.{can_be_pruned, kept_place, of_same, told}
 use Rattle.scale_info_diff.specs.Differences.{AgreeThroughout, IsFirstPlace}
 use Rattle.scale_info_diff.proofs.difference.first_difference.Goals as goal
+
+pub returns-in_err-other_table-clause-cause : goal.returns-in_err-other_table-clause-cause
+returns-in_err-other_table-clause-cause c =
+    let x = c.in_ok-table.ensures.ok in
+    let p =
+    err_from_is_err_and c.from_residual-in_err-other_table.result
+    c.from_residual-in_err-other_table.ensures.1 in
+    rw (p.1, p.2)
+    (inr (
+      can_be_pruned c.in_ok-table.table.types (x.0, x.2),
+      c.in_err-other_table.ensures.cause,
+    ))
 
 pub returns-in_default-clause-ok : goal.returns-in_default-clause-ok
 returns-in_default-clause-ok c =

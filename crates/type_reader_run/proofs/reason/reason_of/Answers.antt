@@ -1,4 +1,5 @@
 use Rattle.std.proofs.Common.{None, inl, inr, option_map, refl, string_bytes}
+use Rattle.std.proofs.Math.Logic.{⊎_map}
 use Rattle.type_reader_run.proofs.Differences.{reasoned_by}
 use Rattle.type_reader_run.proofs.reason.reason_of.Goals as goal
 
@@ -15,8 +16,9 @@ returns-in-Err-Retain-Dangling-clause-ok c = λ docs table other x y.
     (inr (
       (
         c.in-Err-Retain-Dangling.field-0-0-0,
-        (rw (c.in-Err-Retain-Dangling.field-0-is, c.in-Err-Retain-Dangling.field-0-0-is) at
-            c.in-Err-Retain-Dangling.ensures.cause) c.args.old.now.named.bytes.now c.args.new.now.named.bytes.now x.indexed y.indexed,
+        ⊎_map (λ own. own) (λ theirs. theirs.1)
+            ((rw (c.in-Err-Retain-Dangling.field-0-is, c.in-Err-Retain-Dangling.field-0-0-is) at
+            c.in-Err-Retain-Dangling.ensures.cause) c.args.old.now.named.bytes.now c.args.new.now.named.bytes.now x.indexed y.indexed),
       ),
       refl,
     ))
