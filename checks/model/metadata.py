@@ -4,7 +4,6 @@ import re
 from .codec import Malformed, Reader, read_compact
 from .numberings import Trailing
 from .tables import TABLE
-from .values import Unmodelled
 
 MAGIC, VERSIONS = b"meta", (14, 15, 16)
 
@@ -52,11 +51,7 @@ def table_of(data):
 
 def bytes_of_text(data):
     """The bytes that a text writes in hexadecimal digits; None where it is no such text."""
-    found = re.fullmatch(rb'[ \n"]*(?:0x)?((?:[0-9a-fA-F]{2})*)[ \n"]*', data)
-    if not data:
-        return None
-    if found and not found[1]:
-        raise Unmodelled("whether a text of no digits is one")
+    found = re.fullmatch(rb'[ \t\r\n"]*(?:0x)?((?:[0-9a-fA-F]{2})+)[ \t\r\n"]*', data)
     return bytes.fromhex(found[1].decode()) if found else None
 
 

@@ -127,11 +127,9 @@ def listed(table, definition, depth, tree):
 def fields(table, all_of, depth, tree):
     """The values of fields in the tree of a record or a variant."""
     names = [it.name for it in all_of]
-    if None in names:
+    if None in names or len(set(names)) < len(names):
         found = parts(table, [it.ty for it in all_of], tree, depth)
         return list(zip(names, found))
-    if len(set(names)) < len(names):
-        raise Unmodelled("a tree of fields of which a name comes twice")
     if not isinstance(tree, dict):
         raise Failure("Mismatch")
     both = [it for it in all_of if it.name in tree]
