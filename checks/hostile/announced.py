@@ -1,6 +1,6 @@
 """Counts that announce more than there is, and inputs of one byte again and again."""
+from .nodes import LARGEST, compact
 from .programs import Case, refusal
-from .shapes import LARGEST, compact
 
 # What stands before a count, and how many zero bytes make an item of that list.
 PLACES = {

@@ -1,6 +1,6 @@
 """Ids as arguments: long ones, other digits, many words, and words that are no text."""
+from .nodes import LARGEST, U8, Table, renumbered
 from .programs import Case, refusal, usage
-from .shapes import LARGEST, SHAPES, U8, Table, renumbered
 
 # The longest word that a process may have is a little longer.
 LONG = 131_000
@@ -32,7 +32,6 @@ def single():
             kept, lines = renumbered(TWO, sorted({number, *map(int, before)}))
             name = f"{short(word)} {where}"
             yield Case(f"{name}: prune", "type_table", ["prune", *before, word], data, output=kept)
-            kept, lines = renumbered(TWO, sorted({number, *map(int, before)}))
             yield Case(f"{name}: reader prune", "type_reader", ["prune", "-", *before, word], data, output=kept, errors=lines)
         for word, number in OUTSIDE.items():
             for program, words in (("type_table", ["prune"]), ("type_reader", ["prune", "-"]), ("type_reader", ["graph", "-"])):
@@ -50,8 +49,7 @@ def single():
 
 def many():
     """So many words: equal, all, downwards, one outside, one bad."""
-    table = SHAPES["largest ids"](MANY).table
-    table = Table(table.nodes)
+    table = Table([U8] * MANY)
     data, all_ids = table.data, list(map(str, range(MANY)))
     good = {"equal": (["7"] * MANY, [7]), "all": (all_ids, range(MANY)), "downwards": (all_ids[::-1], range(MANY))}
     for name, (ids, order) in good.items():
@@ -60,7 +58,8 @@ def many():
     kept, lines = renumbered(table, [7])
     yield Case(f"{MANY} words, equal: reader prune", "type_reader", ["prune", "-", *["7"] * MANY], data, output=kept, errors=lines)
     node = b'    7 [label="7 u8"];\n'
-    yield Case(f"{MANY} words, equal: graph", "type_reader", ["graph", "-", *["7"] * MANY], data, output=b"digraph types {\n" + node + b"}\n")
+    drawn = b"digraph types {\n" + node + b"}\n"
+    yield Case(f"{MANY} words, equal: graph", "type_reader", ["graph", "-", *["7"] * MANY], data, output=drawn)
     listed = b"// 7\nu8\n" * MANY
     yield Case(f"{MANY} words, equal: list", "type_reader", ["list", "-", *["7"] * MANY], data, output=listed)
     for where, ids in (("at the end", [*all_ids[1:], str(MANY)]), ("in front", [str(MANY), *all_ids[1:]])):

@@ -4,12 +4,14 @@ import importlib.machinery
 import importlib.util
 import tempfile
 
+from .nodes import U8, Table, struct
 from .programs import TOP, Case, Runner
-from .shapes import SHAPES, U8, Table, cases_of, struct
+from .shapes import SHAPES, cases_of
 from .values import long_values, many_lines
 
-# So many times the instructions for ten times the size: where growth is linear, and where two sizes are multiplied.
-LINEAR, PRODUCT = 12, 120
+# So many times the instructions for ten times the size: where growth is linear; where lines come from a buffer, whose rest is longer at the
+# larger size, up to a bound; and where two sizes are multiplied.
+LINEAR, BUFFERED, PRODUCT = 12, 20, 120
 # The names of the cases of each shape that the short form counts.
 SHORT = {
     "chain up": ["json", "prune all", "list", "graph first", "diff with itself"],
@@ -51,12 +53,6 @@ def shape_cases(is_long, count):
                 yield case
 
 
-def value_cases(count):
-    """The cases of values, in this size."""
-    yield from many_lines(count)
-    yield from long_values(count)
-
-
 def product_cases(count):
     """Cases that take the product of two sizes: each path is looked up among all types, each place of a path, each changed type walks."""
     nodes = [U8] + [struct(at, 0) for at in range(1, count)]
@@ -94,9 +90,12 @@ def pairs_of(make, count):
 
 def pairs(is_long):
     """All pairs that are counted, with how many times the instructions the larger one may take."""
-    groups = [(lambda count: shape_cases(is_long, count), 1000, LINEAR), (value_cases, 1000, LINEAR), (product_cases, 30, PRODUCT)]
+    groups = [
+        (lambda count: shape_cases(is_long, count), 1000, LINEAR), (long_values, 1000, LINEAR), (many_lines, 1000, BUFFERED),
+        (product_cases, 30, PRODUCT),
+    ]
     if is_long:
-        groups += [(lambda count: shape_cases(False, count), 10_000, LINEAR), (value_cases, 10_000, LINEAR)]
+        groups += [(lambda count: shape_cases(False, count), 10_000, LINEAR), (long_values, 10_000, LINEAR), (many_lines, 50_000, LINEAR)]
     for make, count, most in groups:
         for pair in pairs_of(make, count):
             yield pair, most

@@ -3,172 +3,50 @@
 A shape is made of nodes. What some ids reach is given for each shape as it must be found, and not searched for here.
 """
 from dataclasses import dataclass, field
-from typing import Callable, NamedTuple
 
+from .nodes import (
+    LARGEST, U8, U16, Node, Table, compact, link, mapping, members, renumbered, sequence, struct, texts, tree_map, vec,
+)
 from .programs import Case, refusal
-
-LARGEST = 4294967295
-# So many types of a name are written, the named one being the first; the rest is two dots.
-NAME_DEPTH = 8
-
-
-def compact(number):
-    """The compact encoding of an integer."""
-    if number < 64:
-        return bytes([4 * number])
-    if number < 16384:
-        return (4 * number + 1).to_bytes(2, "little")
-    return (4 * number + 2).to_bytes(4, "little") if number < 1 << 30 else b"\3" + number.to_bytes(4, "little")
-
-
-def texts(all_of):
-    """The encoding of a list of texts."""
-    return compact(len(all_of)) + b"".join(compact(len(it)) + it for it in (it.encode() for it in all_of))
-
-
-class Node(NamedTuple):
-    """A type: how its bytes and its JSON text are made of its references; these; its path, declaration and name; its form without docs."""
-    build: Callable
-    refs: tuple
-    path: str
-    declared: str
-    name: str
-    bare: Callable = None
-
-    def stripped(self):
-        """The type without docs, and without its declaration."""
-        return self._replace(build=self.bare or self.build)
-
-
-def sequence(refs):
-    return b"\0\0\2" + compact(refs[0]) + b"\0", f'{{"def":{{"sequence":{{"type":{refs[0]}}}}}}}'
-
-
-def mapping(refs):
-    return b"\0\0\x08" + compact(refs[0]) + compact(refs[1]) + b"\0", f'{{"def":{{"map":{{"key":{refs[0]},"value":{refs[1]}}}}}}}'
-
-
-def members(refs):
-    return b"\0\0\4" + compact(len(refs)) + b"".join(map(compact, refs)) + b"\0", f'{{"def":{{"tuple":[{",".join(map(str, refs))}]}}}}'
-
-
-def primitive(index, name):
-    """A primitive, which has no references."""
-    made = b"\0\0\5" + bytes([index, 0]), f'{{"def":{{"primitive":"{name}"}}}}'
-    return Node(lambda refs: made, (), "", name, name)
-
-
-U8, U16 = primitive(3, "u8"), primitive(4, "u16")
-
-
-def within(level, form, bottom, most=NAME_DEPTH):
-    """The name of a type that nests so many levels of a form above a bottom."""
-    if not most:
-        return ".."
-    return form(within(level - 1, form, bottom, most - 1), most) if level else bottom
-
-
-def vec(inner, _):
-    return f"Vec<{inner}>"
-
-
-def tree_map(inner, most):
-    return f"BTreeMap<{'u8' if most > 1 else '..'}, {inner}>"
-
-
-def link(build, refs, level, form, bottom):
-    """A link of a chain, so many levels above its end; more levels than a name has are all alike."""
-    level = min(level, NAME_DEPTH + 2)
-    declared = form(within(level - 1, form, bottom), NAME_DEPTH + 1)
-    return Node(build, refs, "", declared, within(level, form, bottom))
-
-
-def struct(number, ref, name="a", inner="u8"):
-    """A struct of one named field."""
-    def build(refs):
-        data = texts(["demo", f"T{number}"]) + b"\0\0\4\1" + texts([name])[1:] + compact(refs[0]) + b"\0\0\0"
-        return data, f'{{"def":{{"composite":{{"fields":[{{"name":"{name}","type":{refs[0]}}}]}}}},"path":["demo","T{number}"]}}'
-    return Node(build, (ref,), f"demo::T{number}", f"struct T{number} {{\n    {name}: {inner},\n}}", f"T{number}")
-
-
-class Table:
-    """A table of nodes, of which each has its index for its id, if there is no other."""
-
-    def __init__(self, nodes, number=None):
-        self.nodes, self.number = nodes, number
-        ids = range(len(nodes)) if number is None else [number] * len(nodes)
-        self.built = [(one, *it.build(it.refs)) for one, it in zip(ids, nodes)]
-        self.data = compact(len(nodes)) + b"".join(compact(one) + data for one, data, _ in self.built)
-
-    def json(self):
-        entries = ",".join(f'{{"id":{one},"type":{text}}}' for one, _, text in self.built)
-        return f'{{"types":[{entries}]}}\n'.encode()
-
-    def stripped(self):
-        """The bytes of the table without docs."""
-        return Table([it.stripped() for it in self.nodes]).data if any(it.bare for it in self.nodes) else self.data
-
-    def pathed(self, index):
-        """An index and the path of its type, if there is one."""
-        path = self.nodes[index].path
-        return f"{index} {path}" if path else str(index)
-
-    def listed(self):
-        return "".join(f"// {self.pathed(index)}\n{it.declared}\n" for index, it in enumerate(self.nodes)).encode()
-
-    def graph(self, order):
-        """The graph of these types, in the order in which they are found."""
-        lines = ["digraph types {"]
-        for index in order:
-            node = self.nodes[index]
-            name = node.name.replace("\\", "\\\\").replace('"', '\\"')
-            lines.append(f'    {index} [label="{index} {name}"];')
-            lines += [f"    {index} -> {it};" for it in node.refs]
-        return "".join(f"{it}\n" for it in [*lines, "}"]).encode()
 
 
 @dataclass
 class Shape:
-    """A table; what ids reach, by a word for them: the ids, and the types in order, or the id that dangles; what find and diff must write."""
+    """A table; by a word for some ids, these, and the types that they reach or the id that dangles; what find and diff must write."""
     table: Table
     reached: dict
     findings: dict = field(default_factory=dict)
     changes: dict = field(default_factory=dict)
 
 
-def renumbered(table, order):
-    """The bytes of these types, which refer to no others, and the lines on their new ids."""
-    new = {old: at for at, old in enumerate(order)}
-    lines = "".join(f"{old} -> {new[old]}\n" for old in sorted(new)).encode()
-    if table.number is None and order == range(len(table.nodes)):
-        return table.data, lines
-    return Table([(it := table.nodes[old])._replace(refs=tuple(new[ref] for ref in it.refs)) for old in order]).data, lines
-
-
 def up(count):
     """A chain of which each link refers to the next, and the last type is u8."""
     nodes = [link(sequence, (at + 1,), count - 1 - at, vec, "u8") for at in range(count - 1)] + [U8]
-    return Shape(Table(nodes), {"first": ([0], range(count)), "last": ([count - 1], [count - 1]), "all": (range(count), range(count))})
+    return Shape(Table(nodes), {"first": ([0], range(count)), "last": ([count - 1],) * 2, "all": (range(count),) * 2})
 
 
 def down(count):
+    """A chain of which each link refers to the one before it, and the first type is u8."""
     nodes = [U8] + [link(sequence, (at - 1,), at, vec, "u8") for at in range(1, count)]
     reached = {"first": ([0], [0]), "last": ([count - 1], range(count - 1, -1, -1)), "all": (range(count), range(count))}
     return Shape(Table(nodes), reached)
 
 
 def cycle(count):
+    """Each type refers to the next, and the last to the first."""
     nodes = [link(sequence, ((at + 1) % count,), count, vec, "") for at in range(count)]
     around = [count - 1, *range(count - 1)]
     return Shape(Table(nodes), {"first": ([0], range(count)), "last": ([count - 1], around), "all": (range(count), range(count))})
 
 
 def selves(count):
+    """Each type refers to itself."""
     nodes = [link(sequence, (at,), count, vec, "") for at in range(count)]
     return Shape(Table(nodes), {"first": ([0], [0]), "last": ([count - 1], [count - 1]), "all": (range(count), range(count))})
 
 
 def dangling(count):
+    """Each type refers to the first id past the end."""
     nodes = [link(sequence, (count,), 1, vec, f"#{count}")] * count
     return Shape(Table(nodes), {"first": ([0], count), "last": ([count - 1], count), "all": (range(count), count)})
 
@@ -186,18 +64,21 @@ def alike(count):
 
 
 def maps(count):
+    """A chain of maps, each from u8 to the next map, and the last to u8; the first type is u8."""
     nodes = [U8] + [link(mapping, (0, (at + 1) % count), count - at, tree_map, "u8") for at in range(1, count)]
     second = [1, 0, *range(2, count)]
     return Shape(Table(nodes), {"second": ([1], second), "last": ([count - 1], [count - 1, 0]), "all": (range(count), range(count))})
 
 
 def star(count):
+    """A tuple of all other types."""
     name = f"({', '.join(['u8'] * (count - 1))})"
     nodes = [Node(members, tuple(range(1, count)), "", name, name)] + [U8] * (count - 1)
     return Shape(Table(nodes), {"first": ([0], range(count)), "last": ([count - 1], [count - 1])})
 
 
 def late_star(count):
+    """A tuple of all other types, after these."""
     name = f"({', '.join(['u8'] * (count - 1))})"
     nodes = [U8] * (count - 1) + [Node(members, tuple(range(count - 1)), "", name, name)]
     return Shape(Table(nodes), {"first": ([0], [0]), "last": ([count - 1], [count - 1, *range(count - 1)])})
@@ -232,6 +113,7 @@ def one_type(build, refs, declared, name, path="", bare=None):
 
 
 def many_members(count):
+    """A tuple."""
     name = f"({', '.join(['u8'] * count)})"
     return one_type(members, [1] * count, name, name)
 
@@ -239,6 +121,7 @@ def many_members(count):
 def many_fields(count):
     """A struct of fields without names."""
     def build(refs):
+        """The bytes and the JSON text of the type."""
         fields = ",".join(f'{{"type":{it}}}' for it in refs)
         return b"\0\0\0" + compact(count) + b"".join(b"\0" + compact(it) + b"\0\0" for it in refs) + b"\0", \
             f'{{"def":{{"composite":{{"fields":[{fields}]}}}}}}'
@@ -248,7 +131,8 @@ def many_fields(count):
 
 def many_named_fields(count):
     """A struct of fields with names, names of types and docs."""
-    def build(refs, docs=(b"\4" + texts(["d"])[1:], '"docs":["d"],')):
+    def build(refs, docs=(texts(["d"]), '"docs":["d"],')):
+        """The bytes and the JSON text of the type, with docs of each field."""
         data = b"".join(b"\1" + texts([f"f{at}"])[1:] + compact(it) + b"\1" + texts(["t"])[1:] + docs[0] for at, it in enumerate(refs))
         fields = ",".join(f'{{{docs[1]}"name":"f{at}","type":{it},"typeName":"t"}}' for at, it in enumerate(refs))
         return b"\0\0\0" + compact(count) + data + b"\0", f'{{"def":{{"composite":{{"fields":[{fields}]}}}}}}'
@@ -258,7 +142,9 @@ def many_named_fields(count):
 
 
 def many_variants(count):
+    """An enum of variants without fields, whose indices come again."""
     def build(_):
+        """The bytes and the JSON text of the type."""
         data = b"".join(texts([f"V{at}"])[1:] + bytes([0, at % 256, 0]) for at in range(count))
         variants = ",".join(f'{{"index":{at % 256},"name":"V{at}"}}' for at in range(count))
         return b"\0\0\1" + compact(count) + data + b"\0", f'{{"def":{{"variant":{{"variants":[{variants}]}}}}}}'
@@ -269,6 +155,7 @@ def many_variants(count):
 def many_params(count):
     """A type with a path and parameters, every second of which has a type."""
     def build(refs):
+        """The bytes and the JSON text of the type."""
         ids = [None if at % 2 else refs[at // 2] for at in range(count)]
         data = b"".join(texts([f"P{at}"])[1:] + (b"\0" if it is None else b"\1" + compact(it)) for at, it in enumerate(ids))
         params = ",".join(f'{{"name":"P{at}","type":{"null" if it is None else it}}}' for at, it in enumerate(ids))
@@ -280,11 +167,13 @@ def many_params(count):
 def documented(docs, shown):
     """The primitive u8 with these lines of docs, which stand so in JSON."""
     def build(_):
+        """The bytes and the JSON text of the type."""
         return b"\0\0\5\3" + texts(docs), f'{{"def":{{"primitive":"u8"}},"docs":[{",".join(shown)}]}}'
     return one_type(build, [], "".join(f"/// {it}\n" for it in docs) + "u8", "u8", bare=U8.build)
 
 
 def many_docs(count):
+    """Many lines of docs."""
     lines = [f"d{at}" for at in range(count)]
     return documented(lines, [f'"{it}"' for it in lines])
 
@@ -292,11 +181,13 @@ def many_docs(count):
 def with_path(path, shown):
     """The primitive u8 with this path, whose segments stand so in JSON."""
     def build(_):
+        """The bytes and the JSON text of the type."""
         return texts(path) + b"\0\5\3\0", f'{{"def":{{"primitive":"u8"}},"path":[{",".join(shown)}]}}'
     return one_type(build, [], f"type {path[-1]} = u8;", path[-1], "::".join(path))
 
 
 def many_segments(count):
+    """A path of many segments."""
     shape = with_path(["s"] * count, ['"s"'] * count)
     shape.findings = {"s": f"0 {shape.table.nodes[0].path}\n", "s::x": ""}
     return shape
@@ -310,10 +201,12 @@ def text_shapes():
     """For each kind of character a long text of it in docs, and in a path."""
     for kind, (letter, shown) in LETTERS.items():
         def docs(count, letter=letter, shown=shown):
+            """Docs of so many tens of bytes."""
             length = 10 * count // len(letter.encode())
             return documented([letter * length], [f'"{shown * length}"'])
 
         def path(count, letter=letter, shown=shown):
+            """A path of so many tens of bytes."""
             length = 10 * count // len(letter.encode())
             return with_path([letter * length], [f'"{shown * length}"'])
         yield f"{kind} docs", docs

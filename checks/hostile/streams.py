@@ -12,7 +12,8 @@ COMMANDS = {
     "type_table": [(["check"], "table"), (["json"], "table"), (["prune", "0"], "table")],
     "type_reader": [
         (["table", "-"], "table"), (["strip", "-"], "table"), (["list", "-"], "table"), (["find", "-", "demo"], "table"),
-        (["prune", "-", "0"], "table"), (["graph", "-", "0"], "table"), (["diff", "empty", "-"], "table"), (["diff", "-", "empty"], "table"),
+        (["prune", "-", "0"], "table"), (["graph", "-", "0"], "table"), (["diff", "empty", "-"], "table"),
+        (["diff", "-", "empty"], "table"),
         (["value", "lists", "0"], "digits"), (["encode", "lists", "0"], "texts"),
     ],
 }
@@ -33,6 +34,7 @@ def close(*streams):
 def no_reader(action):
     """What puts a pipe without reader in the place of the output, with this action for the signal."""
     def prepare():
+        """Done in the process that becomes the program."""
         reading, writing = os.pipe()
         os.close(reading)
         os.dup2(writing, STREAMS["output"])

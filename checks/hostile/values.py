@@ -1,6 +1,6 @@
 """Values of type_reader: lists without end of values of no bytes, counts past the input, depth, and long and many lines."""
+from .nodes import LARGEST, compact
 from .programs import Case, refusal
-from .shapes import LARGEST, compact
 
 
 def entries(*definitions):
@@ -61,12 +61,15 @@ def too_short():
 def deep():
     """Values about the limit of depth, and far below it."""
     def digits(levels):
+        """The bytes of a list in so many lists."""
         return "04" * (levels - 1) + "00"
 
     def text(levels):
+        """Its text."""
         return "[" * levels + "]" * levels
     for levels in (DEEPEST - 1, DEEPEST):
-        yield Case(f"{levels} deep: value", "type_reader", ["value", "-", "0", digits(levels)], NESTED, output=text(levels).encode() + b"\n")
+        came = text(levels).encode() + b"\n"
+        yield Case(f"{levels} deep: value", "type_reader", ["value", "-", "0", digits(levels)], NESTED, output=came)
     for levels in (DEEPEST + 1, 1000, 60_000):
         yield refusal(f"{levels} deep: value", "type_reader", ["value", "-", "0", digits(levels)], "no value: too deep", stdin=NESTED)
     yield Case(f"{DEEPEST - 1} deep: encode", "type_reader", ["encode", "-", "0", text(DEEPEST - 1)], NESTED,
@@ -108,10 +111,10 @@ def long_values(count):
     digits, text = (compact(count) + data).hex().encode(), b'"0x' + data.hex().encode() + b'"'
     numbers = b"[" + b",".join([b"7"] * count) + b"]"
     yield Case("a long list: value", "type_reader", ["value", "table", "0"], digits, {"table": LISTS}, output=text + b"\n")
-    yield Case("a long list: encode", "type_reader", ["encode", "table", "0"], text, {"table": LISTS}, output=b"0x" + digits + b"\n")
+    came = b"0x" + digits + b"\n"
+    yield Case("a long list: encode", "type_reader", ["encode", "table", "0"], text, {"table": LISTS}, output=came)
     # (a number of one digit is a part of a tree, and then of a value, for two bytes of text)
-    yield Case("a list of numbers: encode", "type_reader", ["encode", "table", "0"], numbers, {"table": LISTS}, output=b"0x" + digits + b"\n",
-               per_input=72)
+    yield Case("a list of numbers: encode", "type_reader", ["encode", "table", "0"], numbers, {"table": LISTS}, output=came, per_input=72)
 
 
 def cases(_):
