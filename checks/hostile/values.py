@@ -1,4 +1,4 @@
-"""Values of type_reader: lists without end of values of no bytes, counts past the input, depth, and long and many lines."""
+"""Values and names of type_reader that have no end, counts past the input, depth, and long and many lines."""
 from .nodes import LARGEST, compact
 from .programs import Case, refusal
 
@@ -36,18 +36,24 @@ SHORT = {
 # A value of a list of itself is so deep at most.
 DEEPEST = 128
 NESTED = entries(SELF)
+# Tuples of 64 of the next one, whose names are 64 times as long with each level.
+WIDE = entries(*(f"04 {compact(64).hex()} {compact(it).hex() * 64}" for it in range(1, 9)), UNIT)
 LINE_BYTES, BAD_LINES = 1 << 20, 100_000
 # Lists of bytes.
 LISTS = entries(BYTES, "05 03")
 
 
 def endless():
-    """Values without end, which no memory holds."""
+    """Values and names without end, which no memory holds."""
     for name, (table, digits) in ENDLESS.items():
         yield refusal(f"{name}: value", "type_reader", ["value", "-", "0", f"0x{digits}"], "out of memory", stdin=table)
         yield refusal(f"{name}: value of a line", "type_reader", ["value", "table", "0"], "out of memory", stdin=digits.encode() + b"\n",
                       files={"table": table})
         yield refusal(f"{name}: encode", "type_reader", ["encode", "-", "0", "true"], "no value: mismatch", stdin=table)
+    for words in (["list", "-"], ["list", "-", "0"], ["graph", "-", "0"]):
+        yield refusal(f"wide tuples: {' '.join(words)}", "type_reader", words, "out of memory", stdin=WIDE)
+    yield Case("wide tuples: prune", "type_reader", ["prune", "-", "0"], WIDE, output=WIDE,
+               errors="".join(f"{it} -> {it}\n" for it in range(9)).encode())
 
 
 def too_short():
