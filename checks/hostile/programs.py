@@ -1,7 +1,6 @@
 """Cases: what a program is given and what must come of it; and how they are run, under a limit of memory or under valgrind."""
 import os
 import re
-import resource
 import shutil
 import subprocess
 from dataclasses import dataclass, field
@@ -87,12 +86,12 @@ class Runner:
                 self.kept[name] = data
 
     def ran(self, case, limit):
-        """The status, the output and the lines of errors of a case under a limit of memory."""
+        """The status, the output and the lines of errors of a case under a limit of memory; prlimit sets it, since a fork is dear here."""
         self.keep({"stdin": case.stdin, **case.files})
+        words = [shutil.which("prlimit"), f"--as={limit}", "--", PROGRAMS[case.program], *case.words]
         with open(f"{self.folder}/stdin", "rb") as stdin:
             try:
-                done = subprocess.run([PROGRAMS[case.program], *case.words], stdin=stdin, capture_output=True, cwd=self.folder, env={},
-                                      timeout=LONGEST, check=False, preexec_fn=lambda: limit_memory(limit))
+                done = subprocess.run(words, stdin=stdin, capture_output=True, cwd=self.folder, env={}, timeout=LONGEST, check=False)
             except subprocess.TimeoutExpired as late:
                 return f"none after {LONGEST} seconds", late.stdout or b"", late.stderr or b""
         return done.returncode, done.stdout, done.stderr
@@ -112,8 +111,3 @@ class Runner:
         if done.returncode != case.status or not found:
             return f"under valgrind status {done.returncode}, not {case.status}: {shown(done.stderr)}"
         return int(found[1])
-
-
-def limit_memory(limit):
-    """Limits the memory of this process."""
-    resource.setrlimit(resource.RLIMIT_AS, (limit, limit))
