@@ -161,7 +161,7 @@ def decoded_as(row):
     except Failure as failure:
         return failed(f"Decode({failure.why})")
     except NoneOfType:
-        return failed("Convert(Mismatch)")
+        return failed("Mismatch")
 
 
 def program_value_encoded(row):
@@ -173,7 +173,7 @@ def program_value_encoded(row):
     except Failure as failure:
         return appended(b"", failed(f"Encode({refusal(failure)})"))
     except NoneOfType:
-        return appended(b"", failed("Convert(Mismatch)"))
+        return appended(b"", failed("Mismatch"))
 
 
 def portable_built(row):
@@ -195,21 +195,71 @@ def definition_made(kind, row):
     return done(DEFINITION.write(made).hex())
 
 
-# The causes of errors that print theirs, as the rows make them; and errors that print words or a path.
-CAUSES = {
-    "ValueTextError::Value": "Malformed", "VisitError::Failed": "TooDeep", "VisitError::Stopped": "Shape", "WithinError::Failed": "TooDeep",
-    "WithinError::Stopped": "Shape", "DecodeAsError::Decode": "Malformed", "DecodeAsError::Convert": "Mismatch",
-    "EncodeAsError::Convert": "Mismatch",
+# The sentences of errors, with what the rows make them hold. Each other one says that memory ran out.
+SENTENCES = {
+    "PathError::InvalidIdentifier": "segment 1 of the path is no identifier",
+    "PathError::MissingSegments": "the path has no segment",
+    "InternError::Full": "there are 4294967295 elements already",
+    "EncodeError::TooLong": "a list or a text has more than 4294967295 items or bytes",
+    "DecodeError::Malformed": "the bytes encode no value",
+    "RegisterError::Undescribed": "the type demo::A has no description",
+    "RegisterError::Full": "there are more than 4294967295 types",
+    "RetainError::Dangling": "dangling id 7",
+    "RetainError::TooManyTypes": "the table has more than 4294967295 types",
+    "JsonError::Shape": "the JSON is no table",
+    "ValueError::NoSuchType": "no such type",
+    "ValueError::Unsupported": "values of the type are not decoded",
+    "ValueError::TooDeep": "the value is more than 128 deep",
+    "ValueError::Malformed": "the bytes are no value of the type",
+    "PruneError::Malformed": "the bytes are no table",
+    "PruneError::Trailing": "there are bytes after the table",
+    "PruneError::NoSuchType": "no such type 7",
+    "PruneError::Dangling": "dangling id 7",
+    "ExportError::Undescribed": "the type demo::A has no description",
+    "ExportError::Full": "there are more than 4294967295 types",
+    "ExportError::TooLong": "the table has a list or a text that is too long",
+    "InfoError::TooLong": "an array has more than 4294967295 items",
+    "CatalogueError::Conflict": "the identity has another description",
+    "CatalogueError::TooLong": "an array has more than 4294967295 items",
+    "GraphError::Dangling": "dangling id 7",
+    "GraphError::TooManyTypes": "the table has more than 4294967295 types",
+    "JsonTextError::Syntax": "the text is no JSON",
+    "JsonTextError::Shape": "the JSON is no table",
+    "MetadataError::Version": "metadata of version 13 is not known",
+    "MetadataError::Malformed": "the bytes are no table, and no metadata with one",
+    "MetadataError::Trailing": "there are bytes after the table",
+    "ValueTextError::Value": "the bytes are no value of the type",
+    "ValueTextError::Trailing": "there are bytes after the value",
+    "ValueJsonError::NoSuchType": "no such type",
+    "ValueJsonError::Unsupported": "values of the type are not taken from JSON",
+    "ValueJsonError::TooDeep": "the value is more than 128 deep",
+    "ValueJsonError::Mismatch": "the JSON is no value of the type",
+    "EncodeValueError::NoSuchType": "no such type",
+    "EncodeValueError::Unsupported": "values of the type are not encoded",
+    "EncodeValueError::TooDeep": "the value is more than 128 deep",
+    "EncodeValueError::Mismatch": "the value does not fit its type at calls.0.dest",
+    "Failure::NoSuchType": "no such type",
+    "Failure::Unsupported": "values of the type are not decoded",
+    "Failure::TooDeep": "the value is more than 128 deep",
+    "Failure::Malformed": "the bytes are no value of the type",
+    "VisitError::Failed": "the value is more than 128 deep",
+    "VisitError::Stopped": "the JSON is no table",
+    "WithinError::Failed": "the value is more than 128 deep",
+    "WithinError::TooLarge": "the value has more parts than the limit",
+    "WithinError::Stopped": "the JSON is no table",
+    "ConvertError::Mismatch": "the value is none of the type",
+    "DecodeAsError::Decode": "the bytes are no value of the type",
+    "DecodeAsError::Mismatch": "the value is none of the type",
+    "EncodeAsError::Encode": "the value does not fit its type at calls.0.dest",
+    "EncodeAsError::Mismatch": "no value of the type stands for this one",
 }
-IN_WORDS = {"MetadataError", "EncodeValueError::Mismatch", "EncodeAsError::Encode"}
 
 
 def error_text(row):
-    """The text of an error: that of its cause, or the name of its variant."""
-    kind, variant = row.split("::")
-    if {kind, row} & IN_WORDS:
-        raise Unmodelled("the text of an error that has words or a path")
-    return done(CAUSES.get(row, variant))
+    """The text of an error: its sentence."""
+    if row not in SENTENCES and not row.endswith("::Memory"):
+        raise Unmodelled("an error without a sentence")
+    return done(SENTENCES.get(row, "out of memory"))
 
 
 CALLS = {

@@ -15,13 +15,13 @@ def errors_of_prune(call):
     try:
         return call()
     except Malformed:
-        return failed("Decode(Malformed)")
+        return failed("Malformed")
     except Trailing:
         return failed("Trailing")
     except NoSuchType as error:
         return failed(f"NoSuchType({error.id})")
     except Dangling as error:
-        return failed(f"Retain({dangling(error)})")
+        return failed(f"Dangling({error.id})")
 
 
 def decoded(row):
@@ -388,9 +388,7 @@ CALLS = {
     "decode": decoded,
     "TableView::decode": decoded,
     "TableView::new": read,
-    "LentTable::new": read,
     "TableView::try_to_owned": read,
-    "LentTable::try_to_owned": read,
     "try_clone_table": read,
     "try_clone_entries": read,
     "decode_type": described,

@@ -374,7 +374,7 @@ def exported(row):
     try:
         ids = registry.register(types, catalogue)
     except Undescribed as error:
-        answer = failed(f"Register(Undescribed({debug(error.term)}))")
+        answer = failed(f"Undescribed({debug(error.term)})")
         return lent("aa", "aa", [("asked", "0"), ("ids", "[]"), *answer])
     asked = list(range(len(registry.types)))
     roots = [it for it in asked if it in (numbers(chosen) if colon else [1])]

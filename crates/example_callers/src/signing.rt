@@ -1,12 +1,14 @@
 //! Changes the amount of a call that is to be signed, and encodes the call again.
-ghost use Rattle.std.specs.Prelude.{◌≡◌, IfOk, map};
+ghost use Rattle.std.specs.Prelude.{◌≡◌, Contains, IfOk, map};
 ghost use Rattle.example_callers.specs.Signing.{HasAmount, IsCallWith, with_amount};
 ghost use Rattle.example_callers.specs.Transfers.{is_amount};
 
 use anyhow::{Result, bail};
 use scale_info::laws::read_back;
-use scale_info::value::{Dyn, decode_value, encode_value};
-use scale_info::{Items, PortableRegistry, Text};
+use scale_info::loaded::LoadedTypes;
+use scale_info::value::{Definitions, Dyn, decode_value, encode_value};
+use scale_info::view::TableView;
+use scale_info::{Items, Text};
 use std::alloc::{AllocError, Global};
 
 /// Whether this is the name of an amount.
@@ -65,15 +67,16 @@ fn changed(alloc: Global, call: Dyn, amount: u128) -> Result<Dyn>
 }
 
 /// The bytes of a call whose field `amount` is this one, and which is in all else the call that the
-/// input encodes. The id is that of the type of calls.
-pub fn call_with_amount(
+/// input encodes. The id is that of the type of calls. A table serves, or what was loaded of one.
+pub fn call_with_amount<T: Definitions>(
     alloc: Global,
-    table: &PortableRegistry,
+    table: &T,
     id: u32,
     input: &[u8],
     amount: u128,
 ) -> Result<Vec<u8>>
-    ensures { IfOk result (λ bytes. IsCallWith table.now id amount input.now bytes.items) }
+    ensures { IfOk result
+        (λ bytes. IsCallWith (T.table table.now) id amount input.now bytes.items) }
 {
     read_back();
     let (call, rest) = decode_value(alloc, table, id, input)?;
@@ -84,4 +87,21 @@ pub fn call_with_amount(
     let mut bytes = Vec::new(alloc);
     encode_value(table, id, &call, &mut bytes)?;
     Ok(bytes)
+}
+
+/// [`call_with_amount`] with no types in memory but those that some ids of a view reach, of which
+/// that of calls is one. Both calls are those that the whole table decodes.
+pub fn call_with_amount_by_view(
+    alloc: Global,
+    view: &TableView<'_>,
+    ids: &[u32],
+    id: u32,
+    input: &[u8],
+    amount: u128,
+) -> Result<Vec<u8>>
+    ensures { Contains ids.now id
+        → IfOk result (λ bytes. IsCallWith view.now id amount input.now bytes.items) }
+{
+    let types = LoadedTypes::load(alloc, view, ids)?;
+    call_with_amount(alloc, &types, id, input, amount)
 }

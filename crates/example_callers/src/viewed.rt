@@ -5,7 +5,7 @@ ghost use Rattle.scale_info.specs.Readings.{reading};
 ghost use Rattle.scale_info.specs.ValueTexts.{AppendsText};
 
 use scale_info::loaded::LoadedTypes;
-use scale_info::value::{Dyn, decode_value_by};
+use scale_info::value::{Dyn, decode_value};
 use scale_info::value_text::append_value_json;
 use scale_info::view::TableView;
 use std::alloc::Global;
@@ -22,7 +22,7 @@ pub fn decode_by_view<'a>(
         (λ found. reading view.now id 1 input.now ≡ decoded found.0 found.1.now) }
 {
     let types = LoadedTypes::load(alloc, view, &[id])?;
-    let found = decode_value_by(alloc, &types, id, input)?;
+    let found = decode_value(alloc, &types, id, input)?;
     Ok(found)
 }
 

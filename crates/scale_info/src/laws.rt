@@ -40,7 +40,6 @@ pub use scale_info_laws::orders::ordered_paths;
 pub use scale_info_laws::orders::ordered_texts;
 pub use scale_info_laws::orders::ordered_variants;
 pub use scale_info_lent_form::laws::lent_description_is_owned;
-pub use scale_info_lent_form::laws::lent_is_owned;
 pub use scale_info_metadata::laws::equal_metadata_errors;
 pub use scale_info_metadata::laws::equal_sources;
 pub use scale_info_metadata::laws::one_metadata;

@@ -4,7 +4,7 @@ pub use scale_info_encode::encode::encode_value;
 pub use scale_info_encode::error::EncodeValueError;
 pub use scale_info_encode::path::{Step, ValuePath};
 pub use scale_info_value::definition::Definitions;
-pub use scale_info_value::value::{Dyn, Failure, ValueError, decode_value, decode_value_by};
+pub use scale_info_value::value::{Dyn, Failure, ValueError, decode_value};
 pub use scale_info_value::variants::variant_index;
 pub use scale_info_value_json::error::ValueJsonError;
 pub use scale_info_value_json::names::has_own_names;

@@ -10,10 +10,10 @@ use thiserror::Error;
 #[derive(Debug, Drop, PartialEq, Eq, Error)]
 pub enum EncodeError {
     /// A list or a text has more than 4294967295 items or bytes.
-    #[error("TooLong")]
+    #[error("a list or a text has more than 4294967295 items or bytes")]
     TooLong,
     /// An allocation failed.
-    #[error("Memory")]
+    #[error("out of memory")]
     Memory,
 }
 
@@ -21,10 +21,10 @@ pub enum EncodeError {
 #[derive(Debug, Drop, PartialEq, Eq, Error)]
 pub enum DecodeError {
     /// No prefix of the input encodes a value.
-    #[error("Malformed")]
+    #[error("the bytes encode no value")]
     Malformed,
     /// An allocation failed.
-    #[error("Memory")]
+    #[error("out of memory")]
     Memory,
 }
 

@@ -23,17 +23,17 @@ use std::collections::BTreeMap;
 use std::collections::btree_map::Entry;
 use thiserror::Error;
 
-/// Why a description could not be added. It is displayed as the name of the variant alone.
+/// Why a description could not be added.
 #[derive(Debug, Drop, PartialEq, Eq, Error)]
 pub enum CatalogueError {
     /// The identity is there with another description.
-    #[error("Conflict")]
+    #[error("the identity has another description")]
     Conflict,
     /// The type is an array of more than 4294967295 items.
-    #[error("TooLong")]
+    #[error("an array has more than 4294967295 items")]
     TooLong,
     /// An allocation failed.
-    #[error("Memory")]
+    #[error("out of memory")]
     Memory,
 }
 

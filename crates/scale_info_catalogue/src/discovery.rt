@@ -22,17 +22,17 @@ use scale_info_types::ty::Type;
 use std::alloc::Global;
 use thiserror::Error;
 
-/// Why a registration failed. It is displayed as the name of the variant alone.
+/// Why a registration failed.
 #[derive(Debug, Drop, PartialEq, Eq, Error)]
 pub enum RegisterError {
     /// The type with this identity is reached, is new, and has no description in the catalogue.
-    #[error("Undescribed")]
+    #[error("the type {} has no description", .0.head())]
     Undescribed(TypeId),
     /// There would be more than 4294967295 identities.
-    #[error("Full")]
+    #[error("there are more than 4294967295 types")]
     Full,
     /// An allocation failed.
-    #[error("Memory")]
+    #[error("out of memory")]
     Memory,
 }
 

@@ -13,7 +13,7 @@ use crate::names::{
     append_number,
 };
 use scale_info_collections::text::Text;
-use scale_info_tables::portable::PortableRegistry;
+use scale_info_tables::definitions::Definitions;
 use scale_info_types::form::PortableForm;
 use scale_info_types::ty::variant::Variant;
 use scale_info_types::ty::{Field, Type, TypeDef};
@@ -44,16 +44,16 @@ const EIGHT: &str = "        ";
 ///                              //     amount: Compact<u128>,
 ///                              // }
 /// ```
-pub fn describe(
+pub fn describe<T: Definitions>(
     alloc: Global,
-    table: &PortableRegistry,
+    table: &T,
     id: u32,
 ) -> Result<Option<String>, AllocError>
     ensures text { IfOk result
-        (λ text. option_map string_bytes text ≡ description_at table.now id) }
-    ensures none { IfOk result (λ text. IsNone text ↔ (length table.now.types ≤ id)) }
+        (λ text. option_map string_bytes text ≡ description_at (T.table table.now) id) }
+    ensures none { IfOk result (λ text. IsNone text ↔ (length (T.table table.now).types ≤ id)) }
 {
-    let Some(ty) = table.resolve(id) else {
+    let Some(ty) = table.description(id) else {
         return Ok(None);
     };
     let mut out = String::new(alloc);
@@ -65,14 +65,15 @@ pub fn describe(
 /// an index of the table. If not, the output stays as it was.
 ///
 /// Errors: `AllocError`, if an allocation failed. The output is then as it was.
-pub fn append_description(
+pub fn append_description<T: Definitions>(
     alloc: Global,
-    table: &PortableRegistry,
+    table: &T,
     id: u32,
     out: &mut String,
 ) -> Result<bool, AllocError>
-    ensures found { IfOk result (λ found. found ≡ is_some (description_at table.now id)) }
-    ensures text { Appends result out.old out.new (unwrap_or (description_at table.now id) []) }
+    ensures found { IfOk result (λ found. found ≡ is_some (description_at (T.table table.now) id)) }
+    ensures text { Appends result out.old out.new (unwrap_or (description_at
+        (T.table table.now) id) []) }
     ensures keeps { OnErr result (string_bytes out.new ≡ string_bytes out.old) }
 {
     match describe(alloc, table, id)? {
@@ -85,12 +86,13 @@ pub fn append_description(
 }
 
 /// Appends the declaration of a type, with its documentation.
-fn append_declaration(
+fn append_declaration<T: Definitions>(
     out: &mut String,
-    table: &PortableRegistry,
+    table: &T,
     ty: &Type<PortableForm>,
 ) -> Result<(), AllocError>
-    ensures { Appends result out.old out.new (declaration (name_within 8 table.now) ty.now) }
+    ensures { Appends result out.old out.new (declaration (name_within 8
+        (T.table table.now)) ty.now) }
 {
     append_documentation(out, "", ty.docs.as_slice())?;
     match &ty.type_def {
@@ -116,12 +118,12 @@ fn append_documentation(out: &mut String, blanks: &str, docs: &[Text]) -> Result
 }
 
 /// Appends a blank and the type's name, if it has a path.
-fn append_title(
+fn append_title<T: Definitions>(
     out: &mut String,
-    table: &PortableRegistry,
+    table: &T,
     ty: &Type<PortableForm>,
 ) -> Result<(), AllocError>
-    ensures { Appends result out.old out.new (title (name_within 8 table.now) ty.now) }
+    ensures { Appends result out.old out.new (title (name_within 8 (T.table table.now)) ty.now) }
 {
     let Some(segment) = ty.path.segments.as_slice().last() else {
         return Ok(());
@@ -132,14 +134,14 @@ fn append_title(
 }
 
 /// Appends a struct with these fields.
-fn append_struct(
+fn append_struct<T: Definitions>(
     out: &mut String,
-    table: &PortableRegistry,
+    table: &T,
     ty: &Type<PortableForm>,
     fields: &[Field<PortableForm>],
 ) -> Result<(), AllocError>
     ensures { Appends result out.old out.new
-        (declared_struct (name_within 8 table.now) ty.now fields.now) }
+        (declared_struct (name_within 8 (T.table table.now)) ty.now fields.now) }
 {
     out.push_str("struct")?;
     append_title(out, table, ty)?;
@@ -151,14 +153,14 @@ fn append_struct(
 }
 
 /// Appends an enum with these variants.
-fn append_enum(
+fn append_enum<T: Definitions>(
     out: &mut String,
-    table: &PortableRegistry,
+    table: &T,
     ty: &Type<PortableForm>,
     variants: &[Variant<PortableForm>],
 ) -> Result<(), AllocError>
     ensures { Appends result out.old out.new
-        (declared_enum (name_within 8 table.now) ty.now variants.now) }
+        (declared_enum (name_within 8 (T.table table.now)) ty.now variants.now) }
 {
     out.push_str("enum")?;
     append_title(out, table, ty)?;
@@ -170,12 +172,13 @@ fn append_enum(
 }
 
 /// Appends the lines of a variant: its documentation, its fields and its index.
-fn append_variant(
+fn append_variant<T: Definitions>(
     out: &mut String,
-    table: &PortableRegistry,
+    table: &T,
     variant: &Variant<PortableForm>,
 ) -> Result<(), AllocError>
-    ensures { Appends result out.old out.new (variant_line (name_within 8 table.now) variant.now) }
+    ensures { Appends result out.old out.new (variant_line (name_within 8
+        (T.table table.now)) variant.now) }
 {
     append_documentation(out, FOUR, variant.docs.as_slice())?;
     out.push_str(FOUR)?;
@@ -188,15 +191,15 @@ fn append_variant(
 
 /// Appends fields: on one line, if none has a name or documentation, and else one a line, behind
 /// the inner blanks.
-fn append_fields(
+fn append_fields<T: Definitions>(
     out: &mut String,
-    table: &PortableRegistry,
+    table: &T,
     outer: &str,
     inner: &str,
     fields: &[Field<PortableForm>],
 ) -> Result<(), AllocError>
     ensures { Appends result out.old out.new
-        (fields_of (name_within 8 table.now) outer.now inner.now fields.now) }
+        (fields_of (name_within 8 (T.table table.now)) outer.now inner.now fields.now) }
 {
     if has_name(fields) || has_docs(fields) {
         return append_field_lines(out, table, outer, inner, fields);
@@ -205,15 +208,15 @@ fn append_fields(
 }
 
 /// Appends fields one a line, in brackets.
-fn append_field_lines(
+fn append_field_lines<T: Definitions>(
     out: &mut String,
-    table: &PortableRegistry,
+    table: &T,
     outer: &str,
     inner: &str,
     fields: &[Field<PortableForm>],
 ) -> Result<(), AllocError>
     ensures { Appends result out.old out.new
-        (fields_on_lines (name_within 8 table.now) outer.now inner.now fields.now) }
+        (fields_on_lines (name_within 8 (T.table table.now)) outer.now inner.now fields.now) }
 {
     let named = has_name(fields);
     out.push_str(if named { " {\n" } else { "(\n" })?;
@@ -225,14 +228,14 @@ fn append_field_lines(
 }
 
 /// Appends the lines of a field: its documentation, and the field.
-fn append_field_line(
+fn append_field_line<T: Definitions>(
     out: &mut String,
-    table: &PortableRegistry,
+    table: &T,
     blanks: &str,
     field: &Field<PortableForm>,
 ) -> Result<(), AllocError>
     ensures { Appends result out.old out.new
-        (field_line (name_within 8 table.now) blanks.now field.now) }
+        (field_line (name_within 8 (T.table table.now)) blanks.now field.now) }
 {
     append_documentation(out, blanks, field.docs.as_slice())?;
     out.push_str(blanks)?;
@@ -242,14 +245,14 @@ fn append_field_line(
 
 /// Appends a type that is neither a struct nor an enum: as an alias, if it has a path, and else
 /// written out.
-fn append_alias(
+fn append_alias<T: Definitions>(
     out: &mut String,
-    table: &PortableRegistry,
+    table: &T,
     ty: &Type<PortableForm>,
     definition: &TypeDef<PortableForm>,
 ) -> Result<(), AllocError>
     ensures { Appends result out.old out.new
-        (alias (name_within 8 table.now) ty.now definition.now) }
+        (alias (name_within 8 (T.table table.now)) ty.now definition.now) }
 {
     if ty.path.segments.is_empty() {
         return append_definition(out, table, definition, NAME_DEPTH);

@@ -10,7 +10,7 @@ use crate::fields::has_name;
 use itoa::Buffer;
 use scale_info_identities::symbol::UntrackedSymbol;
 use scale_info_identities::type_id::TypeId;
-use scale_info_tables::portable::PortableRegistry;
+use scale_info_tables::definitions::Definitions;
 use scale_info_types::form::PortableForm;
 use scale_info_types::ty::variant::Variant;
 use scale_info_types::ty::{Field, Type, TypeDef, TypeDefBitSequence, TypeDefMap, TypeParameter};
@@ -31,8 +31,8 @@ pub const NAME_DEPTH: u8 = 8;
 /// ```text
 /// name_of(alloc, &table, 3)?  // "BTreeMap<AccountId, Vec<Compact<u128>>>"
 /// ```
-pub fn name_of(alloc: Global, table: &PortableRegistry, id: u32) -> Result<String, AllocError>
-    ensures { IfOk result (λ name. string_bytes name ≡ name_at table.now id) }
+pub fn name_of<T: Definitions>(alloc: Global, table: &T, id: u32) -> Result<String, AllocError>
+    ensures { IfOk result (λ name. string_bytes name ≡ name_at (T.table table.now) id) }
 {
     let mut out = String::new(alloc);
     append_name(&mut out, table, id, NAME_DEPTH)?;
@@ -49,18 +49,18 @@ pub(crate) fn append_number(out: &mut String, number: u32) -> Result<(), AllocEr
 
 /// Appends the name of the type with this id, which is at most so many types deep.
 #[cycle(name)]
-pub(crate) fn append_name(
+pub(crate) fn append_name<T: Definitions>(
     out: &mut String,
-    table: &PortableRegistry,
+    table: &T,
     id: u32,
     left: u8,
 ) -> Result<(), AllocError>
-    ensures { Appends result out.old out.new (name_within left table.now id) }
+    ensures { Appends result out.old out.new (name_within left (T.table table.now) id) }
 {
     if left == 0 {
         return out.push_str("..");
     }
-    match table.resolve(id) {
+    match table.description(id) {
         None => {
             out.push_str("#")?;
             append_number(out, id)
@@ -71,13 +71,13 @@ pub(crate) fn append_name(
 
 /// Appends the name of the type of this description.
 #[cycle(name)]
-fn append_named(
+fn append_named<T: Definitions>(
     out: &mut String,
-    table: &PortableRegistry,
+    table: &T,
     ty: &Type<PortableForm>,
     left: u8,
 ) -> Result<(), AllocError>
-    ensures { Appends result out.old out.new (named (name_within left table.now) ty.now) }
+    ensures { Appends result out.old out.new (named (name_within left (T.table table.now)) ty.now) }
 {
     match ty.path.segments.as_slice().last() {
         None => append_definition(out, table, &ty.type_def, left),
@@ -91,14 +91,14 @@ fn append_named(
 /// Appends the arguments for a type's parameters, in angle brackets; nothing where there is no
 /// parameter.
 #[cycle(name)]
-pub(crate) fn append_arguments(
+pub(crate) fn append_arguments<T: Definitions>(
     out: &mut String,
-    table: &PortableRegistry,
+    table: &T,
     parameters: &[TypeParameter<PortableForm>],
     left: u8,
 ) -> Result<(), AllocError>
     ensures { Appends result out.old out.new
-        (arguments (name_within left table.now) parameters.now) }
+        (arguments (name_within left (T.table table.now)) parameters.now) }
 {
     let Some((first, others)) = parameters.split_first() else {
         return Ok(());
@@ -114,14 +114,14 @@ pub(crate) fn append_arguments(
 
 /// Appends the argument for a parameter: the name of its type, or else its own.
 #[cycle(name)]
-fn append_argument(
+fn append_argument<T: Definitions>(
     out: &mut String,
-    table: &PortableRegistry,
+    table: &T,
     parameter: &TypeParameter<PortableForm>,
     left: u8,
 ) -> Result<(), AllocError>
     ensures { Appends result out.old out.new
-        (argument (name_within left table.now) parameter.now) }
+        (argument (name_within left (T.table table.now)) parameter.now) }
 {
     match &parameter.ty {
         None => out.push_str(parameter.name.as_str()),
@@ -131,14 +131,14 @@ fn append_argument(
 
 /// Appends a definition, written out.
 #[cycle(name)]
-pub(crate) fn append_definition(
+pub(crate) fn append_definition<T: Definitions>(
     out: &mut String,
-    table: &PortableRegistry,
+    table: &T,
     definition: &TypeDef<PortableForm>,
     left: u8,
 ) -> Result<(), AllocError>
     ensures { Appends result out.old out.new
-        (definition_name (name_within left table.now) definition.now) }
+        (definition_name (name_within left (T.table table.now)) definition.now) }
 {
     match definition {
         TypeDef::Composite(composite) => {
@@ -172,14 +172,14 @@ pub(crate) fn append_definition(
 
 /// Appends a sequence of bits by the types of its store and its order.
 #[cycle(name)]
-fn append_bits(
+fn append_bits<T: Definitions>(
     out: &mut String,
-    table: &PortableRegistry,
+    table: &T,
     bits: &TypeDefBitSequence<PortableForm>,
     left: u8,
 ) -> Result<(), AllocError>
     ensures { Appends result out.old out.new
-        (definition_name (name_within left table.now) (def.BitSequence bits.now)) }
+        (definition_name (name_within left (T.table table.now)) (def.BitSequence bits.now)) }
 {
     out.push_str("BitSequence<")?;
     append_name(out, table, bits.bit_store_type.id, left)?;
@@ -190,14 +190,14 @@ fn append_bits(
 
 /// Appends a map by the types of its keys and values.
 #[cycle(name)]
-fn append_map(
+fn append_map<T: Definitions>(
     out: &mut String,
-    table: &PortableRegistry,
+    table: &T,
     map: &TypeDefMap<PortableForm>,
     left: u8,
 ) -> Result<(), AllocError>
     ensures { Appends result out.old out.new
-        (definition_name (name_within left table.now) (def.Map map.now)) }
+        (definition_name (name_within left (T.table table.now)) (def.Map map.now)) }
 {
     out.push_str("BTreeMap<")?;
     append_name(out, table, map.key.id, left)?;
@@ -208,14 +208,14 @@ fn append_map(
 
 /// Appends a tuple of these types. As in Rust, a comma is behind the one member of a tuple.
 #[cycle(name)]
-fn append_tuple(
+fn append_tuple<T: Definitions>(
     out: &mut String,
-    table: &PortableRegistry,
+    table: &T,
     members: &[UntrackedSymbol<TypeId>],
     left: u8,
 ) -> Result<(), AllocError>
     ensures { Appends result out.old out.new
-        (tuple_name (name_within left table.now) members.now) }
+        (tuple_name (name_within left (T.table table.now)) members.now) }
 {
     let Some((first, others)) = members.split_first() else {
         return out.push_str("()");
@@ -234,14 +234,14 @@ fn append_tuple(
 
 /// Appends fields on one line, in brackets; nothing where there is no field.
 #[cycle(name)]
-pub(crate) fn append_fields_on_line(
+pub(crate) fn append_fields_on_line<T: Definitions>(
     out: &mut String,
-    table: &PortableRegistry,
+    table: &T,
     fields: &[Field<PortableForm>],
     left: u8,
 ) -> Result<(), AllocError>
     ensures { Appends result out.old out.new
-        (fields_on_line (name_within left table.now) fields.now) }
+        (fields_on_line (name_within left (T.table table.now)) fields.now) }
 {
     let Some((first, others)) = fields.split_first() else {
         return Ok(());
@@ -258,14 +258,14 @@ pub(crate) fn append_fields_on_line(
 
 /// Appends a field: its name, if it has one, and the name of its type.
 #[cycle(name)]
-pub(crate) fn append_field(
+pub(crate) fn append_field<T: Definitions>(
     out: &mut String,
-    table: &PortableRegistry,
+    table: &T,
     field: &Field<PortableForm>,
     left: u8,
 ) -> Result<(), AllocError>
     ensures { Appends result out.old out.new
-        (field_on_line (name_within left table.now) field.now) }
+        (field_on_line (name_within left (T.table table.now)) field.now) }
 {
     if let Some(name) = &field.name {
         out.push_str(name.as_str())?;
@@ -276,14 +276,14 @@ pub(crate) fn append_field(
 
 /// Appends an enum without a name: its variants on one line, in braces.
 #[cycle(name)]
-fn append_variants(
+fn append_variants<T: Definitions>(
     out: &mut String,
-    table: &PortableRegistry,
+    table: &T,
     variants: &[Variant<PortableForm>],
     left: u8,
 ) -> Result<(), AllocError>
     ensures { Appends result out.old out.new
-        (variants_on_line (name_within left table.now) variants.now) }
+        (variants_on_line (name_within left (T.table table.now)) variants.now) }
 {
     out.push_str("enum {")?;
     for variant in variants {

@@ -4,13 +4,12 @@ use Rattle.std.proofs.lemmas.List.{length-map}
 use Rattle.std.proofs.lemmas.Option.{slice_get_within}
 use Rattle.std.specs.BTreeMap.{BTreeMap, get}
 use Rattle.std.specs.Ordering.{nat_cmp}
-use Rattle.scale_info_bytes.specs.declared.error.DecodeError.TheVariants as decode
 use Rattle.scale_info_grammar.specs.Ty.{EncodesTypes}
 use Rattle.scale_info_numberings.proofs.Places.{element_at}
 use Rattle.scale_info_prune.specs.Prunes.{HasNewIds, IsPruneError, IsPrunedEncoding, IsTableError}
 use Rattle.scale_info_prune.specs.declared.prune.PruneError.{PruneError}
-use Rattle.scale_info_prune.specs.declared.prune.PruneError.TheVariants.{Decode, Encode, Memory}
-use Rattle.scale_info_prune.specs.declared.prune.PruneError.TheVariants.{NoSuchType, Retain}
+use Rattle.scale_info_prune.specs.declared.prune.PruneError.TheVariants.{Dangling, Malformed}
+use Rattle.scale_info_prune.specs.declared.prune.PruneError.TheVariants.{Memory, NoSuchType}
 use Rattle.scale_info_prune.specs.declared.prune.PruneError.TheVariants.{Trailing}
 use Rattle.scale_info_types.specs.declared.ty.PortableType.{PortableType}
 use Rattle.scale_info_walk.specs.TypeSystems.{entry_of}
@@ -34,24 +33,20 @@ can_be_pruned kept x = record { order = x.0; kept = kept; pruned = x.1 }
 -- an input that is no table is not pruned
 pub table_prune_error :
     (input given : List ℕ) (e : PruneError) → IsTableError input e → IsPruneError input given e
-table_prune_error input given (Decode decode.Malformed) h = h
-table_prune_error input given (Decode decode.Memory) h = h
+table_prune_error input given Malformed h = h
 table_prune_error input given Trailing h = h
 table_prune_error input given (NoSuchType id) h = absurd h
-table_prune_error input given (Retain e) h = absurd h
-table_prune_error input given (Encode e) h = h
+table_prune_error input given (Dangling id) h = absurd h
 table_prune_error input given Memory h = h
 
 -- bytes that encode types are refused for memory alone
 pub only_memory :
     (types : List PortableType) (bytes input given : List ℕ)
     → EncodesTypes types bytes → (e : PruneError) → IsTableError bytes e → IsPruneError input given e
-only_memory types bytes input given x (Decode decode.Malformed) h = absurd (has_prefix types bytes x h)
-only_memory types bytes input given x (Decode decode.Memory) h = absurd h
+only_memory types bytes input given x Malformed h = absurd (has_prefix types bytes x h)
 only_memory types bytes input given x Trailing h = absurd (no_trailing types bytes x h)
 only_memory types bytes input given x (NoSuchType id) h = absurd h
-only_memory types bytes input given x (Retain e) h = absurd h
-only_memory types bytes input given x (Encode e) h = absurd h
+only_memory types bytes input given x (Dangling id) h = absurd h
 only_memory types bytes input given x Memory h = tt
 
 -- an entry that is kept has an old id

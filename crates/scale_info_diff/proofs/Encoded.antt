@@ -9,7 +9,6 @@ use Rattle.std.specs.List.{flat_map}
 use Rattle.scale_info_bytes.specs.Encodings.{HasNoPrefix, IsEncoding}
 use Rattle.scale_info_bytes.specs.Integers.{EncodesCompact, in_five, in_four, in_one, in_two}
 use Rattle.scale_info_bytes.specs.PartLaws.{list_law}
-use Rattle.scale_info_bytes.specs.declared.error.DecodeError.TheVariants as decode
 use Rattle.scale_info_describe.specs.PathSearches.{indices_from}
 use Rattle.scale_info_grammar.specs.Ty.{EncodesTypes}
 use Rattle.scale_info_grammar.specs.TyLaws.{portable_type_law}
@@ -19,15 +18,14 @@ use Rattle.scale_info_numberings.specs.Systems.{Entry, IsFirstOutside, IsReached
 use Rattle.scale_info_prune.specs.SameTypes.{IsRenumberingError, IsSameTypesError}
 use Rattle.scale_info_prune.specs.TableIndexes.{HasTrailing}
 use Rattle.scale_info_prune.specs.declared.prune.PruneError.{PruneError}
-use Rattle.scale_info_prune.specs.declared.prune.PruneError.TheVariants.{Decode, Encode, Memory}
-use Rattle.scale_info_prune.specs.declared.prune.PruneError.TheVariants.{NoSuchType, Retain}
+use Rattle.scale_info_prune.specs.declared.prune.PruneError.TheVariants.{Dangling, Malformed}
+use Rattle.scale_info_prune.specs.declared.prune.PruneError.TheVariants.{Memory, NoSuchType}
 use Rattle.scale_info_prune.specs.declared.prune.PruneError.TheVariants.{Trailing}
 use Rattle.scale_info_tables.specs.TableEncoding.{EncodesRegistry}
 use Rattle.scale_info_types.specs.Portable.{Text}
 use Rattle.scale_info_types.specs.Shapes.{Shape}
 use Rattle.scale_info_types.specs.declared.ty.PortableType.{PortableType}
 use Rattle.scale_info_walk.specs.TypeSystems.{entry_of, types_system}
-use Rattle.scale_info_walk.specs.declared.walk.RetainError.TheVariants as retain
 use Rattle.scale_info_diff.specs.TableChanges.{IsCompareError, IsDangling}
 use Rattle.scale_info_diff.specs.Comparisons.{AreCommonIds, own_ids}
 use Rattle.scale_info_diff.specs.TypesByPath.{has_path, ids_of}
@@ -127,7 +125,7 @@ module _ (types : List PortableType) where
 
 -- why a table is not numbered from indices
 abbrev IsDanglingError : List PortableType → PruneError → Type 0
-IsDanglingError types (Retain (retain.Dangling id)) = IsDangling types id
+IsDanglingError types (Dangling id) = IsDangling types id
 IsDanglingError types Memory = Unit {0}
 IsDanglingError types error = ⊥
 
@@ -135,8 +133,7 @@ one_error :
     (types : List PortableType) (input ids : List ℕ)
     → EncodesTypes types input → All (λ id. id < length types) ids
     → (e : PruneError) → IsRenumberingError input ids e → IsDanglingError types e
-one_error types input ids x within (Decode decode.Malformed) h = has_prefix types input x h
-one_error types input ids x within (Decode decode.Memory) h = h
+one_error types input ids x within Malformed h = has_prefix types input x h
 one_error types input ids x within Trailing h = no_trailing types input x h
 one_error types input ids x within (NoSuchType id) h =
     let same = one_table h.types types input h.encodes x in
@@ -148,21 +145,18 @@ one_error types input ids x within (NoSuchType id) h =
     let past = h.no_such_type.outside in
     let long = ap length same in
     omega arith
-one_error types input ids x within (Retain (retain.Dangling id)) h =
+one_error types input ids x within (Dangling id) h =
     let same = one_table h.types types input h.encodes x in
     dangling types ids within id
     (outside_reached _ [] ids id
     (subst (λ ts. IsFirstOutside (types_system ts) [] ids id) same h.first))
     (subst (λ (ts : List PortableType). length ts ≤ id) same h.outside)
-one_error types input ids x within (Retain retain.TooManyTypes) h = h
-one_error types input ids x within (Retain retain.Memory) h = h
-one_error types input ids x within (Encode e) h = h
 one_error types input ids x within Memory h = h
 
 either_error :
     (types others : List PortableType) (e : PruneError)
     → IsDanglingError types e ⊎ IsDanglingError others e → IsCompareError types others e
-either_error types others (Retain (retain.Dangling id)) h = h
+either_error types others (Dangling id) h = h
 either_error types others Memory h = tt
 either_error types others e h = elim h [ inl x ↦ x | inr x ↦ x ]
 

@@ -2,12 +2,11 @@
 use Rattle.std.proofs.Common.{◌≡◌, ◌⊎◌, inl, inr, ℕ, List, map, subst, sym}
 use Rattle.scale_info_grammar.specs.Ty.{EncodesTypes}
 use Rattle.scale_info_prune.specs.declared.prune.PruneError.{PruneError}
-use Rattle.scale_info_prune.specs.declared.prune.PruneError.TheVariants.{Decode, Encode, Memory}
-use Rattle.scale_info_prune.specs.declared.prune.PruneError.TheVariants.{NoSuchType, Retain}
+use Rattle.scale_info_prune.specs.declared.prune.PruneError.TheVariants.{Dangling, Malformed}
+use Rattle.scale_info_prune.specs.declared.prune.PruneError.TheVariants.{Memory, NoSuchType}
 use Rattle.scale_info_prune.specs.declared.prune.PruneError.TheVariants.{Trailing}
 use Rattle.scale_info_types.specs.Portable.{Text}
 use Rattle.scale_info_types.specs.declared.ty.PortableType.{PortableType}
-use Rattle.scale_info_walk.specs.declared.walk.RetainError.TheVariants as retain
 use Rattle.scale_info_diff.specs.TableChanges.{IsChangesError, IsCompareError, IsReferenceError}
 use Rattle.scale_info_diff.specs.TypesByPath.{AreIdsByPath}
 
@@ -17,17 +16,14 @@ references_error :
     → EncodesTypes types old → EncodesTypes others new → (e : PruneError)
     → IsCompareError types others e
     → IsReferenceError old e ⊎ IsReferenceError new e
-references_error old new types others x y (Decode e) h = absurd h
+references_error old new types others x y Malformed h = absurd h
 references_error old new types others x y Trailing h = absurd h
 references_error old new types others x y (NoSuchType id) h = absurd h
-references_error old new types others x y (Retain (retain.Dangling id)) h =
+references_error old new types others x y (Dangling id) h =
     elim h [
       | inl a ↦ inl (record { types = types; encodes = x; dangling = a })
       | inr b ↦ inr (record { types = others; encodes = y; dangling = b })
     ]
-references_error old new types others x y (Retain retain.TooManyTypes) h = absurd h
-references_error old new types others x y (Retain retain.Memory) h = absurd h
-references_error old new types others x y (Encode e) h = absurd h
 references_error old new types others x y Memory h = inl tt
 
 -- inputs whose tables are not compared

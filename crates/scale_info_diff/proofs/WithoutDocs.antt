@@ -5,14 +5,13 @@ use Rattle.std.proofs.Math.Logic.{⊎_map}
 use Rattle.std.proofs.lemmas.List.{length-map}
 use Rattle.std.proofs.lemmas.Option.{slice_get-map}
 use Rattle.std.specs.List.{flat_map}
-use Rattle.scale_info_bytes.specs.declared.error.DecodeError.TheVariants as decode
 use Rattle.scale_info_docs.specs.WithoutDocs.{definition_without_docs, description_without_docs}
 use Rattle.scale_info_docs.specs.WithoutDocs.{entry_without_docs, field_without_docs}
 use Rattle.scale_info_docs.specs.WithoutDocs.{variant_without_docs}
 use Rattle.scale_info_prune.specs.Prunes.{IsTableError}
 use Rattle.scale_info_prune.specs.declared.prune.PruneError.{PruneError}
-use Rattle.scale_info_prune.specs.declared.prune.PruneError.TheVariants.{Decode, Encode, Memory}
-use Rattle.scale_info_prune.specs.declared.prune.PruneError.TheVariants.{NoSuchType, Retain}
+use Rattle.scale_info_prune.specs.declared.prune.PruneError.TheVariants.{Dangling, Malformed}
+use Rattle.scale_info_prune.specs.declared.prune.PruneError.TheVariants.{Memory, NoSuchType}
 use Rattle.scale_info_prune.specs.declared.prune.PruneError.TheVariants.{Trailing}
 use Rattle.scale_info_references.specs.Conversions.{ids_in}
 use Rattle.scale_info_types.specs.Portable.{Description, Field, Id, TypeDef, Variant}
@@ -20,7 +19,6 @@ use Rattle.scale_info_types.specs.References.{definition_references, field_refer
 use Rattle.scale_info_types.specs.References.{parameter_references}
 use Rattle.scale_info_types.specs.declared.ty.PortableType.{PortableType}
 use Rattle.scale_info_types.specs.declared.ty.TypeDef.TheVariants as def
-use Rattle.scale_info_walk.specs.declared.walk.RetainError.TheVariants as retain
 use Rattle.scale_info_diff.proofs.Encoded.{has_prefix, mapped_some, no_trailing, one_table}
 use Rattle.scale_info_diff.specs.NamedTables.{IsWithoutDocs}
 use Rattle.scale_info_diff.specs.TableChanges.{AreChanges, AreTableChanges, AreTableChangesWithDocs}
@@ -81,14 +79,12 @@ dangling_with_docs types id h =
 plain_table_error :
     (input bytes : List ℕ)
     → IsWithoutDocs input bytes → (e : PruneError) → IsTableError bytes e → IsTableError input e
-plain_table_error input bytes x (Decode decode.Malformed) h =
+plain_table_error input bytes x Malformed h =
     absurd (has_prefix (map entry_without_docs x.types) bytes x.written h)
-plain_table_error input bytes x (Decode decode.Memory) h = h
 plain_table_error input bytes x Trailing h =
     absurd (no_trailing (map entry_without_docs x.types) bytes x.written h)
 plain_table_error input bytes x (NoSuchType id) h = h
-plain_table_error input bytes x (Retain e) h = h
-plain_table_error input bytes x (Encode e) h = h
+plain_table_error input bytes x (Dangling id) h = h
 plain_table_error input bytes x Memory h = tt
 
 -- why one is not compared
@@ -96,10 +92,10 @@ plain_reference_error :
     (input bytes : List ℕ)
     → IsWithoutDocs input bytes → (e : PruneError) → IsReferenceError bytes e
     → IsReferenceError input e
-plain_reference_error input bytes x (Decode e) h = h
+plain_reference_error input bytes x Malformed h = h
 plain_reference_error input bytes x Trailing h = h
 plain_reference_error input bytes x (NoSuchType id) h = h
-plain_reference_error input bytes x (Retain (retain.Dangling id)) h =
+plain_reference_error input bytes x (Dangling id) h =
     record {
       types = x.types;
       encodes = x.encodes;
@@ -108,9 +104,6 @@ plain_reference_error input bytes x (Retain (retain.Dangling id)) h =
           (subst (λ ts. IsDangling ts id)
           (one_table h.types (map entry_without_docs x.types) bytes h.encodes x.written) h.dangling);
     }
-plain_reference_error input bytes x (Retain retain.TooManyTypes) h = h
-plain_reference_error input bytes x (Retain retain.Memory) h = h
-plain_reference_error input bytes x (Encode e) h = h
 plain_reference_error input bytes x Memory h = tt
 
 -- the table with its docs

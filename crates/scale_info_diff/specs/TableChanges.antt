@@ -7,14 +7,13 @@ use Rattle.scale_info_grammar.specs.Ty.{EncodesTypes}
 use Rattle.scale_info_numberings.specs.Matches.{IsMatch}
 use Rattle.scale_info_prune.specs.Prunes.{IsTableError}
 use Rattle.scale_info_prune.specs.declared.prune.PruneError.{PruneError}
-use Rattle.scale_info_prune.specs.declared.prune.PruneError.TheVariants.{Decode, Trailing}
-use Rattle.scale_info_prune.specs.declared.prune.PruneError.TheVariants.{NoSuchType, Retain}
-use Rattle.scale_info_prune.specs.declared.prune.PruneError.TheVariants.{Encode, Memory}
+use Rattle.scale_info_prune.specs.declared.prune.PruneError.TheVariants.{Malformed, Trailing}
+use Rattle.scale_info_prune.specs.declared.prune.PruneError.TheVariants.{NoSuchType, Dangling}
+use Rattle.scale_info_prune.specs.declared.prune.PruneError.TheVariants.{Memory}
 use Rattle.scale_info_references.specs.Conversions.{ids_in}
 use Rattle.scale_info_types.specs.Portable.{Text}
 use Rattle.scale_info_types.specs.declared.ty.PortableType.{PortableType}
 use Rattle.scale_info_walk.specs.TypeSystems.{types_system}
-use Rattle.scale_info_walk.specs.declared.walk.RetainError.TheVariants as retain
 use Rattle.scale_info_diff.specs.TypesByPath.{ids_of, paths_of}
 use Rattle.scale_info_diff.specs.declared.change.Change.{Change}
 use Rattle.scale_info_diff.specs.declared.change.Change.TheVariants.{Removed, Added, Changed}
@@ -97,13 +96,10 @@ pub record IsOneTable (input : List ℕ) : Type 0 where
 
 -- why a table is not compared with others
 abbrev pub IsReferenceError : List ℕ → PruneError → Type 0
-IsReferenceError input (Decode e) = ⊥
+IsReferenceError input Malformed = ⊥
 IsReferenceError input Trailing = ⊥
 IsReferenceError input (NoSuchType id) = ⊥
-IsReferenceError input (Retain (retain.Dangling id)) = HasDanglingReference input id
-IsReferenceError input (Retain retain.TooManyTypes) = ⊥
-IsReferenceError input (Retain retain.Memory) = ⊥
-IsReferenceError input (Encode e) = ⊥
+IsReferenceError input (Dangling id) = HasDanglingReference input id
 IsReferenceError input Memory = Unit {0}
 
 -- why two inputs are not compared: the old one is no table; or it is one, and the new one is none;
@@ -117,12 +113,8 @@ IsChangesError old new error =
 
 -- why types are not compared with others
 abbrev pub IsCompareError : List PortableType → List PortableType → PruneError → Type 0
-IsCompareError types others (Decode e) = ⊥
+IsCompareError types others Malformed = ⊥
 IsCompareError types others Trailing = ⊥
 IsCompareError types others (NoSuchType id) = ⊥
-IsCompareError types others (Retain (retain.Dangling id)) =
-    IsDangling types id ⊎ IsDangling others id
-IsCompareError types others (Retain retain.TooManyTypes) = ⊥
-IsCompareError types others (Retain retain.Memory) = ⊥
-IsCompareError types others (Encode e) = ⊥
+IsCompareError types others (Dangling id) = IsDangling types id ⊎ IsDangling others id
 IsCompareError types others Memory = Unit {0}

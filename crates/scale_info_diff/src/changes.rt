@@ -32,9 +32,9 @@ use std::alloc::{AllocError, Global};
 /// left, as where a type of one table stands for two of the other, are the halves compared, down to
 /// single paths, each time with a pass over both tables.
 ///
-/// Errors, of the old table before the new one: `Decode(Malformed)`, where no prefix of the input
-/// is a table; `Trailing`, where bytes come after it. Then `Retain(Dangling)`, where an entry of
-/// one of them refers to an id that is no index, and `Memory`, where an allocation failed.
+/// Errors, of the old table before the new one: `Malformed`, where no prefix of the input is a
+/// table; `Trailing`, where bytes come after it. Then `Dangling`, where an entry of one of them
+/// refers to an id that is no index, and `Memory`, where an allocation failed.
 ///
 /// ```text
 /// changes(alloc, &old, &new)?  // of tables with `a::T` of u8, and with `a::T` of u16 and `b::U`:
@@ -74,8 +74,8 @@ pub fn changes_with_docs(alloc: Global, old: &[u8], new: &[u8]) -> Result<Vec<Ch
 
 /// The bytes of the table that the input is, without its docs.
 ///
-/// Errors: `Decode(Malformed)`, where no prefix of the input is a table; `Trailing`, where bytes
-/// come after it; `Memory`, where an allocation failed.
+/// Errors: `Malformed`, where no prefix of the input is a table; `Trailing`, where bytes come after
+/// it; `Memory`, where an allocation failed.
 fn without_docs(alloc: Global, input: &[u8]) -> Result<Vec<u8>, PruneError>
     ensures ok { IfOk result (λ bytes. IsWithoutDocs input.now bytes.items) }
     ensures cause { IfErr result (IsTableError input.now) }
@@ -83,7 +83,7 @@ fn without_docs(alloc: Global, input: &[u8]) -> Result<Vec<u8>, PruneError>
     let mut bytes = Vec::new(alloc);
     let rest = match append_without_docs(input, &mut bytes) {
         Ok(rest) => rest,
-        Err(DecodeError::Malformed) => return Err(PruneError::Decode(DecodeError::Malformed)),
+        Err(DecodeError::Malformed) => return Err(PruneError::Malformed),
         Err(DecodeError::Memory) => return Err(PruneError::Memory),
     };
     if !rest.is_empty() {

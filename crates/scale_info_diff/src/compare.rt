@@ -26,7 +26,7 @@ use std::alloc::{AllocError, Global};
 /// known to have changed are marked, and the others compared, all at once and then by halves. On an
 /// error some changes may have been pushed.
 ///
-/// Errors: `Retain(Dangling)`, where an entry refers to an id that is no index; `Memory`, where an
+/// Errors: `Dangling`, where an entry refers to an id that is no index; `Memory`, where an
 /// allocation failed.
 pub(crate) fn push_old_changes(
     alloc: Global,
@@ -64,7 +64,7 @@ pub(crate) fn push_old_changes(
 /// The types of all others are compared at once, and only where they are not the same, those of
 /// each half of the paths. On an error some changes may have been pushed.
 ///
-/// Errors: `Retain(Dangling)`, where an entry refers to an id that is no index; `Memory`, where an
+/// Errors: `Dangling`, where an entry refers to an id that is no index; `Memory`, where an
 /// allocation failed.
 fn push_by_halves(
     alloc: Global,

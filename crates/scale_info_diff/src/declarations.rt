@@ -64,7 +64,7 @@ pub fn first_declared_change(
 /// many paths reads both tables once, and each answer takes time for what is kept of them.
 ///
 /// Errors, of the old table before the new one: `NoSuchType`, for the first id that is no index;
-/// `Retain(Dangling)`, where an id is reached that is no index; `Memory`, where an allocation
+/// `Dangling`, for the first id that is reached and is no index; `Memory`, where an allocation
 /// failed.
 pub fn declared_change_of(
     alloc: Global,

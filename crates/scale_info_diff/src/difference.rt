@@ -25,10 +25,10 @@ use std::collections::BTreeMap;
 /// that order; ids themselves don't count. Docs count: write both tables without docs first where
 /// they should not.
 ///
-/// Errors, of the old table before the new one: `Decode(Malformed)`, where no prefix of the input
-/// is a table; `Trailing`, where bytes come after it; `NoSuchType`, for the first id that is no
-/// index; `Retain(Dangling)`, where an id is reached that is no index; `Memory`, where an
-/// allocation failed.
+/// Errors, of the old table before the new one: `Malformed`, where no prefix of the input is a
+/// table; `Trailing`, where bytes come after it; `NoSuchType`, for the first id that is no index;
+/// `Dangling`, for the first id that is reached and is no index; `Memory`, where an allocation
+/// failed.
 ///
 /// ```text
 /// // `a::T { x: u8, y: b::U }` in both, with ids 0 and 3; `b::U` has one field more in new

@@ -33,8 +33,8 @@ pub struct NamedTable<'a> {
 impl<'a> NamedTable<'a> {
     /// The table that these bytes are.
     ///
-    /// Errors: `Decode(Malformed)`, where no prefix of them is a table; `Trailing`, where bytes
-    /// come after it; `Memory`, where an allocation failed.
+    /// Errors: `Malformed`, where no prefix of them is a table; `Trailing`, where bytes come after
+    /// it; `Memory`, where an allocation failed.
     pub fn of(alloc: Global, bytes: &'a [u8]) -> Result<NamedTable<'a>, PruneError>
         ensures ok { IfOk result (λ table. (types : List PortableType) × IsNamedTable types
             table.bytes.now table.paths (map (λ row. row.items) table.ids.items)) }
@@ -71,7 +71,7 @@ pub(crate) fn table_of(alloc: Global, bytes: &[u8]) -> Result<PortableRegistry, 
 {
     let (table, rest) = match PortableRegistry::decode(alloc, bytes) {
         Ok(found) => found,
-        Err(DecodeError::Malformed) => return Err(PruneError::Decode(DecodeError::Malformed)),
+        Err(DecodeError::Malformed) => return Err(PruneError::Malformed),
         Err(DecodeError::Memory) => return Err(PruneError::Memory),
     };
     if !rest.is_empty() {

@@ -10,9 +10,9 @@ ghost use Rattle.scale_info_encode.specs.Writings.{writings};
 use crate::definition::definition_of;
 use crate::failure::PartError;
 use crate::integer::compact;
-use scale_info_tables::portable::PortableRegistry;
 use scale_info_types::form::PortableForm;
 use scale_info_types::ty::{TypeDef, TypeDefPrimitive};
+use scale_info_value::definition::Definitions;
 use scale_info_value::value::Dyn;
 
 /// Appends a compact integer that is at most this one.
@@ -54,16 +54,18 @@ fn compact_primitive(
 
 /// Appends a compact integer of the type with this id, where so many levels are left.
 #[cycle(compact)]
-pub fn compact_within(
-    table: &PortableRegistry,
+pub fn compact_within<T: Definitions>(
+    table: &T,
     id: u32,
     left: u8,
     value: &Dyn,
     out: &mut Vec<u8>,
 ) -> Result<(), PartError>
     ensures ok { OnOk result
-        (Appends (compact_at writings left table.now id value.now) out.old.items out.new.items) }
-    ensures err { IfErr result (Fails (compact_at writings left table.now id value.now) []) }
+        (Appends (compact_at writings left (T.table table.now) id value.now) out.old.items
+        out.new.items) }
+    ensures err { IfErr result (Fails (compact_at writings left
+        (T.table table.now) id value.now) []) }
     ensures same { OnErr result (out.new.items ≡ out.old.items) }
 {
     let definition = definition_of(table, id, left)?;
@@ -72,8 +74,8 @@ pub fn compact_within(
 
 /// Appends a compact integer by the definition of its type.
 #[cycle(compact)]
-fn compact_by(
-    table: &PortableRegistry,
+fn compact_by<T: Definitions>(
+    table: &T,
     definition: &TypeDef<PortableForm>,
     left: u8,
     value: &Dyn,
@@ -81,10 +83,10 @@ fn compact_by(
 ) -> Result<(), PartError>
     requires { 1 ≤ left }
     ensures ok { OnOk result
-        (Appends (compact_defined_at writings left table.now definition.now value.now)
+        (Appends (compact_defined_at writings left (T.table table.now) definition.now value.now)
         out.old.items out.new.items) }
     ensures err { IfErr result
-        (Fails (compact_defined_at writings left table.now definition.now value.now) []) }
+        (Fails (compact_defined_at writings left (T.table table.now) definition.now value.now) []) }
     ensures same { OnErr result (out.new.items ≡ out.old.items) }
 {
     match definition {

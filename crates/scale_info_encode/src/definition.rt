@@ -9,35 +9,35 @@ ghost use Rattle.scale_info_encode.specs.Failures.{Fails};
 ghost use Rattle.scale_info_encode.specs.Writings.{writings};
 
 use crate::failure::PartError;
-use scale_info_tables::portable::PortableRegistry;
 use scale_info_types::form::PortableForm;
 use scale_info_types::ty::TypeDef;
+use scale_info_value::definition::Definitions;
 
 /// The definition of the type with this id, where so many levels are left for a value of it.
 ///
 /// Errors: `TooDeep`, where none is left; `NoSuchType`, where the id is no index.
 #[inline(always)]
-pub fn definition_of(
-    table: &PortableRegistry,
+pub fn definition_of<T: Definitions>(
+    table: &T,
     id: u32,
     left: u8,
 ) -> Result<&TypeDef<PortableForm>, PartError>
     ensures level { IfOk result (λ _. 1 ≤ left) }
     ensures known { IfOk result (λ found. (value : Dyn)
-        → (value_at writings left table.now id value
-        ≡ defined_at writings left table.now found.now value)
-        × (compact_at writings left table.now id value
-        ≡ compact_defined_at writings left table.now found.now value)) }
+        → (value_at writings left (T.table table.now) id value
+        ≡ defined_at writings left (T.table table.now) found.now value)
+        × (compact_at writings left (T.table table.now) id value
+        ≡ compact_defined_at writings left (T.table table.now) found.now value)) }
     ensures unknown { IfErr result (λ why. (value : Dyn) (steps : List Step)
-        → Fails (value_at writings left table.now id value) steps why
-        × Fails (compact_at writings left table.now id value) steps why) }
+        → Fails (value_at writings left (T.table table.now) id value) steps why
+        × Fails (compact_at writings left (T.table table.now) id value) steps why) }
     ensures not_memory { IfErr result (λ why. why ≢ failure.Memory) }
 {
     if left == 0 {
         return Err(PartError::TooDeep);
     }
-    match table.resolve(id) {
+    match table.definition(id) {
         None => Err(PartError::NoSuchType),
-        Some(ty) => Ok(&ty.type_def),
+        Some(definition) => Ok(definition),
     }
 }

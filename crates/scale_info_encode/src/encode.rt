@@ -19,18 +19,19 @@ use crate::primitive::primitive;
 use scale_info_collections::text::Text;
 use scale_info_identities::symbol::UntrackedSymbol;
 use scale_info_identities::type_id::TypeId;
-use scale_info_tables::portable::PortableRegistry;
 use scale_info_types::form::PortableForm;
 use scale_info_types::ty::{
     Field, TypeDef, TypeDefArray, TypeDefComposite, TypeDefMap, TypeDefSequence, TypeDefTuple,
     TypeDefVariant,
 };
+use scale_info_value::definition::Definitions;
 use scale_info_value::value::Dyn;
 use scale_info_value::variants::variant_with_index;
 
 /// Appends the encoding of a value of the type with this id.
 ///
-/// An id is an index of the table, as for [`PortableRegistry::resolve`]. What is appended is
+/// An id is an index of the table that `table` stands for, which is a table itself or what was
+/// loaded of one: see [`Definitions`](scale_info_value::definition::Definitions). What is appended is
 /// decoded by `decode_value` as this value, whatever follows it, and a value that `decode_value`
 /// gave is encoded to the bytes that it was decoded from. The parts of a value are encoded in
 /// order, and the first error is returned; where there is one, the output is as it was before the
@@ -49,17 +50,17 @@ use scale_info_value::variants::variant_with_index;
 ///
 /// ```text
 /// encode_value(&table, 0, &value, &mut out)?;   // appends [8, 1, 0, 0, 0, 2, 0, 0, 0]
-/// // with `true` in the place of 2 the error is printed as `Mismatch at 1`
+/// // with `true` in place of 2 the error is `the value does not fit its type at 1`
 /// ```
-pub fn encode_value(
-    table: &PortableRegistry,
+pub fn encode_value<T: Definitions>(
+    table: &T,
     id: u32,
     value: &Dyn,
     out: &mut Vec<u8>,
 ) -> Result<(), EncodeValueError>
     ensures ok { OnOk result
-        (Appends (writing table.now id 1 value.now) out.old.items out.new.items) }
-    ensures err { IfErr result (IsErrorOf (writing table.now id 1 value.now)) }
+        (Appends (writing (T.table table.now) id 1 value.now) out.old.items out.new.items) }
+    ensures err { IfErr result (IsErrorOf (writing (T.table table.now) id 1 value.now)) }
     ensures same { OnErr result (out.new.items ≡ out.old.items) }
 {
     let start = out.len();
@@ -77,8 +78,8 @@ pub fn encode_value(
 /// of its bytes may stand at the end.
 #[cycle(value)]
 #[inline(always)]
-fn value_within(
-    table: &PortableRegistry,
+fn value_within<T: Definitions>(
+    table: &T,
     id: u32,
     left: u8,
     value: &Dyn,
@@ -86,9 +87,10 @@ fn value_within(
     steps: &mut Vec<Step>,
 ) -> Result<(), PartError>
     ensures ok { OnOk result
-        (Appends (value_at writings left table.now id value.now) out.old.items out.new.items) }
+        (Appends (value_at writings left (T.table table.now) id value.now) out.old.items
+        out.new.items) }
     ensures err { IfErr result
-        (Fails (value_at writings left table.now id value.now) steps.new.items) }
+        (Fails (value_at writings left (T.table table.now) id value.now) steps.new.items) }
     ensures kept { OnErr result (IsPrefix out.old.items out.new.items) }
 {
     let definition = definition_of(table, id, left)?;
@@ -101,8 +103,8 @@ fn value_within(
 /// into it: so a level of a value takes the stack of its own kind, and not that of all.
 #[cycle(value)]
 #[inline(never)]
-fn value_by(
-    table: &PortableRegistry,
+fn value_by<T: Definitions>(
+    table: &T,
     definition: &TypeDef<PortableForm>,
     left: u8,
     value: &Dyn,
@@ -111,10 +113,11 @@ fn value_by(
 ) -> Result<(), PartError>
     requires { 1 ≤ left }
     ensures ok { OnOk result
-        (Appends (defined_at writings left table.now definition.now value.now)
+        (Appends (defined_at writings left (T.table table.now) definition.now value.now)
         out.old.items out.new.items) }
     ensures err { IfErr result
-        (Fails (defined_at writings left table.now definition.now value.now) steps.new.items) }
+        (Fails (defined_at writings left (T.table table.now) definition.now value.now)
+        steps.new.items) }
     ensures kept { OnErr result (IsPrefix out.old.items out.new.items) }
 {
     match definition {
@@ -136,8 +139,8 @@ fn value_by(
 /// Appends a value of a struct.
 #[cycle(value)]
 #[inline(never)]
-fn composite_value(
-    table: &PortableRegistry,
+fn composite_value<T: Definitions>(
+    table: &T,
     composite: &TypeDefComposite<PortableForm>,
     left: u8,
     value: &Dyn,
@@ -146,10 +149,12 @@ fn composite_value(
 ) -> Result<(), PartError>
     requires { 1 ≤ left }
     ensures ok { OnOk result
-        (Appends (defined_at writings left table.now (def.Composite composite.now) value.now)
+        (Appends (defined_at writings left (T.table table.now)
+        (def.Composite composite.now) value.now)
         out.old.items out.new.items) }
     ensures err { IfErr result
-        (Fails (defined_at writings left table.now (def.Composite composite.now) value.now)
+        (Fails (defined_at writings left (T.table table.now)
+        (def.Composite composite.now) value.now)
         steps.new.items) }
     ensures kept { OnErr result (IsPrefix out.old.items out.new.items) }
 {
@@ -171,8 +176,8 @@ fn composite_value(
 /// Appends a value of an enum.
 #[cycle(value)]
 #[inline(never)]
-fn variant_value(
-    table: &PortableRegistry,
+fn variant_value<T: Definitions>(
+    table: &T,
     choice: &TypeDefVariant<PortableForm>,
     left: u8,
     value: &Dyn,
@@ -181,10 +186,10 @@ fn variant_value(
 ) -> Result<(), PartError>
     requires { 1 ≤ left }
     ensures ok { OnOk result
-        (Appends (defined_at writings left table.now (def.Variant choice.now) value.now)
+        (Appends (defined_at writings left (T.table table.now) (def.Variant choice.now) value.now)
         out.old.items out.new.items) }
     ensures err { IfErr result
-        (Fails (defined_at writings left table.now (def.Variant choice.now) value.now)
+        (Fails (defined_at writings left (T.table table.now) (def.Variant choice.now) value.now)
         steps.new.items) }
     ensures kept { OnErr result (IsPrefix out.old.items out.new.items) }
 {
@@ -216,8 +221,8 @@ fn variant_value(
 /// Appends a value of a sequence.
 #[cycle(value)]
 #[inline(never)]
-fn sequence_value(
-    table: &PortableRegistry,
+fn sequence_value<T: Definitions>(
+    table: &T,
     sequence: &TypeDefSequence<PortableForm>,
     left: u8,
     value: &Dyn,
@@ -226,10 +231,11 @@ fn sequence_value(
 ) -> Result<(), PartError>
     requires { 1 ≤ left }
     ensures ok { OnOk result
-        (Appends (defined_at writings left table.now (def.Sequence sequence.now) value.now)
+        (Appends (defined_at writings left (T.table table.now)
+        (def.Sequence sequence.now) value.now)
         out.old.items out.new.items) }
     ensures err { IfErr result
-        (Fails (defined_at writings left table.now (def.Sequence sequence.now) value.now)
+        (Fails (defined_at writings left (T.table table.now) (def.Sequence sequence.now) value.now)
         steps.new.items) }
     ensures kept { OnErr result (IsPrefix out.old.items out.new.items) }
 {
@@ -254,8 +260,8 @@ fn sequence_value(
 /// Appends a value of an array.
 #[cycle(value)]
 #[inline(never)]
-fn array_value(
-    table: &PortableRegistry,
+fn array_value<T: Definitions>(
+    table: &T,
     array: &TypeDefArray<PortableForm>,
     left: u8,
     value: &Dyn,
@@ -264,10 +270,10 @@ fn array_value(
 ) -> Result<(), PartError>
     requires { 1 ≤ left }
     ensures ok { OnOk result
-        (Appends (defined_at writings left table.now (def.Array array.now) value.now)
+        (Appends (defined_at writings left (T.table table.now) (def.Array array.now) value.now)
         out.old.items out.new.items) }
     ensures err { IfErr result
-        (Fails (defined_at writings left table.now (def.Array array.now) value.now)
+        (Fails (defined_at writings left (T.table table.now) (def.Array array.now) value.now)
         steps.new.items) }
     ensures kept { OnErr result (IsPrefix out.old.items out.new.items) }
 {
@@ -291,8 +297,8 @@ fn array_value(
 /// Appends so many values of one type. The type is looked up once for all of them.
 #[cycle(value)]
 #[inline(always)]
-fn items(
-    table: &PortableRegistry,
+fn items<T: Definitions>(
+    table: &T,
     ty: &UntrackedSymbol<TypeId>,
     count: usize,
     left: u8,
@@ -302,10 +308,11 @@ fn items(
 ) -> Result<(), PartError>
     requires { 1 ≤ left }
     ensures ok { OnOk result
-        (Appends (items count (part_within left table.now ty.now) values.now)
+        (Appends (items count (part_within left (T.table table.now) ty.now) values.now)
         out.old.items out.new.items) }
     ensures err { IfErr result
-        (Fails (items count (part_within left table.now ty.now) values.now) steps.new.items) }
+        (Fails (items count (part_within left (T.table table.now) ty.now) values.now)
+        steps.new.items) }
     ensures kept { OnErr result (IsPrefix out.old.items out.new.items) }
 {
     if count == 0 && values.is_empty() {
@@ -324,8 +331,8 @@ fn items(
 /// Appends so many values by the definition of their type.
 #[cycle(value)]
 #[inline(always)]
-fn items_by(
-    table: &PortableRegistry,
+fn items_by<T: Definitions>(
+    table: &T,
     definition: &TypeDef<PortableForm>,
     count: usize,
     left: u8,
@@ -335,11 +342,13 @@ fn items_by(
 ) -> Result<(), PartError>
     requires { 1 ≤ left }
     ensures ok { OnOk result (Appends
-        (in_turn 0 (replicate count (item (defined_at writings left table.now definition.now)))
+        (in_turn 0 (replicate count (item (defined_at writings left
+        (T.table table.now) definition.now)))
         values.now)
         out.old.items out.new.items) }
     ensures err { IfErr result (Fails
-        (in_turn 0 (replicate count (item (defined_at writings left table.now definition.now)))
+        (in_turn 0 (replicate count (item (defined_at writings left
+        (T.table table.now) definition.now)))
         values.now) steps.new.items) }
     ensures kept { OnErr result (IsPrefix out.old.items out.new.items) }
 {
@@ -362,8 +371,8 @@ fn items_by(
 /// Appends a value of a tuple.
 #[cycle(value)]
 #[inline(never)]
-fn tuple_value(
-    table: &PortableRegistry,
+fn tuple_value<T: Definitions>(
+    table: &T,
     tuple: &TypeDefTuple<PortableForm>,
     left: u8,
     value: &Dyn,
@@ -372,10 +381,10 @@ fn tuple_value(
 ) -> Result<(), PartError>
     requires { 1 ≤ left }
     ensures ok { OnOk result
-        (Appends (defined_at writings left table.now (def.Tuple tuple.now) value.now)
+        (Appends (defined_at writings left (T.table table.now) (def.Tuple tuple.now) value.now)
         out.old.items out.new.items) }
     ensures err { IfErr result
-        (Fails (defined_at writings left table.now (def.Tuple tuple.now) value.now)
+        (Fails (defined_at writings left (T.table table.now) (def.Tuple tuple.now) value.now)
         steps.new.items) }
     ensures kept { OnErr result (IsPrefix out.old.items out.new.items) }
 {
@@ -397,8 +406,8 @@ fn tuple_value(
 /// Appends a value of each type in order.
 #[cycle(value)]
 #[inline(always)]
-fn members(
-    table: &PortableRegistry,
+fn members<T: Definitions>(
+    table: &T,
     types: &[UntrackedSymbol<TypeId>],
     left: u8,
     values: &[Dyn],
@@ -407,10 +416,10 @@ fn members(
 ) -> Result<(), PartError>
     requires { 1 ≤ left }
     ensures ok { OnOk result
-        (Appends (members (map (part_within left table.now) types.now) values.now)
+        (Appends (members (map (part_within left (T.table table.now)) types.now) values.now)
         out.old.items out.new.items) }
     ensures err { IfErr result
-        (Fails (members (map (part_within left table.now) types.now) values.now)
+        (Fails (members (map (part_within left (T.table table.now)) types.now) values.now)
         steps.new.items) }
     ensures kept { OnErr result (IsPrefix out.old.items out.new.items) }
 {
@@ -433,8 +442,8 @@ fn members(
 /// Appends a value of each field's type in order, which is to have the field's name.
 #[cycle(value)]
 #[inline(always)]
-fn fields(
-    table: &PortableRegistry,
+fn fields<T: Definitions>(
+    table: &T,
     all: &[Field<PortableForm>],
     left: u8,
     values: &[(Option<Text>, Dyn)],
@@ -443,9 +452,10 @@ fn fields(
 ) -> Result<(), PartError>
     requires { 1 ≤ left }
     ensures ok { OnOk result
-        (Appends (fields_within left table.now all.now values.now) out.old.items out.new.items) }
+        (Appends (fields_within left (T.table table.now) all.now values.now) out.old.items
+        out.new.items) }
     ensures err { IfErr result
-        (Fails (fields_within left table.now all.now values.now) steps.new.items) }
+        (Fails (fields_within left (T.table table.now) all.now values.now) steps.new.items) }
     ensures kept { OnErr result (IsPrefix out.old.items out.new.items) }
 {
     let mut rest = values;
@@ -471,8 +481,8 @@ fn fields(
 /// Appends a value of a map.
 #[cycle(value)]
 #[inline(never)]
-fn map_value(
-    table: &PortableRegistry,
+fn map_value<T: Definitions>(
+    table: &T,
     map: &TypeDefMap<PortableForm>,
     left: u8,
     value: &Dyn,
@@ -481,10 +491,10 @@ fn map_value(
 ) -> Result<(), PartError>
     requires { 1 ≤ left }
     ensures ok { OnOk result
-        (Appends (defined_at writings left table.now (def.Map map.now) value.now)
+        (Appends (defined_at writings left (T.table table.now) (def.Map map.now) value.now)
         out.old.items out.new.items) }
     ensures err { IfErr result
-        (Fails (defined_at writings left table.now (def.Map map.now) value.now)
+        (Fails (defined_at writings left (T.table table.now) (def.Map map.now) value.now)
         steps.new.items) }
     ensures kept { OnErr result (IsPrefix out.old.items out.new.items) }
 {
@@ -501,8 +511,8 @@ fn map_value(
 /// Appends pairs of a key and a value, each a list of two.
 #[cycle(value)]
 #[inline(always)]
-fn pairs(
-    table: &PortableRegistry,
+fn pairs<T: Definitions>(
+    table: &T,
     key: &UntrackedSymbol<TypeId>,
     value: &UntrackedSymbol<TypeId>,
     left: u8,
@@ -512,12 +522,12 @@ fn pairs(
 ) -> Result<(), PartError>
     requires { 1 ≤ left }
     ensures ok { OnOk result (Appends
-        (pairs (length entries.now) (part_within left table.now key.now)
-        (part_within left table.now value.now) entries.now)
+        (pairs (length entries.now) (part_within left (T.table table.now) key.now)
+        (part_within left (T.table table.now) value.now) entries.now)
         out.old.items out.new.items) }
     ensures err { IfErr result (Fails
-        (pairs (length entries.now) (part_within left table.now key.now)
-        (part_within left table.now value.now) entries.now)
+        (pairs (length entries.now) (part_within left (T.table table.now) key.now)
+        (part_within left (T.table table.now) value.now) entries.now)
         steps.new.items) }
     ensures kept { OnErr result (IsPrefix out.old.items out.new.items) }
 {
@@ -531,8 +541,8 @@ fn pairs(
 
 /// Appends a key and a value.
 #[cycle(value)]
-fn pair(
-    table: &PortableRegistry,
+fn pair<T: Definitions>(
+    table: &T,
     key: &UntrackedSymbol<TypeId>,
     value: &UntrackedSymbol<TypeId>,
     left: u8,
@@ -542,10 +552,10 @@ fn pair(
 ) -> Result<(), PartError>
     requires { 1 ≤ left }
     ensures ok { OnOk result
-        (Appends (pair_within left table.now key.now value.now entry.now)
+        (Appends (pair_within left (T.table table.now) key.now value.now entry.now)
         out.old.items out.new.items) }
     ensures err { IfErr result
-        (Fails (pair_within left table.now key.now value.now entry.now) steps.new.items) }
+        (Fails (pair_within left (T.table table.now) key.now value.now entry.now) steps.new.items) }
     ensures kept { OnErr result (IsPrefix out.old.items out.new.items) }
 {
     let Dyn::List(both) = entry else {

@@ -10,23 +10,23 @@ use thiserror::Error;
 #[derive(Debug, Drop, PartialEq, Eq, Error)]
 pub enum EncodeValueError {
     /// An id is no index of the table.
-    #[error("NoSuchType")]
+    #[error("no such type")]
     NoSuchType,
     /// A type whose values are not encoded: `char`, `u256`, `i256`, bit sequences, and compact
     /// types that are no unsigned integer of up to 128 bits.
-    #[error("Unsupported")]
+    #[error("values of the type are not encoded")]
     Unsupported,
     /// A value more than 128 deep.
-    #[error("TooDeep")]
+    #[error("the value is more than 128 deep")]
     TooDeep,
     /// The value is none of the type, and this is the path to the first part that is none of its
     /// own: to the list or the record, where it has too many parts, or too few; to the field, where
     /// it has another name than the type says; to the variant, where its name and index are those
     /// of none.
-    #[error("Mismatch at {0}")]
+    #[error("the value does not fit its type at {0}")]
     Mismatch(ValuePath),
     /// An allocation failed.
-    #[error("Memory")]
+    #[error("out of memory")]
     Memory,
 }
 

@@ -1,7 +1,7 @@
 -- A registered table, pruned, is the table of what is chosen, registered afresh.
 use Rattle.std.proofs.Common.{◌≡◌, ◌<◌, ◌↔◌, ℕ, zero, suc, List, [], ◌∷◌, length, map, true}
-use Rattle.std.proofs.Common.{Bool, false, Some, slice_get, ap, sym, ◌∙◌, subst, arith, Contains}
-use Rattle.std.proofs.Common.{inl, inr, ◌⊎◌}
+use Rattle.std.proofs.Common.{Bool, false, Some, slice_get, ap, sym, ◌∙◌, subst, arith, refl, Contains}
+use Rattle.std.proofs.Common.{inl, inr}
 use Rattle.std.proofs.lemmas.List.Elements.{Contains-append_cases}
 use Rattle.std.proofs.lemmas.Option.{slice_get-map, none-some}
 use Rattle.std.specs.BTreeMap.{BTreeMap}
@@ -25,13 +25,9 @@ use Rattle.scale_info_walk.specs.TypeSystems.{entry_of, types_system}
 use Rattle.scale_info_bytes.specs.Encodings.{HasNoEncoding, IfTooLong}
 use Rattle.scale_info_bytes.specs.declared.error.EncodeError.{EncodeError}
 use Rattle.scale_info_bytes.specs.declared.error.EncodeError.TheVariants as encode
-use Rattle.scale_info_catalogue.specs.Discoveries.{IsCause}
-use Rattle.scale_info_catalogue.specs.declared.discovery.RegisterError.{RegisterError}
-use Rattle.scale_info_catalogue.specs.declared.discovery.RegisterError.TheVariants as register
 use Rattle.scale_info_tables.specs.TableEncoding.{EncodesRegistry}
-use Rattle.scale_info_export.specs.Exports.{IsExportError, IsExported, IsNotRegistered}
-use Rattle.scale_info_export.specs.Exports.{IsRegisteredTable}
-use Rattle.scale_info_export.specs.Exports.{of_encode, of_register, of_retain}
+use Rattle.scale_info_export.specs.Exports.{IsExportError, IsExported, IsRegisteredTable}
+use Rattle.scale_info_export.specs.Exports.{of_encode}
 
 -- the entries of a table, as a system, are the system of the list of entries
 pub one_system : (types : List PortableType) → types_system types ≡ table_system (map entry_of types)
@@ -118,12 +114,11 @@ exported S roots ids whole pruned step filter last chosen new_ids r asked p =
     }
 
 -- the table of a registry is pruned, unless an allocation fails
-pub retain_error :
+pub only_memory :
     (S : System Shape Term) (roots : List Term) (ids : List ℕ) (whole : PortableRegistry)
     {F : Type 0} (step : F → ℕ → Bool → F → Type 0) (filter : F) → IsRegisteredTable S roots ids whole
-    → (e : RetainError) → IsRetainError step filter whole.types e
-    → IsExportError S roots step filter (of_retain e)
-retain_error S roots ids whole step filter r (retain.Dangling id) (chosen, last, asked, first, outside) =
+    → (e : RetainError) → IsRetainError step filter whole.types e → e ≡ retain.Memory
+only_memory S roots ids whole step filter r (retain.Dangling id) (chosen, last, asked, first, outside) =
     let T = map entry_of whole.types in
     let count = length-map whole.types entry_of in
     let below : (i : ℕ) → Contains chosen i → i < length T =
@@ -132,8 +127,8 @@ retain_error S roots ids whole step filter r (retain.Dangling id) (chosen, last,
     (outside_reached _ [] chosen id
     (subst (λ s. IsFirstOutside s [] chosen id) (one_system whole.types) first)) in
     absurd (omega (inside, outside, count, arith))
-retain_error S roots ids whole step filter r retain.TooManyTypes many = absurd (omega (many, r.few, arith))
-retain_error S roots ids whole step filter r retain.Memory c = tt
+only_memory S roots ids whole step filter r retain.TooManyTypes many = absurd (omega (many, r.few, arith))
+only_memory S roots ids whole step filter r retain.Memory c = refl
 
 -- a table that can't be written
 pub encode_error :
@@ -143,13 +138,3 @@ pub encode_error :
     → IsExportError S roots step filter (of_encode e)
 encode_error S roots ids new_ids table step filter x encode.TooLong none = (ids, new_ids, table, x, none)
 encode_error S roots ids new_ids table step filter x encode.Memory none = tt
-
--- types that can't be registered
-pub register_error :
-    (S : System Shape Term) (roots : List Term) (e : RegisterError) → (e ≡ register.Memory) ⊎ IsCause S [] roots e
-    → IsNotRegistered S roots (of_register e)
-register_error S roots (register.Undescribed id) (inl m) = cc
-register_error S roots (register.Undescribed id) (inr cause) = cause
-register_error S roots register.Full (inl m) = cc
-register_error S roots register.Full (inr cause) = cause
-register_error S roots register.Memory cause = tt

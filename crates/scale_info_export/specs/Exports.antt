@@ -5,11 +5,10 @@ use Rattle.std.specs.Ordering.{nat_cmp}
 use Rattle.scale_info_bytes.specs.Encodings.{HasNoEncoding}
 use Rattle.scale_info_bytes.specs.declared.error.EncodeError.{EncodeError}
 use Rattle.scale_info_bytes.specs.declared.error.EncodeError.TheVariants as encode
-use Rattle.scale_info_identities.specs.TypeIds.{Term}
+use Rattle.scale_info_identities.specs.TypeIds.{Term, term_of}
 use Rattle.scale_info_numberings.specs.Numberings.{IsNumbering}
 use Rattle.scale_info_numberings.specs.Systems.{System}
 use Rattle.scale_info_numberings.specs.Tables.{ArePlaces, IsTable}
-use Rattle.scale_info_catalogue.specs.Discoveries as discoveries
 use Rattle.scale_info_catalogue.specs.Discoveries.{IsCause}
 use Rattle.scale_info_catalogue.specs.declared.discovery.RegisterError.{RegisterError}
 use Rattle.scale_info_catalogue.specs.declared.discovery.RegisterError.TheVariants as register
@@ -19,11 +18,9 @@ use Rattle.scale_info_types.specs.Shapes.{Shape}
 use Rattle.scale_info_types.specs.declared.ty.PortableType.{PortableType}
 use Rattle.scale_info_tables.specs.Pruned.{IsChosen}
 use Rattle.scale_info_walk.specs.TypeSystems.{entry_of}
-use Rattle.scale_info_walk.specs.declared.walk.RetainError.{RetainError}
-use Rattle.scale_info_walk.specs.declared.walk.RetainError.TheVariants as retain
 use Rattle.scale_info_export.specs.declared.export.ExportError.{ExportError}
-use Rattle.scale_info_export.specs.declared.export.ExportError.TheVariants.{Register, Retain}
-use Rattle.scale_info_export.specs.declared.export.ExportError.TheVariants.{Encode, Memory}
+use Rattle.scale_info_export.specs.declared.export.ExportError.TheVariants.{Undescribed, Full}
+use Rattle.scale_info_export.specs.declared.export.ExportError.TheVariants.{TooLong, Memory}
 
 -- The table of the one numbering of the catalogue from the roots, which stand in it at these ids.
 -- Each of its references leads to an entry, and there are no more entries than ids.
@@ -60,52 +57,34 @@ pub record IsExported (S : System Shape Term) (roots : List Term) {F : Type 0}
       → (get nat_cmp new_ids old ≡ Some new)
       ↔ ((n : Term) × (slice_get order old ≡ Some n) × (slice_get kept new ≡ Some n))
 
--- why the roots were not registered: a type that is reached has no description; there are too many;
--- or an allocation failed
-abbrev pub IsNotRegistered : System Shape Term → List Term → ExportError → Type 0
-IsNotRegistered S roots (Register register.Memory) = ⊥
-IsNotRegistered S roots (Register (register.Undescribed id)) =
-    IsCause S [] roots (register.Undescribed id)
-IsNotRegistered S roots (Register register.Full) = IsCause S [] roots register.Full
-IsNotRegistered S roots (Retain e) = ⊥
-IsNotRegistered S roots (Encode e) = ⊥
-IsNotRegistered S roots Memory = ⊤
-
--- why nothing was exported: the roots were not registered, or the table has no encoding
+-- why nothing was exported: a type that is reached has no description; there are too many; the
+-- table has no encoding; or an allocation failed
 abbrev pub IsExportError :
     System Shape Term
     → List Term → {F : Type 0} → (F → ℕ → Bool → F → Type 0) → F → ExportError → Type 0
-IsExportError S roots step filter (Register e) = IsNotRegistered S roots (Register e)
-IsExportError S roots step filter (Retain e) = ⊥
-IsExportError S roots step filter (Encode encode.TooLong) =
+IsExportError S roots step filter (Undescribed id) = IsCause S [] roots (register.Undescribed id)
+IsExportError S roots step filter Full = IsCause S [] roots register.Full
+IsExportError S roots step filter TooLong =
     (ids : List ℕ) × (new_ids : BTreeMap ℕ ℕ) × (table : PortableRegistry)
     × IsExported S roots step filter ids new_ids table × HasNoEncoding (EncodesRegistry table)
-IsExportError S roots step filter (Encode encode.Memory) = ⊥
 IsExportError S roots step filter Memory = ⊤
 
--- the error of a registration as one of an export: a failed allocation is `Memory`, wherever it
--- failed
+-- the error of a registration as one of an export
 abbrev pub of_register : RegisterError → ExportError
-of_register (register.Undescribed id) = Register (register.Undescribed id)
-of_register register.Full = Register register.Full
+of_register (register.Undescribed id) = Undescribed id
+of_register register.Full = Full
 of_register register.Memory = Memory
 
--- the error of pruning, in the same way
-abbrev pub of_retain : RetainError → ExportError
-of_retain (retain.Dangling id) = Retain (retain.Dangling id)
-of_retain retain.TooManyTypes = Retain retain.TooManyTypes
-of_retain retain.Memory = Memory
-
--- the error of encoding, in the same way
+-- the error of encoding as one of an export
 abbrev pub of_encode : EncodeError → ExportError
-of_encode encode.TooLong = Encode encode.TooLong
+of_encode encode.TooLong = TooLong
 of_encode encode.Memory = Memory
 
 -- the errors are of one variant, and what they hold is the same; an identity is compared as its
 -- term
 abbrev pub AreSameExportErrors : ExportError → ExportError → Type 0
-AreSameExportErrors (Register a) (Register b) = discoveries.AreSameRegisterErrors a b
-AreSameExportErrors (Retain a) (Retain b) = a ≡ b
-AreSameExportErrors (Encode a) (Encode b) = a ≡ b
+AreSameExportErrors (Undescribed a) (Undescribed b) = term_of a ≡ term_of b
+AreSameExportErrors Full Full = ⊤
+AreSameExportErrors TooLong TooLong = ⊤
 AreSameExportErrors Memory Memory = ⊤
 AreSameExportErrors _ _ = ⊥

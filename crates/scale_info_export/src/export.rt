@@ -3,7 +3,6 @@ ghost use Rattle.std.specs.Prelude.{◌≡◌, IfErr, IfOk, OnErr, OnOk};
 ghost use Rattle.scale_info_bytes.specs.Encodings.{AppendsEncoding};
 ghost use Rattle.scale_info_export.specs.Exports.{IsExportError, IsExported};
 ghost use Rattle.scale_info_export.specs.Exports.{of_encode, of_register};
-ghost use Rattle.scale_info_export.specs.Exports.{of_retain};
 ghost use Rattle.scale_info_export.specs.declared.export.ExportError.TheVariants as export_error;
 ghost use Rattle.scale_info_catalogue.specs.CatalogueSystems.{catalogue_system};
 ghost use Rattle.scale_info_catalogue.specs.Discoveries.{roots_of};
@@ -14,6 +13,7 @@ use crate::laws::registered_tables;
 use crate::lent::{LentEntries, encode_kept, number_kept};
 use scale_info_bytes::error::EncodeError;
 use scale_info_catalogue::catalogue::Catalogue;
+use scale_info_identities::type_id::TypeId;
 use scale_info_registry::registry::{RegisterError, lend_types};
 use scale_info_types::meta_type::MetaType;
 use scale_info_walk::walk::RetainError;
@@ -30,21 +30,22 @@ pub struct Exported {
     pub map: BTreeMap<u32, u32>,
 }
 
-/// Why types could not be exported. It is displayed as the name of the variant alone.
+/// Why types could not be exported.
 #[derive(Debug, Drop, PartialEq, Eq, Error)]
 pub enum ExportError {
-    /// A type could not be registered.
-    #[error("Register")]
-    Register(RegisterError),
-    /// The table could not be pruned. This never comes: the table of a registry is closed, and has
-    /// at most 4294967295 types.
-    #[error("Retain")]
-    Retain(RetainError),
-    /// The pruned table has no encoding.
-    #[error("Encode")]
-    Encode(EncodeError),
+    /// The type with this identity is reached, and has no description in the catalogue. It is
+    /// displayed by its head alone.
+    #[error("the type {} has no description", .0.head())]
+    Undescribed(TypeId),
+    /// More than 4294967295 types are reached.
+    #[error("there are more than 4294967295 types")]
+    Full,
+    /// The pruned table has no encoding, since a list or a text of it has more than 4294967295
+    /// items or bytes.
+    #[error("the table has a list or a text that is too long")]
+    TooLong,
     /// An allocation failed.
-    #[error("Memory")]
+    #[error("out of memory")]
     Memory,
 }
 
@@ -69,23 +70,9 @@ impl From<RegisterError> for ExportError {
 
     fn from(e: RegisterError) -> ExportError {
         match e {
+            RegisterError::Undescribed(id) => ExportError::Undescribed(id),
+            RegisterError::Full => ExportError::Full,
             RegisterError::Memory => ExportError::Memory,
-            RegisterError::Full => ExportError::Register(RegisterError::Full),
-            RegisterError::Undescribed(id) => {
-                ExportError::Register(RegisterError::Undescribed(id))
-            }
-        }
-    }
-}
-
-impl From<RetainError> for ExportError {
-    ghost from_gives = { λ cause e. e ≡ of_retain cause };
-
-    fn from(e: RetainError) -> ExportError {
-        match e {
-            RetainError::Memory => ExportError::Memory,
-            RetainError::TooManyTypes => ExportError::Retain(RetainError::TooManyTypes),
-            RetainError::Dangling { id } => ExportError::Retain(RetainError::Dangling { id }),
         }
     }
 }
@@ -95,8 +82,8 @@ impl From<EncodeError> for ExportError {
 
     fn from(e: EncodeError) -> ExportError {
         match e {
+            EncodeError::TooLong => ExportError::TooLong,
             EncodeError::Memory => ExportError::Memory,
-            EncodeError::TooLong => ExportError::Encode(EncodeError::TooLong),
         }
     }
 }
@@ -108,11 +95,10 @@ impl From<EncodeError> for ExportError {
 /// once for each id, from 0 up. What is written is what one would get by registering the chosen
 /// types alone, in ascending order of id. To read it back, decode the bytes.
 ///
-/// Errors: `Register(Undescribed)`, where a type that is reached has no description in the
-/// catalogue; `Register(Full)`, where more than 4294967295 types are reached; `Encode(TooLong)`,
-/// where the table has no encoding, since a list or a text of it has more than 4294967295 items or
-/// bytes; `Memory`, where an allocation failed, wherever that was. On an Err the output is as
-/// before. `Retain` never comes.
+/// Errors: `Undescribed`, where a type that is reached has no description in the catalogue; `Full`,
+/// where more than 4294967295 types are reached; `TooLong`, where the table has no encoding, since
+/// a list or a text of it has more than 4294967295 items or bytes; `Memory`, where an allocation
+/// failed. On an Err the output is as before.
 ///
 /// ```text
 /// let types = [meta_type::<bool>(alloc)?, meta_type::<Vec<u32>>(alloc)?];
@@ -161,7 +147,12 @@ fn export_lent<'c, F: FnMut(u32) -> bool>(
         numbers: found.numbers,
         descriptions: found.descriptions,
     };
-    let kept = number_kept(alloc, &lent, filter)?;
+    let kept = match number_kept(alloc, &lent, filter) {
+        Ok(kept) => kept,
+        Err(RetainError::Memory) => return Err(ExportError::Memory),
+        Err(RetainError::Dangling { .. }) => unreachable!(),
+        Err(RetainError::TooManyTypes) => unreachable!(),
+    };
     encode_kept(&lent, &kept.order, &kept.numbers, out)?;
     Ok(Exported {
         ids: found.ids,

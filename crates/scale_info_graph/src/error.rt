@@ -5,20 +5,20 @@ ghost use Rattle.scale_info_graph.specs.declared.error.GraphError.TheVariants as
 use scale_info_collections::failure::AllocationFailure;
 use thiserror::Error;
 
-/// Why a graph could not be written. It is displayed as the name of the variant alone.
+/// Why a graph could not be written.
 #[derive(Debug, Drop, PartialEq, Eq, Error)]
 pub enum GraphError {
     /// An id is reached that is no index of the table.
-    #[error("Dangling")]
+    #[error("dangling id {id}")]
     Dangling {
         /// The first such id that the walk came to.
         id: u32,
     },
     /// The table has more than 4294967295 entries.
-    #[error("TooManyTypes")]
+    #[error("the table has more than 4294967295 types")]
     TooManyTypes,
     /// An allocation failed.
-    #[error("Memory")]
+    #[error("out of memory")]
     Memory,
 }
 

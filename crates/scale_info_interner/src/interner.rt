@@ -50,10 +50,10 @@ impl<'a, T> TryClone for Symbol<'a, T> {
 #[derive(Debug, Drop, PartialEq, Eq, Error)]
 pub enum InternError {
     /// The value is new, and there are 4294967295 elements already.
-    #[error("Full")]
+    #[error("there are 4294967295 elements already")]
     Full,
     /// An allocation failed.
-    #[error("Memory")]
+    #[error("out of memory")]
     Memory,
 }
 

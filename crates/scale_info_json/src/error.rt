@@ -9,10 +9,10 @@ use thiserror::Error;
 #[derive(Debug, Drop, PartialEq, Eq, Error)]
 pub enum JsonError {
     /// The tree means no value.
-    #[error("Shape")]
+    #[error("the JSON is no table")]
     Shape,
     /// An allocation failed.
-    #[error("Memory")]
+    #[error("out of memory")]
     Memory,
 }
 

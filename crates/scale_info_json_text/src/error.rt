@@ -9,13 +9,13 @@ use thiserror::Error;
 #[derive(Debug, Drop, PartialEq, Eq, Error)]
 pub enum JsonTextError {
     /// The text is no JSON that `serde_json` reads.
-    #[error("Syntax")]
+    #[error("the text is no JSON")]
     Syntax,
     /// The text is JSON, and means no table.
-    #[error("Shape")]
+    #[error("the JSON is no table")]
     Shape,
     /// An allocation failed.
-    #[error("Memory")]
+    #[error("out of memory")]
     Memory,
 }
 

@@ -10,22 +10,20 @@ ghost use Rattle.scale_info_bytes.specs.Strings.{EncodesText};
 ghost use Rattle.scale_info_grammar.specs.Ty.{EncodesArray, EncodesBitSequence, EncodesCompactType};
 ghost use Rattle.scale_info_grammar.specs.Ty.{EncodesComposite, EncodesDescription, EncodesField};
 ghost use Rattle.scale_info_grammar.specs.Ty.{EncodesId, EncodesMap, EncodesParameter, EncodesPath};
-ghost use Rattle.scale_info_grammar.specs.Ty.{EncodesPortableType, EncodesPrimitive};
+ghost use Rattle.scale_info_grammar.specs.Ty.{EncodesPrimitive};
 ghost use Rattle.scale_info_grammar.specs.Ty.{EncodesSequence, EncodesTuple, EncodesTypeDef};
 ghost use Rattle.scale_info_grammar.specs.Ty.{EncodesVariant, EncodesVariants};
 ghost use Rattle.scale_info_grammar.specs.TyLaws.{array_law, bit_sequence_law, compact_type_law};
 ghost use Rattle.scale_info_grammar.specs.TyLaws.{composite_law, description_law, field_law};
 ghost use Rattle.scale_info_grammar.specs.TyLaws.{id_law, map_law, parameter_law, path_law};
-ghost use Rattle.scale_info_grammar.specs.TyLaws.{portable_type_law, primitive_law, sequence_law};
+ghost use Rattle.scale_info_grammar.specs.TyLaws.{primitive_law, sequence_law};
 ghost use Rattle.scale_info_grammar.specs.TyLaws.{tuple_law, type_def_law, variant_law};
 ghost use Rattle.scale_info_grammar.specs.TyLaws.{variants_law};
-ghost use Rattle.scale_info_lent_form.specs.OwnedDescriptions.{owned_entry};
 ghost use Rattle.scale_info_types.specs.Shapes.{map_definition, map_description, map_field};
 ghost use Rattle.scale_info_types.specs.Shapes.{map_parameter, map_path, map_variant};
 ghost use Rattle.std.specs.Prelude.{ℕ, List, map, option_map};
 
 use crate::form::{IdForm, StringOf, TypeOf};
-use crate::table::LentEntry;
 use scale_info_collections::items::Items;
 use scale_info_collections::text::Text;
 use scale_info_identities::symbol::UntrackedSymbol;
@@ -35,7 +33,7 @@ use scale_info_types::form::{Form, PortableForm};
 use scale_info_types::ty::path::Path;
 use scale_info_types::ty::variant::Variant;
 use scale_info_types::ty::{
-    Description, Field, PortableType, TypeDef, TypeDefArray, TypeDefBitSequence, TypeDefCompact,
+    Description, Field, TypeDef, TypeDefArray, TypeDefBitSequence, TypeDefCompact,
     TypeDefComposite, TypeDefMap, TypeDefPrimitive, TypeDefSequence, TypeDefTuple, TypeDefVariant,
     TypeParameter,
 };
@@ -155,18 +153,6 @@ impl<T: Encoded> Encoded for Items<T> {
     ghost encodes = { EncodesList T.encodes };
 
     ghost law = { list_law T.law };
-}
-
-impl<'i> Encoded for LentEntry<'i> {
-    type Value = LentEntry<'i>;
-
-    type Owned = PortableType;
-
-    ghost owned = { owned_entry };
-
-    ghost encodes = { EncodesPortableType };
-
-    ghost law = { portable_type_law };
 }
 
 impl<F: IdForm> Encoded for Path<F> {

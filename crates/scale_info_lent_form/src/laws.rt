@@ -1,23 +1,12 @@
 //! The law of lent descriptions. A law does nothing when it runs: its contract is the law.
 ghost use Rattle.scale_info_bytes.specs.Encodings.{HasNoPrefix, HasPrefix};
-ghost use Rattle.scale_info_grammar.specs.Ty.{EncodesDescription, EncodesTypes};
+ghost use Rattle.scale_info_grammar.specs.Ty.{EncodesDescription};
 ghost use Rattle.scale_info_types.specs.Portable.{Description};
-ghost use Rattle.scale_info_types.specs.declared.ty.PortableType.{PortableType};
 ghost use Rattle.std.specs.Prelude.{◌≡◌, ℕ, List};
 
-/// A table that is lent is the table that is owned: where an input begins with a table, no decoding
-/// refuses it as malformed, and whatever entries and rest one decoding returns are those that any
-/// other does, whether their strings are lent or owned.
-pub fn lent_is_owned()
-    ensures decoded { (input rest : List ℕ) (entries : List PortableType)
-        → HasPrefix (EncodesTypes entries) input rest → ¬ (HasNoPrefix EncodesTypes input) }
-    ensures same { (input rest other_rest : List ℕ) (lent owned : List PortableType)
-        → HasPrefix (EncodesTypes lent) input rest
-        → HasPrefix (EncodesTypes owned) input other_rest
-        → (lent ≡ owned) × (rest ≡ other_rest) }
-{}
-
-/// The same of one description.
+/// A description that is lent is the one that is owned: where an input begins with a description, no
+/// decoding refuses it as malformed, and whatever description and rest one decoding returns are
+/// those that any other does, whether its strings are lent or owned.
 pub fn lent_description_is_owned()
     ensures decoded { (input rest : List ℕ) (ty : Description)
         → HasPrefix (EncodesDescription ty) input rest

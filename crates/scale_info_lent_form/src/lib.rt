@@ -10,11 +10,9 @@ mod list;
 mod option;
 pub mod owned;
 mod pair;
-pub mod table;
 mod ty;
 
 pub use decode::decode_type;
 pub use form::LentForm;
 pub use owned::owned_type;
 pub use scale_info_bytes::error::DecodeError;
-pub use table::{LentEntry, LentTable};

@@ -6,9 +6,9 @@ ghost use Rattle.scale_info_numberings.specs.Systems.{IsReached};
 ghost use Rattle.scale_info_tables.specs.TableSystems.{system_of};
 ghost use Rattle.scale_info_walk.specs.Walks.{IsWalkError};
 
+use scale_info_tables::definitions::Definitions;
 use scale_info_types::form::PortableForm;
-use scale_info_types::ty::{PortableType, TypeDef, TypeDefPrimitive};
-use scale_info_value::definition::Definitions;
+use scale_info_types::ty::{PortableType, Type, TypeDefPrimitive};
 use scale_info_view::view::TableView;
 use scale_info_walk::walk::{RetainError, number_references};
 use std::alloc::{AllocError, Global};
@@ -36,14 +36,15 @@ pub struct LoadedTypes {
     entries: Vec<PortableType>,
     /// For each id the place of its entry, or 4294967295 where it is not loaded.
     numbers: Vec<u32>,
-    /// What stands for each definition that is not loaded.
-    not_loaded: TypeDef<PortableForm>,
+    /// What stands for each type that is not loaded.
+    not_loaded: Type<PortableForm>,
 }
 
 impl Model for LoadedTypes {
     ghost use Rattle.std.specs.Prelude.{◌≡◌, map};
     ghost use Rattle.scale_info_tables.specs.declared.portable.PortableRegistry as tables;
     ghost use Rattle.scale_info_loaded.specs.LoadedTables.{entry_numbered, not_decoded};
+    ghost use Rattle.scale_info_types.specs.TypeExamples.{plain};
 
     ghost Value = { tables.PortableRegistry };
 
@@ -51,7 +52,7 @@ impl Model for LoadedTypes {
       types = map (entry_numbered loaded.entries.items) loaded.numbers.items;
     } };
 
-    ghost invariant = { λ loaded. loaded.not_loaded ≡ not_decoded };
+    ghost invariant = { λ loaded. loaded.not_loaded ≡ plain not_decoded };
 }
 
 impl LoadedTypes {
@@ -80,7 +81,7 @@ impl LoadedTypes {
         Ok(LoadedTypes {
             entries,
             numbers: found.numbers,
-            not_loaded: TypeDef::Primitive(TypeDefPrimitive::Char),
+            not_loaded: Type::from_def(alloc, TypeDefPrimitive::Char.into()),
         })
     }
 }
@@ -108,10 +109,10 @@ fn entries_at(
 impl Definitions for LoadedTypes {
     ghost table = { λ loaded. loaded };
 
-    fn definition(&self, id: u32) -> Option<&TypeDef<PortableForm>> {
+    fn description(&self, id: u32) -> Option<&Type<PortableForm>> {
         let number = self.numbers.get(id as usize)?;
         match self.entries.get(*number as usize) {
-            Some(entry) => Some(&entry.ty.type_def),
+            Some(entry) => Some(&entry.ty),
             None => Some(&self.not_loaded),
         }
     }

@@ -25,14 +25,14 @@ pub enum Source {
 #[derive(Clone, Copy, Debug, PartialEq, Eq, Error)]
 pub enum MetadataError {
     /// Metadata of this version, which is none of 14, 15 and 16.
-    #[error("version {0}")]
+    #[error("metadata of version {0} is not known")]
     Version(u8),
     /// The input is no metadata and begins with no table; or it is metadata that ends too early, or
     /// in which no table comes after the version.
-    #[error("malformed")]
+    #[error("the bytes are no table, and no metadata with one")]
     Malformed,
     /// The input is no metadata, and bytes come after its table.
-    #[error("trailing bytes")]
+    #[error("there are bytes after the table")]
     Trailing,
 }
 

@@ -2,7 +2,7 @@
 use Rattle.std.proofs.Common.{◌≡◌, ℕ, zero, suc, ◌+◌, ◌-◌, List, [], ◌∷◌, ◌++◌, length, min, drop}
 use Rattle.std.proofs.Common.{take, Some}
 use Rattle.std.proofs.Common.{option_map, slice_get, slice_index_or, refl, ap, sym, ◌∙◌, subst}
-use Rattle.std.proofs.Common.{arith, append_assoc, Contains}
+use Rattle.std.proofs.Common.{arith, append_assoc}
 use Rattle.std.proofs.Common.{length-append, append-nil, flat_map, inl, inr, None, Option, take_all}
 use Rattle.std.proofs.Common.{Result, Ok, Err, OnOk}
 use Rattle.std.proofs.Math.ListN.{drop_of_length-le}

@@ -5,7 +5,6 @@ use Rattle.std.proofs.lemmas.List.Elements.{Contains-get_or}
 use Rattle.std.proofs.lemmas.Option.{slice_get_within}
 use Rattle.std.specs.BTreeMap.{BTreeMap, get}
 use Rattle.std.specs.Ordering.{nat_cmp}
-use Rattle.scale_info_bytes.specs.declared.error.DecodeError.TheVariants as decode
 use Rattle.scale_info_numberings.specs.Numberings.{IsNumbering}
 use Rattle.scale_info_numberings.specs.Tables.{IsTable}
 use Rattle.scale_info_passes.specs.Entries.{AreAtOffsets, AreKeptEntries, HasEntriesAt}
@@ -15,7 +14,6 @@ use Rattle.scale_info_walk.proofs.KeptEntries.{kept_table, kept_ids}
 use Rattle.scale_info_walk.proofs.Visiting.{numbers_long, numbers_within}
 use Rattle.scale_info_walk.specs.Kept.{AreKept}
 use Rattle.scale_info_walk.specs.TypeSystems.{entry_of, types_system}
-use Rattle.scale_info_walk.specs.declared.walk.RetainError.TheVariants as retain
 use Rattle.scale_info_prune.proofs.ByteIndexes.{index_alike, index_long, same_numbering}
 use Rattle.scale_info_prune.proofs.ByteIndexes.{same_first}
 use Rattle.scale_info_walk.specs.SystemLaws.{nothing_past}
@@ -27,18 +25,16 @@ use Rattle.scale_info_prune.specs.Prunes.{IsRootsNumberingError, IsTableError}
 use Rattle.scale_info_prune.specs.Roots.{AreRoots, IsNoSuchType}
 use Rattle.scale_info_prune.specs.TableIndexes.{AppendsKeptTable, IsTableIndex}
 use Rattle.scale_info_prune.specs.declared.prune.PruneError.{PruneError}
-use Rattle.scale_info_prune.specs.declared.prune.PruneError.TheVariants.{Decode, Trailing}
-use Rattle.scale_info_prune.specs.declared.prune.PruneError.TheVariants.{NoSuchType, Retain, Encode}
+use Rattle.scale_info_prune.specs.declared.prune.PruneError.TheVariants.{Malformed, Trailing}
+use Rattle.scale_info_prune.specs.declared.prune.PruneError.TheVariants.{NoSuchType, Dangling}
 use Rattle.scale_info_prune.specs.declared.prune.PruneError.TheVariants.{Memory}
 
 -- why the input is not found to be one table is also why it is not pruned
 pub table_error : (input given : List ℕ) (e : PruneError) → IsTableError input e → IsPruneError input given e
-table_error input given (Decode decode.Malformed) x = x
-table_error input given (Decode decode.Memory) x = x
+table_error input given Malformed x = x
 table_error input given Trailing x = x
 table_error input given (NoSuchType id) x = absurd x
-table_error input given (Retain e) x = absurd x
-table_error input given (Encode e) x = x
+table_error input given (Dangling id) x = absurd x
 table_error input given Memory x = x
 
 module _ (count : ℕ) (input body offsets starts references : List ℕ)
@@ -49,7 +45,7 @@ module _ (count : ℕ) (input body offsets starts references : List ℕ)
 
   -- why the index is not numbered is also why the input is not pruned
   pub index_error : (given : List ℕ) (e : PruneError) → IsIndexError count starts references given e → IsPruneError input given e
-  index_error given (Decode e) h = absurd h
+  index_error given Malformed h = absurd h
   index_error given Trailing h = absurd h
   index_error given (NoSuchType id) h =
       record {
@@ -57,7 +53,7 @@ module _ (count : ℕ) (input body offsets starts references : List ℕ)
         encodes = x.encodes;
         no_such_type = subst (λ n. IsNoSuchType n given id) (sym x.long) h;
       }
-  index_error given (Retain (retain.Dangling id)) h =
+  index_error given (Dangling id) h =
       let long = starts_count in
       let all = x.long in
       let past = h.3 in
@@ -72,9 +68,6 @@ module _ (count : ℕ) (input body offsets starts references : List ℕ)
             (nothing_past x.types id (omega arith)) h.2;
         outside = omega arith;
       }
-  index_error given (Retain retain.TooManyTypes) h = h
-  index_error given (Retain retain.Memory) h = h
-  index_error given (Encode e) h = h
   index_error given Memory h = h
 
   zip_long : (es : List PortableType) (os : List ℕ) → AreAtOffsets body es os → length os ≡ length es
@@ -179,11 +172,8 @@ module _ (count : ℕ) (input body offsets starts references : List ℕ)
 pub error_of_roots :
     (count : ℕ) (starts references given roots : List ℕ) (e : PruneError) → AreRoots count given roots
     → IsRootsNumberingError starts references roots e → IsIndexError count starts references given e
-error_of_roots count starts references given roots (Decode e) a h = h
+error_of_roots count starts references given roots Malformed a h = h
 error_of_roots count starts references given roots Trailing a h = h
 error_of_roots count starts references given roots (NoSuchType id) a h = absurd h
-error_of_roots count starts references given roots (Retain (retain.Dangling id)) a h = (roots, a, h.0, h.1)
-error_of_roots count starts references given roots (Retain retain.TooManyTypes) a h = h
-error_of_roots count starts references given roots (Retain retain.Memory) a h = h
-error_of_roots count starts references given roots (Encode e) a h = h
+error_of_roots count starts references given roots (Dangling id) a h = (roots, a, h.0, h.1)
 error_of_roots count starts references given roots Memory a h = h

@@ -29,10 +29,9 @@ use Rattle.scale_info_walk.proofs.Inside.{inside}
 use Rattle.scale_info_walk.specs.SystemLaws.{nothing_past}
 use Rattle.scale_info_prune.specs.ByteIndexes.{index_system}
 use Rattle.scale_info_prune.specs.declared.prune.PruneError.{PruneError}
-use Rattle.scale_info_prune.specs.declared.prune.PruneError.TheVariants.{Decode, Trailing}
-use Rattle.scale_info_prune.specs.declared.prune.PruneError.TheVariants.{NoSuchType, Retain, Encode}
+use Rattle.scale_info_prune.specs.declared.prune.PruneError.TheVariants.{Malformed, Trailing}
+use Rattle.scale_info_prune.specs.declared.prune.PruneError.TheVariants.{NoSuchType, Dangling}
 use Rattle.scale_info_prune.specs.declared.prune.PruneError.TheVariants.{Memory}
-use Rattle.scale_info_walk.specs.declared.walk.RetainError.TheVariants as retain
 use Rattle.scale_info_prune.specs.Prunes.{HasNoSuchType, IsNumberedFrom, IsRootsNumberingError}
 use Rattle.scale_info_prune.specs.Roots.{IsNoSuchType}
 use Rattle.scale_info_prune.specs.SameTypes.{IsRenumbered, IsRenumberingError, ReachesIndices}
@@ -162,10 +161,10 @@ pub renumbering_error :
     {count : ℕ} {input body offsets starts references : List ℕ} (ids : List ℕ)
     → IsTableIndex count input body offsets starts references → (e : PruneError)
     → IsRootsNumberingError starts references ids e → IsRenumberingError input ids e
-renumbering_error ids x (Decode e) h = absurd h
+renumbering_error ids x Malformed h = absurd h
 renumbering_error ids x Trailing h = absurd h
 renumbering_error ids x (NoSuchType id) h = absurd h
-renumbering_error {starts = starts} {references = references} ids x (Retain (retain.Dangling id)) h =
+renumbering_error {starts = starts} {references = references} ids x (Dangling id) h =
     let long = index_long x.types starts x.are_starts in
     let past = h.1 in
     record {
@@ -177,9 +176,6 @@ renumbering_error {starts = starts} {references = references} ids x (Retain (ret
           (nothing_past x.types id (omega arith)) h.0;
       outside = omega arith;
     }
-renumbering_error ids x (Retain retain.TooManyTypes) h = h
-renumbering_error ids x (Retain retain.Memory) h = h
-renumbering_error ids x (Encode e) h = h
 renumbering_error ids x Memory h = h
 
 -- the input encodes a table of which this given id is no index

@@ -4,13 +4,11 @@ use Rattle.std.specs.Prelude.{slice_get}
 use Rattle.std.specs.BTreeMap.{BTreeMap, get}
 use Rattle.std.specs.Ordering.{nat_cmp}
 use Rattle.scale_info_bytes.specs.Encodings.{AppendsEncoding, HasNoPrefix}
-use Rattle.scale_info_bytes.specs.declared.error.DecodeError.TheVariants as decode
 use Rattle.scale_info_numberings.specs.Numberings.{IsNumbering}
 use Rattle.scale_info_numberings.specs.Systems.{IsFirstOutside}
 use Rattle.scale_info_numberings.specs.Tables.{IsTable}
 use Rattle.scale_info_types.specs.declared.ty.PortableType.{PortableType}
 use Rattle.scale_info_walk.specs.TypeSystems.{entry_of, types_system}
-use Rattle.scale_info_walk.specs.declared.walk.RetainError.TheVariants as retain
 use Rattle.scale_info_walk.specs.Walks.{AreNumbers}
 use Rattle.scale_info_prune.specs.ByteIndexes.{index_system}
 use Rattle.scale_info_prune.specs.Roots.{AreRoots, IsNoSuchType}
@@ -19,18 +17,16 @@ use Rattle.scale_info_passes.specs.Entries.{AreAtOffsets, HasEntriesAt}
 use Rattle.scale_info_passes.specs.Visits.{renumbered}
 use Rattle.scale_info_prune.specs.TableIndexes.{AppendsKeptTable, HasTrailing}
 use Rattle.scale_info_prune.specs.declared.prune.PruneError.{PruneError}
-use Rattle.scale_info_prune.specs.declared.prune.PruneError.TheVariants.{Decode, Trailing}
-use Rattle.scale_info_prune.specs.declared.prune.PruneError.TheVariants.{NoSuchType, Retain}
-use Rattle.scale_info_prune.specs.declared.prune.PruneError.TheVariants.{Encode, Memory}
+use Rattle.scale_info_prune.specs.declared.prune.PruneError.TheVariants.{Malformed, Trailing}
+use Rattle.scale_info_prune.specs.declared.prune.PruneError.TheVariants.{NoSuchType, Dangling}
+use Rattle.scale_info_prune.specs.declared.prune.PruneError.TheVariants.{Memory}
 
 -- why the input is not found to be one table
 abbrev pub IsTableError : List ℕ → PruneError → Type 0
-IsTableError input (Decode decode.Malformed) = HasNoPrefix EncodesTypes input
-IsTableError input (Decode decode.Memory) = ⊥
+IsTableError input Malformed = HasNoPrefix EncodesTypes input
 IsTableError input Trailing = HasTrailing input
 IsTableError input (NoSuchType id) = ⊥
-IsTableError input (Retain e) = ⊥
-IsTableError input (Encode e) = ⊥
+IsTableError input (Dangling id) = ⊥
 IsTableError input Memory = Unit {0}
 
 -- the input encodes a table, of which this given id, the first such, is no index
@@ -52,14 +48,10 @@ pub record HasDangling (input given : List ℕ) (id : ℕ) : Type 0 where
 -- why the input is not numbered from the given ids, where `Outside` says which id is reached that
 -- is no index
 abbrev pub IsErrorFrom : (input given : List ℕ) → (Outside : ℕ → Type 0) → PruneError → Type 0
-IsErrorFrom input given Outside (Decode decode.Malformed) = HasNoPrefix EncodesTypes input
-IsErrorFrom input given Outside (Decode decode.Memory) = ⊥
+IsErrorFrom input given Outside Malformed = HasNoPrefix EncodesTypes input
 IsErrorFrom input given Outside Trailing = HasTrailing input
 IsErrorFrom input given Outside (NoSuchType id) = HasNoSuchType input given id
-IsErrorFrom input given Outside (Retain (retain.Dangling id)) = Outside id
-IsErrorFrom input given Outside (Retain retain.TooManyTypes) = ⊥
-IsErrorFrom input given Outside (Retain retain.Memory) = ⊥
-IsErrorFrom input given Outside (Encode e) = ⊥
+IsErrorFrom input given Outside (Dangling id) = Outside id
 IsErrorFrom input given Outside Memory = Unit {0}
 
 -- why the input is not pruned to the given ids
@@ -119,25 +111,19 @@ pub record IsNumberedTable (input given body offsets order numbers : List ℕ) :
 
 -- why an index is not numbered from these roots
 abbrev pub IsRootsNumberingError : List ℕ → List ℕ → List ℕ → PruneError → Type 0
-IsRootsNumberingError starts references roots (Retain (retain.Dangling id)) =
+IsRootsNumberingError starts references roots (Dangling id) =
     IsFirstOutside (index_system starts references) [] roots id × (length starts ≤ id)
-IsRootsNumberingError starts references roots (Retain retain.TooManyTypes) = ⊥
-IsRootsNumberingError starts references roots (Retain retain.Memory) = ⊥
-IsRootsNumberingError starts references roots (Decode e) = ⊥
+IsRootsNumberingError starts references roots Malformed = ⊥
 IsRootsNumberingError starts references roots Trailing = ⊥
 IsRootsNumberingError starts references roots (NoSuchType id) = ⊥
-IsRootsNumberingError starts references roots (Encode e) = ⊥
 IsRootsNumberingError starts references roots Memory = Unit {0}
 
 -- why an index is not numbered from the given ids
 abbrev pub IsIndexError : ℕ → List ℕ → List ℕ → List ℕ → PruneError → Type 0
-IsIndexError count starts references given (Decode e) = ⊥
+IsIndexError count starts references given Malformed = ⊥
 IsIndexError count starts references given Trailing = ⊥
 IsIndexError count starts references given (NoSuchType id) = IsNoSuchType count given id
-IsIndexError count starts references given (Retain (retain.Dangling id)) =
+IsIndexError count starts references given (Dangling id) =
     (roots : List ℕ) × AreRoots count given roots
     × IsFirstOutside (index_system starts references) [] roots id × (length starts ≤ id)
-IsIndexError count starts references given (Retain retain.TooManyTypes) = ⊥
-IsIndexError count starts references given (Retain retain.Memory) = ⊥
-IsIndexError count starts references given (Encode e) = ⊥
 IsIndexError count starts references given Memory = Unit {0}

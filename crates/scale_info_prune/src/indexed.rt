@@ -38,8 +38,8 @@ pub struct IndexedTable<'a> {
 impl<'a> IndexedTable<'a> {
     /// The index of the table that this input is.
     ///
-    /// Errors: `Decode(Malformed)`, where no prefix of the input is a table; `Trailing`, where
-    /// bytes come after it; `Memory`, where an allocation failed.
+    /// Errors: `Malformed`, where no prefix of the input is a table; `Trailing`, where bytes come
+    /// after it; `Memory`, where an allocation failed.
     pub fn of(alloc: Global, input: &'a [u8]) -> Result<IndexedTable<'a>, PruneError>
         ensures ok { IfOk result (IsIndexed input.now) }
         ensures err { IfErr result (IsTableError input.now) }
@@ -80,8 +80,8 @@ impl<'a> IndexedTable<'a> {
     /// of the bytes, in the room of the last such call. So each but the first takes time for what
     /// is kept, now and by the last one, however many entries there are.
     ///
-    /// Errors: `NoSuchType`, for the first given id that is no index; `Retain(Dangling)`, where an
-    /// id is reached that is no index; `Memory`, where an allocation failed. On an Err the output
+    /// Errors: `NoSuchType`, for the first given id that is no index; `Dangling`, for the first id
+    /// that is reached and is no index; `Memory`, where an allocation failed. On an Err the output
     /// is as before.
     ///
     /// [`append_pruned`]: crate::prune::append_pruned

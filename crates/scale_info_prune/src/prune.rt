@@ -11,7 +11,6 @@ use crate::byte_references::ByteReferences;
 use crate::indexed::IndexedTable;
 use crate::roots::{RootsError, roots_of};
 use crate::table_index::append_kept;
-use scale_info_bytes::error::{DecodeError, EncodeError};
 use scale_info_collections::failure::AllocationFailure;
 use scale_info_passes::entries::EntryIndex;
 use scale_info_walk::numbers::map_of_numbers;
@@ -20,26 +19,23 @@ use std::alloc::Global;
 use std::collections::BTreeMap;
 use thiserror::Error;
 
-/// Why bytes could not be pruned. It is displayed as the name of the variant alone.
+/// Why bytes could not be pruned.
 #[derive(Debug, Drop, PartialEq, Eq, Error)]
 pub enum PruneError {
     /// No prefix of the input is a table.
-    #[error("Decode")]
-    Decode(DecodeError),
+    #[error("the bytes are no table")]
+    Malformed,
     /// Bytes come after the table.
-    #[error("Trailing")]
+    #[error("there are bytes after the table")]
     Trailing,
     /// This given id, the first such, is no index of the table.
-    #[error("NoSuchType")]
+    #[error("no such type {0}")]
     NoSuchType(u32),
-    /// An id is reached from the given ones that is no index of the table.
-    #[error("Retain")]
-    Retain(RetainError),
-    /// The kept table has no encoding. This never comes: what is kept is no longer than the input.
-    #[error("Encode")]
-    Encode(EncodeError),
+    /// This id, the first such that is reached from the given ones, is no index of the table.
+    #[error("dangling id {0}")]
+    Dangling(u32),
     /// An allocation failed.
-    #[error("Memory")]
+    #[error("out of memory")]
     Memory,
 }
 
@@ -61,10 +57,9 @@ impl<F: AllocationFailure> From<F> for PruneError {
 /// prune(alloc, &[4, 0, 0, 0, 5, 0, 0], &[0], &mut out)?  // {0: 0}, and out grew by these bytes
 /// ```
 ///
-/// Errors, in the order of the checks: `Decode(Malformed)`, where no prefix of the input is a
-/// table; `Trailing`, where bytes come after it; `NoSuchType`, for the first given id that is no
-/// index;
-/// `Retain(Dangling)`, where an id is reached that is no index; `Memory`, where an allocation
+/// Errors, in the order of the checks: `Malformed`, where no prefix of the input is a table;
+/// `Trailing`, where bytes come after it; `NoSuchType`, for the first given id that is no index;
+/// `Dangling`, for the first id that is reached and is no index; `Memory`, where an allocation
 /// failed. On an Err the output is as before.
 pub fn prune(
     alloc: Global,
@@ -151,8 +146,8 @@ pub(crate) fn number_from(
     };
     match number_references_in(alloc, &source, roots, room) {
         Ok(found) => Ok(found),
+        Err(RetainError::Dangling { id }) => Err(PruneError::Dangling(id)),
         Err(RetainError::Memory) => Err(PruneError::Memory),
-        Err(RetainError::Dangling { id }) => Err(PruneError::Retain(RetainError::Dangling { id })),
-        Err(RetainError::TooManyTypes) => Err(PruneError::Retain(RetainError::TooManyTypes)),
+        Err(RetainError::TooManyTypes) => unreachable!(),
     }
 }

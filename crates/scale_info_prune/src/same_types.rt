@@ -75,10 +75,9 @@ fn are_equal(bytes: &[u8], other_bytes: &[u8], ids: &[u32], other_ids: &[u32]) -
 /// where the bytes and the new ids are. Takes memory for both tables' indices and for what is
 /// reached.
 ///
-/// Errors, of the first input before the second: `Decode(Malformed)`, where no prefix of it is a
-/// table; `Trailing`, where bytes come after the table; `NoSuchType`, for the first id that is no
-/// index; `Retain(Dangling)`, where an id is reached that is none; `Memory`, where an allocation
-/// failed.
+/// Errors, of the first input before the second: `Malformed`, where no prefix of it is a table;
+/// `Trailing`, where bytes come after the table; `NoSuchType`, for the first id that is no index;
+/// `Dangling`, for the first id that is reached and is none; `Memory`, where an allocation failed.
 ///
 /// ```text
 /// // Vec<u32> at index 0 of one table, and at index 1 of another

@@ -8,7 +8,6 @@ ghost use Rattle.scale_info_prune.specs.Prunes.{IsTableError};
 ghost use Rattle.scale_info_prune.specs.TableIndexes.{AppendsKeptTable, IsTableIndex};
 
 use crate::prune::PruneError;
-use scale_info_bytes::error::DecodeError;
 use scale_info_bytes::integer::{decode_compact, encode_compact};
 use scale_info_passes::entries::{EntryIndex, index_entries, renumber_entries};
 use scale_info_walk::walk::Renumbering;
@@ -16,7 +15,7 @@ use std::alloc::{AllocError, Global};
 
 /// The number of entries of a table, its bytes after that number, and where the entries are.
 ///
-/// Errors: `Decode`, where no prefix of the input is a table; `Trailing`, where bytes come after
+/// Errors: `Malformed`, where no prefix of the input is a table; `Trailing`, where bytes come after
 /// it; `Memory`, where an allocation failed.
 pub(crate) fn index_table(
     alloc: Global,
@@ -27,10 +26,10 @@ pub(crate) fn index_table(
     ensures err { IfErr result (IsTableError input.now) }
 {
     let Some((count, body)) = decode_compact(input) else {
-        return Err(PruneError::Decode(DecodeError::Malformed));
+        return Err(PruneError::Malformed);
     };
     let Some((index, rest)) = index_entries(alloc, count, body)? else {
-        return Err(PruneError::Decode(DecodeError::Malformed));
+        return Err(PruneError::Malformed);
     };
     if !rest.is_empty() {
         return Err(PruneError::Trailing);

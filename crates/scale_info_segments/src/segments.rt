@@ -13,7 +13,7 @@ use scale_info_collections::failure::AllocationFailure;
 use std::alloc::{AllocError, Global};
 use thiserror::Error;
 
-/// Why no path could be made. It is displayed as the name of the variant alone.
+/// Why no path could be made.
 ///
 /// ```text
 /// Path::from_segments(alloc, ["Earth", "::world"])
@@ -22,16 +22,16 @@ use thiserror::Error;
 #[derive(Debug, Drop, PartialEq, Eq, Error)]
 pub enum PathError {
     /// There is no segment.
-    #[error("MissingSegments")]
+    #[error("the path has no segment")]
     MissingSegments,
     /// A segment is not an identifier of Rust.
-    #[error("InvalidIdentifier")]
+    #[error("segment {segment} of the path is no identifier")]
     InvalidIdentifier {
         /// The index of the first such segment.
         segment: usize,
     },
     /// An allocation failed.
-    #[error("Memory")]
+    #[error("out of memory")]
     Memory,
 }
 

@@ -2,6 +2,7 @@
 #![tactic(auto)]
 
 pub mod chosen;
+pub mod definitions;
 pub mod laws;
 pub mod portable;
 mod renumbering;

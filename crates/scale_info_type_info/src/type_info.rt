@@ -9,14 +9,14 @@ use scale_info_types::ty::Type;
 use std::alloc::Global;
 use thiserror::Error;
 
-/// Why a type could not be described. It is displayed as the name of the variant alone.
+/// Why a type could not be described.
 #[derive(Debug, Drop, PartialEq, Eq, Error)]
 pub enum InfoError {
     /// The type is an array of more than 4294967295 items.
-    #[error("TooLong")]
+    #[error("an array has more than 4294967295 items")]
     TooLong,
     /// An allocation failed.
-    #[error("Memory")]
+    #[error("out of memory")]
     Memory,
 }
 

@@ -8,7 +8,7 @@ ghost use Rattle.scale_info_typed.specs.ConvertErrors.{IsMissing, IsErrorOf};
 use crate::error::{DecodeAsError, Result};
 use crate::shown::Shown;
 use scale_info_lent::lent::{Lent, decode_lent};
-use scale_info_tables::portable::PortableRegistry;
+use scale_info_value::definition::Definitions;
 use std::alloc::Global;
 
 /// A type of a program that decoded values are converted to.
@@ -38,34 +38,34 @@ pub trait DecodeAs: Shown + Drop {
 /// Decodes a value of the type with this id from the start of the input, as a value of the type
 /// `T`, and returns it with the rest.
 ///
-/// It decodes what `decode_value` decodes, and converts that value: see [`DecodeAs`]. So a `u32` is
-/// decoded by each unsigned width, as far as the integer fits.
+/// It decodes what `decode_value` decodes by the same [`Definitions`], a table or what was loaded of
+/// one, and converts that value: see [`DecodeAs`]. So a `u32` is decoded by each unsigned width, as
+/// far as the integer fits.
 ///
 /// Errors: `Decode` with the error of `decode_value`: `TooDeep`, where a value is more than 128
 /// deep; `NoSuchType`, where an id is no index of the table; `Unsupported`, where values of a type
 /// are not decoded; `Malformed`, where no prefix of the input is a value of the type of the table.
-/// `Convert(Mismatch)`, where one is, and is no `T`. Either with `Memory`, where an allocation
-/// failed.
+/// `Memory`, where an allocation failed. `Mismatch`, where a value is decoded, and is no `T`.
 ///
 /// With a table that has `Vec<u16>` at index 0:
 ///
 /// ```text
-/// let (all, rest) = decode_as::<Vec<u32>>(alloc, &table, 0, &[8, 1, 0, 2, 0, 255])?;
+/// let (all, rest) = decode_as::<Vec<u32>, _>(alloc, &table, 0, &[8, 1, 0, 2, 0, 255])?;
 /// // all is [1, 2], and the rest [255]
 /// ```
-pub fn decode_as<'i, T: DecodeAs>(
+pub fn decode_as<'i, T: DecodeAs, D: Definitions>(
     alloc: Global,
-    table: &PortableRegistry,
+    table: &D,
     id: u32,
     input: &'i [u8],
 ) -> Result<(T, &'i [u8]), DecodeAsError>
     ensures ok { IfOk result
-        (λ found. outcome_map T.meant (reading table.now id 1 input.now)
+        (λ found. outcome_map T.meant (reading (D.table table.now) id 1 input.now)
         ≡ decoded (Some (T.seen found.0)) found.1.now) }
     ensures err { IfErr result
-        (IsErrorOf T.meant (reading table.now id 1 input.now)) }
+        (IsErrorOf T.meant (reading (D.table table.now) id 1 input.now)) }
 {
     let (value, rest) = decode_lent(alloc, table, id, input).map_err(DecodeAsError::Decode)?;
-    let own = T::from_value(alloc, &value).map_err(DecodeAsError::Convert)?;
+    let own = T::from_value(alloc, &value)?;
     Ok((own, rest))
 }

@@ -15,7 +15,6 @@ use crate::error::{EncodeAsError, Result};
 use crate::place::Place;
 use crate::shown::Shown;
 use scale_info_encode::encode::encode_value;
-use scale_info_tables::portable::PortableRegistry;
 use scale_info_value::definition::Definitions;
 use scale_info_value::value::Dyn;
 use std::alloc::Global;
@@ -47,37 +46,37 @@ pub trait EncodeAs: Shown {
 /// `decode_as` decodes what was appended to the same value, and leaves nothing. On an Err the
 /// output is as before.
 ///
-/// Errors: `Convert(Mismatch)`, where nothing stands for this value at the type of the table, as
-/// for an option at an enum without a variant `Some`. `Encode` with the error of `encode_value` of
-/// what stands for it: `Mismatch` with the path to a part that is none of its type, as for a `u32`
-/// that is more than 255 at `u8`; `TooDeep`, where a value is more than 128 deep; `NoSuchType`,
-/// where an id is no index of the table; `Unsupported`, where values of a type are not encoded.
-/// Either with `Memory`, where an allocation failed.
+/// Errors: `Mismatch`, where nothing stands for this value at the type of the table, as for an
+/// option at an enum without a variant `Some`. `Encode` with the error of `encode_value` of what
+/// stands for it: `Mismatch` with the path to a part that is none of its type, as for a `u32` that
+/// is more than 255 at `u8`; `TooDeep`, where a value is more than 128 deep; `NoSuchType`, where an
+/// id is no index of the table; `Unsupported`, where values of a type are not encoded; `Memory`,
+/// where an allocation failed.
 ///
 /// With a table that has `Vec<u16>` at index 0:
 ///
 /// ```text
 /// encode_as(alloc, &table, 0, &[1u32, 2], &mut out)?;   // appends [8, 1, 0, 2, 0]
 /// ```
-pub fn encode_as<T: EncodeAs>(
+pub fn encode_as<T: EncodeAs, D: Definitions>(
     alloc: Global,
-    table: &PortableRegistry,
+    table: &D,
     id: u32,
     value: &T,
     out: &mut Vec<u8>,
 ) -> Result<(), EncodeAsError>
     ensures ok { OnOk result
-        (Appends (writing_of table.now id (T.value_at table.now (place.Type id) value.now))
+        (Appends (writing_of (D.table table.now) id
+        (T.value_at (D.table table.now) (place.Type id) value.now))
         out.old.items out.new.items) }
     ensures read { OnOk result
-        (AppendsEncoding (λ bytes. outcome_map T.meant (reading table.now id 1 bytes)
+        (AppendsEncoding (λ bytes. outcome_map T.meant (reading (D.table table.now) id 1 bytes)
         ≡ decoded (Some (T.seen value.now)) []) out.old.items out.new.items) }
     ensures err { IfErr result
-        (IsErrorOf table.now id (T.value_at table.now (place.Type id) value.now)) }
+        (IsErrorOf (D.table table.now) id
+        (T.value_at (D.table table.now) (place.Type id) value.now)) }
     ensures same { OnErr result (out.new.items ≡ out.old.items) }
 {
-    let standing = value
-        .to_value(alloc, table, Place::Type(id))
-        .map_err(EncodeAsError::Convert)?;
+    let standing = value.to_value(alloc, table, Place::Type(id))?;
     encode_value(table, id, &standing, out).map_err(EncodeAsError::Encode)
 }

@@ -20,7 +20,6 @@ use scale_info_collections::text::Text;
 use scale_info_collections::try_clone::TryClone;
 use scale_info_identities::symbol::UntrackedSymbol;
 use scale_info_identities::type_id::TypeId;
-use scale_info_tables::portable::PortableRegistry;
 use scale_info_types::form::PortableForm;
 use scale_info_types::ty::{
     Field, TypeDef, TypeDefArray, TypeDefCompact, TypeDefComposite, TypeDefMap, TypeDefSequence,
@@ -31,9 +30,11 @@ use std::alloc::Global;
 /// Decodes one value of the type with this id from the start of the input, and returns it with the
 /// rest.
 ///
-/// An id is an index of the table, as for [`PortableRegistry::resolve`]. The parts of a value are
-/// decoded in order, and the first error is returned. Allocates for parts already decoded, and for
-/// the integers of a list once all their bytes are there, never for an announced count.
+/// An id is an index of the table that `table` stands for: a
+/// [`PortableRegistry`](scale_info_tables::portable::PortableRegistry) stands for itself, and what
+/// was loaded of a table for that table (see [`Definitions`]). The parts of a value are decoded in
+/// order, and the first error is returned. Allocates for parts already decoded, and for the
+/// integers of a list once all their bytes are there, never for an announced count.
 ///
 /// A value has depth 1, and each part of a value is one deeper than the value; at most 128 is
 /// decoded. Nothing else bounds the work: values of some types take no bytes, so an array of
@@ -50,40 +51,17 @@ use std::alloc::Global;
 /// let input = [8, 1, 0, 0, 0, 2, 0, 0, 0, 255];
 /// let (value, rest) = decode_value(alloc, &table, 0, &input)?;   // 1 and 2, and the rest [255]
 /// ```
-pub fn decode_value<'a>(
+pub fn decode_value<'a, T: Definitions>(
     alloc: Global,
-    table: &PortableRegistry,
+    table: &T,
     id: u32,
     input: &'a [u8],
 ) -> Result<(Dyn, &'a [u8]), ValueError>
     ensures ok { IfOk result
-        (λ found. reading table.now id 1 input.now ≡ decoded found.0 found.1.now) }
-    ensures err { IfErr result (IsErrorOf (reading table.now id 1 input.now)) }
+        (λ found. reading (T.table table.now) id 1 input.now ≡ decoded found.0 found.1.now) }
+    ensures err { IfErr result (IsErrorOf (reading (T.table table.now) id 1 input.now)) }
 {
-    decode_value_by(alloc, table, id, input)
-}
-
-/// Decodes one value of the type with this id by anything that has the definitions of types: a
-/// table, or what is loaded of one.
-///
-/// It is [`decode_value`] by the table that `types` stands for: see
-/// [`Definitions`](crate::definition::Definitions).
-///
-/// ```text
-/// let types = LoadedTypes::load(alloc, &view, &[id])?;
-/// let (value, rest) = decode_value_by(alloc, &types, id, &input)?;
-/// ```
-pub fn decode_value_by<'a, T: Definitions>(
-    alloc: Global,
-    types: &T,
-    id: u32,
-    input: &'a [u8],
-) -> Result<(Dyn, &'a [u8]), ValueError>
-    ensures ok { IfOk result
-        (λ found. reading (T.table types.now) id 1 input.now ≡ decoded found.0 found.1.now) }
-    ensures err { IfErr result (IsErrorOf (reading (T.table types.now) id 1 input.now)) }
-{
-    value_within(alloc, types, id, 128, input)
+    value_within(alloc, table, id, 128, input)
 }
 
 /// A value of the type with this id, and the rest, where so many levels are left.

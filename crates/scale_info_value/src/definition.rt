@@ -1,43 +1,13 @@
 //! The definitions that ids stand for.
 ghost use Rattle.std.specs.Prelude.{◌≡◌, ◌≤◌, List, ℕ, Some, option_map, IfOk, IfErr};
-ghost use Rattle.std.specs.Option.{option_copied};
-ghost use Rattle.scale_info_tables.specs.declared.portable.PortableRegistry as tables;
 ghost use Rattle.scale_info_value.specs.Outcomes.{failed};
 ghost use Rattle.scale_info_value.specs.Readings.{type_at, value_within, compact_within};
 ghost use Rattle.scale_info_value.specs.Readings.{definition_within, compact_definition_within};
 
 use crate::value::Failure;
-use scale_info_tables::portable::PortableRegistry;
+pub use scale_info_tables::definitions::Definitions;
 use scale_info_types::form::PortableForm;
 use scale_info_types::ty::TypeDef;
-
-/// What has the definitions of types by their ids: a table, or what was loaded of one.
-///
-/// Values are read by it, and nothing else is asked of it. An implementor states the table that it
-/// stands for, `table`, and owes the contract of `definition`; what is read is then what the table
-/// gives.
-pub trait Definitions {
-    /// The table by which values are read.
-    ghost table: { Self → tables.PortableRegistry };
-
-    /// The definition of the type with this id; None, where the id is no index of the table.
-    fn definition(&self, id: u32) -> Option<&TypeDef<PortableForm>>
-        ensures { option_copied result
-            ≡ option_map (λ d. d.type_def) (type_at (table self.now) id) };
-}
-
-/// A table has the definitions of its entries.
-impl Definitions for PortableRegistry {
-    ghost table = { λ table. table };
-
-    #[inline(always)]
-    fn definition(&self, id: u32) -> Option<&TypeDef<PortableForm>> {
-        match self.resolve(id) {
-            None => None,
-            Some(ty) => Some(&ty.type_def),
-        }
-    }
-}
 
 /// The definition of the type with this id, where so many levels are left for a value of it.
 ///

@@ -3,7 +3,7 @@ ghost use Rattle.std.specs.Prelude.{◌≡◌};
 ghost use Rattle.scale_info_value.specs.declared.value.ValueError.TheVariants as error;
 ghost use Rattle.scale_info_value.specs.Outcomes.{error_of};
 
-pub use crate::decode::{decode_value, decode_value_by};
+pub use crate::decode::decode_value;
 use scale_info_collections::failure::AllocationFailure;
 use scale_info_collections::items::Items;
 use scale_info_collections::text::Text;
@@ -40,17 +40,17 @@ pub enum Dyn {
 #[derive(Clone, Copy, Debug, PartialEq, Eq, Error)]
 pub enum Failure {
     /// An id is no index of the table.
-    #[error("NoSuchType")]
+    #[error("no such type")]
     NoSuchType,
     /// A type whose values are not decoded: `char`, `u256`, `i256`, bit sequences, and compact
     /// types that are no unsigned integer of up to 128 bits.
-    #[error("Unsupported")]
+    #[error("values of the type are not decoded")]
     Unsupported,
     /// A value more than 128 deep.
-    #[error("TooDeep")]
+    #[error("the value is more than 128 deep")]
     TooDeep,
     /// No prefix of the input is a value of the type.
-    #[error("Malformed")]
+    #[error("the bytes are no value of the type")]
     Malformed,
 }
 
@@ -58,20 +58,20 @@ pub enum Failure {
 #[derive(Debug, Drop, PartialEq, Eq, Error)]
 pub enum ValueError {
     /// An id is no index of the table.
-    #[error("NoSuchType")]
+    #[error("no such type")]
     NoSuchType,
     /// A type whose values are not decoded: `char`, `u256`, `i256`, bit sequences, and compact
     /// types that are no unsigned integer of up to 128 bits.
-    #[error("Unsupported")]
+    #[error("values of the type are not decoded")]
     Unsupported,
     /// A value more than 128 deep.
-    #[error("TooDeep")]
+    #[error("the value is more than 128 deep")]
     TooDeep,
     /// No prefix of the input is a value of the type.
-    #[error("Malformed")]
+    #[error("the bytes are no value of the type")]
     Malformed,
     /// An allocation failed.
-    #[error("Memory")]
+    #[error("out of memory")]
     Memory,
 }
 

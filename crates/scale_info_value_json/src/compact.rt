@@ -11,8 +11,8 @@ ghost use Rattle.scale_info_value_json.specs.Takings.{takings};
 use crate::definition::definition_of;
 use crate::error::ValueJsonError;
 use crate::primitive::unsigned;
-use scale_info_tables::portable::PortableRegistry;
 use scale_info_types::ty::{TypeDef, TypeDefPrimitive};
+use scale_info_value::definition::Definitions;
 use scale_info_value::value::Dyn;
 use serde_json::Value;
 
@@ -38,15 +38,15 @@ pub fn compact_primitive(kind: &TypeDefPrimitive, tree: &Value) -> Result<Dyn, V
 ///
 /// Errors: `Unsupported`, where the type has no compact integers; and as [`definition_of`].
 #[cycle(compact)]
-pub fn compact_kind(
-    table: &PortableRegistry,
+pub fn compact_kind<T: Definitions>(
+    table: &T,
     id: u32,
     left: u8,
 ) -> Result<&TypeDefPrimitive, ValueJsonError>
     ensures ok { IfOk result (λ kind. (tree : Data)
-        → compact_at takings left table.now id tree ≡ compact_primitive kind.now tree) }
+        → compact_at takings left (T.table table.now) id tree ≡ compact_primitive kind.now tree) }
     ensures err { IfErr result (λ why. (tree : Data)
-        → IsErrorOf (compact_at takings left table.now id tree) why) }
+        → IsErrorOf (compact_at takings left (T.table table.now) id tree) why) }
     ensures not_memory { IfErr result (λ why. why ≢ error.Memory) }
 {
     let definition = definition_of(table, id, left)?;

@@ -9,20 +9,20 @@ use thiserror::Error;
 #[derive(Debug, Drop, PartialEq, Eq, Error)]
 pub enum ValueJsonError {
     /// An id is no index of the table.
-    #[error("NoSuchType")]
+    #[error("no such type")]
     NoSuchType,
     /// A type whose values are not taken: `char`, `u256`, `i256`, bit sequences, and compact
     /// types that are no unsigned integer of up to 128 bits.
-    #[error("Unsupported")]
+    #[error("values of the type are not taken from JSON")]
     Unsupported,
     /// A value more than 128 deep.
-    #[error("TooDeep")]
+    #[error("the value is more than 128 deep")]
     TooDeep,
     /// The tree is no value of the type.
-    #[error("Mismatch")]
+    #[error("the JSON is no value of the type")]
     Mismatch,
     /// An allocation failed.
-    #[error("Memory")]
+    #[error("out of memory")]
     Memory,
 }
 

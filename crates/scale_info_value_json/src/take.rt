@@ -26,11 +26,11 @@ use scale_info_collections::text::Text;
 use scale_info_collections::try_clone::TryClone;
 use scale_info_identities::symbol::UntrackedSymbol;
 use scale_info_identities::type_id::TypeId;
-use scale_info_tables::portable::PortableRegistry;
 use scale_info_types::form::PortableForm;
 use scale_info_types::ty::{
     Field, TypeDef, TypeDefComposite, TypeDefMap, TypeDefTuple, TypeDefVariant,
 };
+use scale_info_value::definition::Definitions;
 use scale_info_value::value::Dyn;
 use scale_info_value::variants::variant_with_index;
 use serde_json::Value;
@@ -67,14 +67,15 @@ use std::alloc::Global;
 /// let tree = Value::from_str(alloc, "[1,\"2\"]")?;
 /// let value = from_json(alloc, &table, 0, &tree)?;   // the list of 1 and 2
 /// ```
-pub fn from_json(
+pub fn from_json<T: Definitions>(
     alloc: Global,
-    table: &PortableRegistry,
+    table: &T,
     id: u32,
     tree: &Value,
 ) -> Result<Dyn, ValueJsonError>
-    ensures ok { IfOk result (λ value. taking table.now id 1 (view tree.now) ≡ taken value) }
-    ensures err { IfErr result (IsErrorOf (taking table.now id 1 (view tree.now))) }
+    ensures ok { IfOk result (λ value. taking (T.table table.now) id 1
+        (view tree.now) ≡ taken value) }
+    ensures err { IfErr result (IsErrorOf (taking (T.table table.now) id 1 (view tree.now))) }
 {
     value_within(alloc, table, id, 128, tree)
 }
@@ -82,16 +83,17 @@ pub fn from_json(
 /// A value of the type with this id, where so many levels are left.
 #[cycle(value)]
 #[inline(always)]
-fn value_within(
+fn value_within<T: Definitions>(
     alloc: Global,
-    table: &PortableRegistry,
+    table: &T,
     id: u32,
     left: u8,
     tree: &Value,
 ) -> Result<Dyn, ValueJsonError>
     ensures ok { IfOk result
-        (λ value. value_at takings left table.now id (view tree.now) ≡ taken value) }
-    ensures err { IfErr result (IsErrorOf (value_at takings left table.now id (view tree.now))) }
+        (λ value. value_at takings left (T.table table.now) id (view tree.now) ≡ taken value) }
+    ensures err { IfErr result (IsErrorOf (value_at takings left (T.table table.now) id
+        (view tree.now))) }
 {
     let definition = definition_of(table, id, left)?;
     value_by(alloc, table, definition, left, tree)
@@ -103,18 +105,18 @@ fn value_within(
 /// into it: so a level of a value takes the stack of its own kind, and not that of all.
 #[cycle(value)]
 #[inline(never)]
-fn value_by(
+fn value_by<T: Definitions>(
     alloc: Global,
-    table: &PortableRegistry,
+    table: &T,
     definition: &TypeDef<PortableForm>,
     left: u8,
     tree: &Value,
 ) -> Result<Dyn, ValueJsonError>
     requires { 1 ≤ left }
     ensures ok { IfOk result (λ value.
-        defined_at takings left table.now definition.now (view tree.now) ≡ taken value) }
+        defined_at takings left (T.table table.now) definition.now (view tree.now) ≡ taken value) }
     ensures err { IfErr result
-        (IsErrorOf (defined_at takings left table.now definition.now (view tree.now))) }
+        (IsErrorOf (defined_at takings left (T.table table.now) definition.now (view tree.now))) }
 {
     match definition {
         TypeDef::Composite(composite) => composite_value(alloc, table, composite, left, tree),
@@ -137,19 +139,20 @@ fn value_by(
 /// A value of a struct.
 #[cycle(value)]
 #[inline(never)]
-fn composite_value(
+fn composite_value<T: Definitions>(
     alloc: Global,
-    table: &PortableRegistry,
+    table: &T,
     composite: &TypeDefComposite<PortableForm>,
     left: u8,
     tree: &Value,
 ) -> Result<Dyn, ValueJsonError>
     requires { 1 ≤ left }
     ensures ok { IfOk result (λ value.
-        defined_at takings left table.now (def.Composite composite.now) (view tree.now)
+        defined_at takings left (T.table table.now) (def.Composite composite.now) (view tree.now)
         ≡ taken value) }
     ensures err { IfErr result (IsErrorOf
-        (defined_at takings left table.now (def.Composite composite.now) (view tree.now))) }
+        (defined_at takings left (T.table table.now) (def.Composite composite.now)
+        (view tree.now))) }
 {
     let values = fields(alloc, table, composite.fields.as_slice(), left, tree)?;
     Ok(Dyn::Record(values))
@@ -158,19 +161,19 @@ fn composite_value(
 /// A value of an enum.
 #[cycle(value)]
 #[inline(never)]
-fn variant_value(
+fn variant_value<T: Definitions>(
     alloc: Global,
-    table: &PortableRegistry,
+    table: &T,
     choice: &TypeDefVariant<PortableForm>,
     left: u8,
     tree: &Value,
 ) -> Result<Dyn, ValueJsonError>
     requires { 1 ≤ left }
     ensures ok { IfOk result (λ value.
-        defined_at takings left table.now (def.Variant choice.now) (view tree.now)
+        defined_at takings left (T.table table.now) (def.Variant choice.now) (view tree.now)
         ≡ taken value) }
     ensures err { IfErr result (IsErrorOf
-        (defined_at takings left table.now (def.Variant choice.now) (view tree.now))) }
+        (defined_at takings left (T.table table.now) (def.Variant choice.now) (view tree.now))) }
 {
     let Some((name, content)) = variant_parts(tree) else {
         return Err(ValueJsonError::Mismatch);
@@ -198,18 +201,19 @@ fn variant_value(
 /// The fields of a variant, if it has any.
 #[cycle(value)]
 #[inline(always)]
-fn variant_fields(
+fn variant_fields<T: Definitions>(
     alloc: Global,
-    table: &PortableRegistry,
+    table: &T,
     all: &[Field<PortableForm>],
     left: u8,
     content: Option<&Value>,
 ) -> Result<Items<(Option<Text>, Dyn)>, ValueJsonError>
     requires { 1 ≤ left }
     ensures ok { IfOk result (λ values.
-        variant_fields_within left table.now all.now (seen content.entry) ≡ taken values) }
+        variant_fields_within left (T.table table.now) all.now
+        (seen content.entry) ≡ taken values) }
     ensures err { IfErr result
-        (IsErrorOf (variant_fields_within left table.now all.now (seen content.entry))) }
+        (IsErrorOf (variant_fields_within left (T.table table.now) all.now (seen content.entry))) }
 {
     if all.is_empty() {
         return if is_nothing(content) {
@@ -227,18 +231,18 @@ fn variant_fields(
 /// The values of fields, under the fields' names.
 #[cycle(value)]
 #[inline(never)]
-fn fields(
+fn fields<T: Definitions>(
     alloc: Global,
-    table: &PortableRegistry,
+    table: &T,
     all: &[Field<PortableForm>],
     left: u8,
     tree: &Value,
 ) -> Result<Items<(Option<Text>, Dyn)>, ValueJsonError>
     requires { 1 ≤ left }
     ensures ok { IfOk result
-        (λ values. fields_within left table.now all.now (view tree.now) ≡ taken values) }
+        (λ values. fields_within left (T.table table.now) all.now (view tree.now) ≡ taken values) }
     ensures err { IfErr result
-        (IsErrorOf (fields_within left table.now all.now (view tree.now))) }
+        (IsErrorOf (fields_within left (T.table table.now) all.now (view tree.now))) }
 {
     if is_object_of(alloc, all) {
         return object_fields(alloc, table, all, left, tree);
@@ -252,18 +256,19 @@ fn fields(
 /// The values of fields, from the members of an object.
 #[cycle(value)]
 #[inline(always)]
-fn object_fields(
+fn object_fields<T: Definitions>(
     alloc: Global,
-    table: &PortableRegistry,
+    table: &T,
     all: &[Field<PortableForm>],
     left: u8,
     tree: &Value,
 ) -> Result<Items<(Option<Text>, Dyn)>, ValueJsonError>
     requires { 1 ≤ left }
     ensures ok { IfOk result
-        (λ values. object_fields_within left table.now all.now (view tree.now) ≡ taken values) }
+        (λ values. object_fields_within left (T.table table.now) all.now
+        (view tree.now) ≡ taken values) }
     ensures err { IfErr result
-        (IsErrorOf (object_fields_within left table.now all.now (view tree.now))) }
+        (IsErrorOf (object_fields_within left (T.table table.now) all.now (view tree.now))) }
 {
     if !has_members(all.len(), tree) {
         return Err(ValueJsonError::Mismatch);
@@ -282,18 +287,18 @@ fn object_fields(
 /// The values of fields, from trees in order.
 #[cycle(value)]
 #[inline(always)]
-fn array_fields(
+fn array_fields<T: Definitions>(
     alloc: Global,
-    table: &PortableRegistry,
+    table: &T,
     all: &[Field<PortableForm>],
     left: u8,
     trees: &[Value],
 ) -> Result<Items<(Option<Text>, Dyn)>, ValueJsonError>
     requires { 1 ≤ left }
     ensures ok { IfOk result (λ values.
-        array_fields_within left table.now all.now (map view trees.now) ≡ taken values) }
+        array_fields_within left (T.table table.now) all.now (map view trees.now) ≡ taken values) }
     ensures err { IfErr result
-        (IsErrorOf (array_fields_within left table.now all.now (map view trees.now))) }
+        (IsErrorOf (array_fields_within left (T.table table.now) all.now (map view trees.now))) }
 {
     let mut values = Items::new(alloc);
     let mut rest = trees;
@@ -314,9 +319,9 @@ fn array_fields(
 /// A list of items of one type: so many, if there is a count.
 #[cycle(value)]
 #[inline(never)]
-fn list(
+fn list<T: Definitions>(
     alloc: Global,
-    table: &PortableRegistry,
+    table: &T,
     ty: &UntrackedSymbol<TypeId>,
     count: Option<u32>,
     left: u8,
@@ -324,9 +329,10 @@ fn list(
 ) -> Result<Dyn, ValueJsonError>
     requires { 1 ≤ left }
     ensures ok { IfOk result
-        (λ value. items_within left table.now ty.now count (view tree.now) ≡ taken value) }
+        (λ value. items_within left (T.table table.now) ty.now count
+        (view tree.now) ≡ taken value) }
     ensures err { IfErr result
-        (IsErrorOf (items_within left table.now ty.now count (view tree.now))) }
+        (IsErrorOf (items_within left (T.table table.now) ty.now count (view tree.now))) }
 {
     if is_byte(table, ty.id) {
         if let Some(text) = tree.as_str() {
@@ -344,19 +350,19 @@ fn list(
 /// The values of trees, of one type.
 #[cycle(value)]
 #[inline(always)]
-fn items(
+fn items<T: Definitions>(
     alloc: Global,
-    table: &PortableRegistry,
+    table: &T,
     ty: &UntrackedSymbol<TypeId>,
     left: u8,
     trees: &[Value],
 ) -> Result<Items<Dyn>, ValueJsonError>
     requires { 1 ≤ left }
     ensures ok { IfOk result (λ values.
-        each (value_at takings (left - 1) table.now ty.now.id) (map view trees.now)
+        each (value_at takings (left - 1) (T.table table.now) ty.now.id) (map view trees.now)
         ≡ taken values) }
     ensures err { IfErr result (IsErrorOf
-        (each (value_at takings (left - 1) table.now ty.now.id) (map view trees.now))) }
+        (each (value_at takings (left - 1) (T.table table.now) ty.now.id) (map view trees.now))) }
 {
     let mut values = Items::new(alloc);
     for tree in trees {
@@ -369,18 +375,20 @@ fn items(
 /// A value of a tuple.
 #[cycle(value)]
 #[inline(never)]
-fn tuple_value(
+fn tuple_value<T: Definitions>(
     alloc: Global,
-    table: &PortableRegistry,
+    table: &T,
     tuple: &TypeDefTuple<PortableForm>,
     left: u8,
     tree: &Value,
 ) -> Result<Dyn, ValueJsonError>
     requires { 1 ≤ left }
     ensures ok { IfOk result (λ value.
-        defined_at takings left table.now (def.Tuple tuple.now) (view tree.now) ≡ taken value) }
+        defined_at takings left (T.table table.now) (def.Tuple tuple.now)
+        (view tree.now) ≡ taken value) }
     ensures err { IfErr result
-        (IsErrorOf (defined_at takings left table.now (def.Tuple tuple.now) (view tree.now))) }
+        (IsErrorOf (defined_at takings left (T.table table.now) (def.Tuple tuple.now)
+        (view tree.now))) }
 {
     match items_of(tree) {
         Some(trees) => {
@@ -394,18 +402,20 @@ fn tuple_value(
 /// A value of each type in order.
 #[cycle(value)]
 #[inline(always)]
-fn members(
+fn members<T: Definitions>(
     alloc: Global,
-    table: &PortableRegistry,
+    table: &T,
     types: &[UntrackedSymbol<TypeId>],
     left: u8,
     trees: &[Value],
 ) -> Result<Items<Dyn>, ValueJsonError>
     requires { 1 ≤ left }
     ensures ok { IfOk result (λ values.
-        in_turn (takers_within left table.now types.now) (map view trees.now) ≡ taken values) }
+        in_turn (takers_within left (T.table table.now) types.now)
+        (map view trees.now) ≡ taken values) }
     ensures err { IfErr result
-        (IsErrorOf (in_turn (takers_within left table.now types.now) (map view trees.now))) }
+        (IsErrorOf (in_turn (takers_within left (T.table table.now) types.now)
+        (map view trees.now))) }
 {
     let mut values = Items::new(alloc);
     let mut rest = trees;
@@ -426,18 +436,20 @@ fn members(
 /// A value of a map.
 #[cycle(value)]
 #[inline(never)]
-fn map_value(
+fn map_value<T: Definitions>(
     alloc: Global,
-    table: &PortableRegistry,
+    table: &T,
     map: &TypeDefMap<PortableForm>,
     left: u8,
     tree: &Value,
 ) -> Result<Dyn, ValueJsonError>
     requires { 1 ≤ left }
     ensures ok { IfOk result (λ value.
-        defined_at takings left table.now (def.Map map.now) (view tree.now) ≡ taken value) }
+        defined_at takings left (T.table table.now) (def.Map map.now)
+        (view tree.now) ≡ taken value) }
     ensures err { IfErr result
-        (IsErrorOf (defined_at takings left table.now (def.Map map.now) (view tree.now))) }
+        (IsErrorOf (defined_at takings left (T.table table.now) (def.Map map.now)
+        (view tree.now))) }
 {
     match items_of(tree) {
         Some(trees) if is_count_of(None, trees.len()) => {
@@ -450,9 +462,9 @@ fn map_value(
 /// The pairs of a key and a value that trees are.
 #[cycle(value)]
 #[inline(always)]
-fn pairs(
+fn pairs<T: Definitions>(
     alloc: Global,
-    table: &PortableRegistry,
+    table: &T,
     key: &UntrackedSymbol<TypeId>,
     value: &UntrackedSymbol<TypeId>,
     left: u8,
@@ -460,9 +472,10 @@ fn pairs(
 ) -> Result<Items<Dyn>, ValueJsonError>
     requires { 1 ≤ left }
     ensures ok { IfOk result (λ values.
-        each (pair_within left table.now key.now value.now) (map view trees.now) ≡ taken values) }
+        each (pair_within left (T.table table.now) key.now value.now)
+        (map view trees.now) ≡ taken values) }
     ensures err { IfErr result (IsErrorOf
-        (each (pair_within left table.now key.now value.now) (map view trees.now))) }
+        (each (pair_within left (T.table table.now) key.now value.now) (map view trees.now))) }
 {
     let mut values = Items::new(alloc);
     for tree in trees {
@@ -474,9 +487,9 @@ fn pairs(
 
 /// A key and a value.
 #[cycle(value)]
-fn pair(
+fn pair<T: Definitions>(
     alloc: Global,
-    table: &PortableRegistry,
+    table: &T,
     key: &UntrackedSymbol<TypeId>,
     value: &UntrackedSymbol<TypeId>,
     left: u8,
@@ -484,9 +497,9 @@ fn pair(
 ) -> Result<Dyn, ValueJsonError>
     requires { 1 ≤ left }
     ensures ok { IfOk result (λ entry.
-        pair_within left table.now key.now value.now (view tree.now) ≡ taken entry) }
+        pair_within left (T.table table.now) key.now value.now (view tree.now) ≡ taken entry) }
     ensures err { IfErr result
-        (IsErrorOf (pair_within left table.now key.now value.now (view tree.now))) }
+        (IsErrorOf (pair_within left (T.table table.now) key.now value.now (view tree.now))) }
 {
     let inner = left.saturating_sub(2);
     let Some(both) = items_of(tree) else {

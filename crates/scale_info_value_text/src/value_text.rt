@@ -23,7 +23,7 @@ pub enum ValueTextError {
     #[error("{0}")]
     Value(ValueError),
     /// Bytes are left after the value.
-    #[error("Trailing")]
+    #[error("there are bytes after the value")]
     Trailing,
 }
 

@@ -29,7 +29,7 @@ pub enum WithinError<E> {
     #[error("{0}")]
     Failed(Failure),
     /// There are more values than the limit.
-    #[error("TooLarge")]
+    #[error("the value has more parts than the limit")]
     TooLarge,
     /// The visitor stopped.
     #[error("{0}")]

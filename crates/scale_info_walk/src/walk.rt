@@ -22,20 +22,20 @@ use thiserror::Error;
 /// The number of an index that has none: no order is so long.
 pub(crate) const NONE: u32 = 4294967295;
 
-/// Why a table could not be numbered or pruned. It is displayed as the name of the variant alone.
+/// Why a table could not be numbered or pruned.
 #[derive(Debug, Drop, PartialEq, Eq, Error)]
 pub enum RetainError {
     /// An id is reached that is no index of the table.
-    #[error("Dangling")]
+    #[error("dangling id {id}")]
     Dangling {
         /// The first such id that is met from the roots, depth first.
         id: u32,
     },
     /// The table has more than 4294967295 entries.
-    #[error("TooManyTypes")]
+    #[error("the table has more than 4294967295 types")]
     TooManyTypes,
     /// An allocation failed.
-    #[error("Memory")]
+    #[error("out of memory")]
     Memory,
 }
 

@@ -10,15 +10,13 @@ use test_memory_build::{
 };
 use test_memory_common::outcomes::Outcome;
 use test_memory_common::types::catalogue;
-use test_memory_lent::{changes, each, events, graphs, lent_tables, within};
+use test_memory_lent::{changes, each, events, graphs, lent_types, within};
 use test_memory_parts::{copies, interners as texts, lists, looks as parts, moves, orders};
 use test_memory_tables::{
     builders, bytes, conversions, discoveries, exports, interners, json, looks, prunings,
     registrations as registries,
 };
-use test_memory_types::{
-    catalogues, conversions as kinds, errors, identities, registrations, surface,
-};
+use test_memory_types::{catalogues, conversions as kinds, errors, identities, registrations};
 
 /// Makes the call of a line: one of builders, or another.
 pub fn call(rt: &HostRuntime, line: &str) -> Result<Outcome, Fail> {
@@ -163,7 +161,6 @@ fn call_of_types(rt: &HostRuntime, name: &str, input: &str) -> Result<Outcome, F
         "add_another_described" => catalogues::add_described_after(rt, "u32", input),
         "look_at_catalogue" => catalogues::look(rt, input),
         "error" => errors::error(rt, input),
-        "look_at_public_items" => surface::items(rt),
         _ => call_of_registrations(rt, name, input),
     }
 }
@@ -290,13 +287,12 @@ fn call_of_passes(rt: &HostRuntime, name: &str, input: &str) -> Result<Outcome, 
         "pass" => passes::pass(rt, input),
         "index_entries" => passes::index(rt, input),
         "run" => runs::run(rt, input),
-        "decode_type" => lent_tables::decode_description(rt, input),
-        "owned_type" => lent_tables::copy(rt, input),
+        "decode_type" => lent_types::decode_description(rt, input),
+        "owned_type" => lent_types::copy(rt, input),
         _ => match name.split_once("::") {
             Some(("PortableRegistryBuilder", name)) => builders::call(rt, name, input),
             Some(("Dyn", name)) => built::build(rt, name, input),
             Some(("TableView", name)) => call_of_views(rt, name, input),
-            Some(("LentTable", name)) => lent_tables::call(rt, name, input),
             _ => Err(Fail::new("no call has this name")),
         },
     }

@@ -14,7 +14,7 @@ use test_memory_tables::bytes::with_rest;
 fn decoded<T: DecodeAs + EncodeAs>(rt: &HostRuntime, row: &str) -> Result<Outcome, Fail> {
     let given = Given::read(rt.alloc(), row)?;
     let table = &given.table.0;
-    let returned = marked!(rt; decode_as::<T>(rt.alloc(), table, given.id, &given.input));
+    let returned = marked!(rt; decode_as::<T, _>(rt.alloc(), table, given.id, &given.input));
     let answer = match returned {
         Ok((value, rest)) => {
             let mut bytes = Vec::new(rt.alloc());
@@ -31,7 +31,7 @@ fn encoded<T: DecodeAs + EncodeAs>(rt: &HostRuntime, row: &str) -> Result<Outcom
     let (ids, table, input) = parts_of(row)?;
     let (id, other) = ids_of(ids)?;
     let table = Held(table_of(rt.alloc(), table)?);
-    let (value, _) = decode_as::<T>(rt.alloc(), &table.0, id, &row_bytes(rt.alloc(), input)?)?;
+    let (value, _) = decode_as::<T, _>(rt.alloc(), &table.0, id, &row_bytes(rt.alloc(), input)?)?;
     let value = Held(value);
     appended!(rt; out => encode_as(rt.alloc(), &table.0, other, &value.0, &mut out))
 }

@@ -11,7 +11,7 @@ use test_memory_common::inputs::bytes_of;
 use test_memory_common::marks::{begin, end};
 use test_memory_common::outcomes::Outcome;
 use test_memory_common::{answered, marked};
-use test_memory_lent::lent_tables::indexed;
+use test_memory_lent::lent_types::indexed;
 use test_memory_tables::bytes::with_rest;
 use test_memory_tables::prunings::walked;
 

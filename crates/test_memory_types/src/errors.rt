@@ -28,9 +28,9 @@ fn text_of<T: Display + Drop>(rt: &HostRuntime, value: T) -> Result<Outcome, Fai
     Outcome::of(printed(rt.alloc(), text))
 }
 
-/// The error that names an identity.
-fn undescribed(alloc: Global) -> RegisterError {
-    RegisterError::Undescribed(TypeId::new("demo::A", Vec::new(alloc), Vec::new(alloc)))
+/// The identity that errors name.
+fn named(alloc: Global) -> TypeId {
+    TypeId::new("demo::A", Vec::new(alloc), Vec::new(alloc))
 }
 
 /// Writes the error of this name.
@@ -61,7 +61,9 @@ fn error_of_types(rt: &HostRuntime, name: &str) -> Result<Outcome, Fail> {
         "CatalogueError::Conflict" => text_of(rt, CatalogueError::Conflict),
         "CatalogueError::TooLong" => text_of(rt, CatalogueError::TooLong),
         "CatalogueError::Memory" => text_of(rt, CatalogueError::Memory),
-        "RegisterError::Undescribed" => text_of(rt, undescribed(rt.alloc())),
+        "RegisterError::Undescribed" => {
+            text_of(rt, RegisterError::Undescribed(named(rt.alloc())))
+        }
         "RegisterError::Full" => text_of(rt, RegisterError::Full),
         "RegisterError::Memory" => text_of(rt, RegisterError::Memory),
         "ValueError::NoSuchType" => text_of(rt, ValueError::NoSuchType),
@@ -79,15 +81,14 @@ fn error_of_tables(rt: &HostRuntime, name: &str) -> Result<Outcome, Fail> {
         "RetainError::Dangling" => text_of(rt, RetainError::Dangling { id: 7 }),
         "RetainError::TooManyTypes" => text_of(rt, RetainError::TooManyTypes),
         "RetainError::Memory" => text_of(rt, RetainError::Memory),
-        "PruneError::Decode" => text_of(rt, PruneError::Decode(DecodeError::Malformed)),
+        "PruneError::Malformed" => text_of(rt, PruneError::Malformed),
         "PruneError::Trailing" => text_of(rt, PruneError::Trailing),
         "PruneError::NoSuchType" => text_of(rt, PruneError::NoSuchType(7)),
-        "PruneError::Retain" => text_of(rt, PruneError::Retain(RetainError::Dangling { id: 7 })),
-        "PruneError::Encode" => text_of(rt, PruneError::Encode(EncodeError::TooLong)),
+        "PruneError::Dangling" => text_of(rt, PruneError::Dangling(7)),
         "PruneError::Memory" => text_of(rt, PruneError::Memory),
-        "ExportError::Register" => text_of(rt, ExportError::Register(undescribed(rt.alloc()))),
-        "ExportError::Retain" => text_of(rt, ExportError::Retain(RetainError::TooManyTypes)),
-        "ExportError::Encode" => text_of(rt, ExportError::Encode(EncodeError::TooLong)),
+        "ExportError::Undescribed" => text_of(rt, ExportError::Undescribed(named(rt.alloc()))),
+        "ExportError::Full" => text_of(rt, ExportError::Full),
+        "ExportError::TooLong" => text_of(rt, ExportError::TooLong),
         "ExportError::Memory" => text_of(rt, ExportError::Memory),
         _ => error_of_texts(rt, name),
     }
@@ -158,9 +159,9 @@ fn error_of_conversions(rt: &HostRuntime, name: &str) -> Result<Outcome, Fail> {
         "ConvertError::Mismatch" => text_of(rt, ConvertError::Mismatch),
         "ConvertError::Memory" => text_of(rt, ConvertError::Memory),
         "DecodeAsError::Decode" => text_of(rt, DecodeAsError::Decode(ValueError::Malformed)),
-        "DecodeAsError::Convert" => text_of(rt, DecodeAsError::Convert(ConvertError::Mismatch)),
+        "DecodeAsError::Mismatch" => text_of(rt, DecodeAsError::Mismatch),
         "EncodeAsError::Encode" => text_of(rt, EncodeAsError::Encode(mismatch(rt.alloc())?)),
-        "EncodeAsError::Convert" => text_of(rt, EncodeAsError::Convert(ConvertError::Mismatch)),
+        "EncodeAsError::Mismatch" => text_of(rt, EncodeAsError::Mismatch),
         _ => Err(Fail::new("no error has this name")),
     }
 }

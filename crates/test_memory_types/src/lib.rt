@@ -8,4 +8,3 @@ pub mod errors;
 pub mod identities;
 pub mod nested;
 pub mod registrations;
-pub mod surface;

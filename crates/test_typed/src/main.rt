@@ -59,7 +59,7 @@ fn is_back<T: DecodeAs + EncodeAs>(
     id: u32,
     input: &[u8],
 ) -> Result<bool> {
-    let (value, rest) = decode_as::<T>(alloc, table, id, input)?;
+    let (value, rest) = decode_as::<T, _>(alloc, table, id, input)?;
     let mut bytes = Vec::new(alloc);
     encode_as(alloc, table, id, &value, &mut bytes)?;
     bytes.extend_from_slice(rest)?;

@@ -146,8 +146,7 @@ fn leads_nowhere(rt: &impl Abort, alloc: Global, id: u32, root: u32) -> Result<(
     let mut output = vec![in alloc; 0xaa]?;
     let bytes = into_encoding(alloc, table)?;
     let error = prune(alloc, &bytes, &[root], &mut output).err();
-    let dangling = PruneError::Retain(RetainError::Dangling { id });
-    is(rt, "prune", error, Some(dangling));
+    is(rt, "prune", error, Some(PruneError::Dangling(id)));
     is(rt, "output", output.as_slice(), [0xaa].as_slice());
     Ok(())
 }

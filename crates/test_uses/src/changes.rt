@@ -2,7 +2,6 @@
 //! change of one byte of a table of each kind of definition, under each command.
 use crate::asserts::{holds, is};
 use crate::runs::{expected, refused, run_over};
-use scale_info::lent_form::LentTable;
 use scale_info::view::TableView;
 use scale_info::{DecodeError, PortableRegistry, PruneError, prune};
 use std::alloc::Global;
@@ -107,9 +106,7 @@ fn is_malformed<T: Drop>(rt: &impl Abort, name: &str, returned: Result<T, Decode
 fn has_no_table(rt: &impl Abort, alloc: Global, name: &str, input: &[u8]) -> Result<(), Fail> {
     is_malformed(rt, name, PortableRegistry::decode(alloc, input));
     is_malformed(rt, name, TableView::decode(alloc, input));
-    is_malformed(rt, name, LentTable::new(alloc, input));
-    let reason = PruneError::Decode(DecodeError::Malformed);
-    is_not_pruned(rt, alloc, name, input, reason)?;
+    is_not_pruned(rt, alloc, name, input, PruneError::Malformed)?;
     is_refused(rt, alloc, name, input, "malformed")
 }
 

@@ -11,7 +11,6 @@ ghost use Rattle.type_reader_run.specs.Refusals.{IsReachingError};
 use crate::output::{Output, OutputBytes};
 use itoa::Buffer;
 use scale_info_prune::prune::{PruneError, prune};
-use scale_info_walk::walk::RetainError;
 use std::alloc::{AllocError, Global};
 use std::collections::BTreeMap;
 use type_reader_io::error::ReaderError;
@@ -38,8 +37,8 @@ fn lines_of(alloc: Global, new_ids: &BTreeMap<u32, u32>) -> Result<Vec<u8>, Allo
     Ok(out.into_bytes())
 }
 
-/// The program's error for one of pruning, or of comparing. Those that never come, as what is given
-/// is a table, and each id an index of it, are as that of an allocation.
+/// The program's error for one of pruning, or of comparing. Those that don't come here, as what is
+/// given is a table, and each id an index of it, are as that of an allocation.
 pub fn error_of(error: PruneError) -> ReaderError
     ensures pruning { (table ids : List ℕ) → IsPruneError table ids error
         → IsReachingError table ids result }
@@ -47,7 +46,7 @@ pub fn error_of(error: PruneError) -> ReaderError
         → IsReferenceError old result ⊎ IsReferenceError new result }
 {
     match error {
-        PruneError::Retain(RetainError::Dangling { id }) => ReaderError::Dangling(id),
+        PruneError::Dangling(id) => ReaderError::Dangling(id),
         _ => ReaderError::Memory,
     }
 }

@@ -16,7 +16,6 @@ use scale_info_diff::named::NamedTable;
 use scale_info_prune::indexed::IndexedTable;
 use scale_info_prune::prune::PruneError;
 use scale_info_types::ty::PortableType;
-use scale_info_walk::walk::RetainError;
 use std::alloc::{AllocError, Global};
 use type_reader_io::command::Docs;
 use type_reader_io::error::ReaderError;
@@ -102,7 +101,7 @@ pub fn reason_of(
     let new_ids = new.named.ids_of(path);
     match declared_change_of(alloc, &mut old.indexed, ids, &mut new.indexed, new_ids) {
         Ok(found) => Ok(found),
-        Err(PruneError::Retain(RetainError::Dangling { .. })) => Ok(None),
+        Err(PruneError::Dangling(_)) => Ok(None),
         Err(_) => Err(AllocError),
     }
 }

@@ -5,7 +5,7 @@ use crate::runtime::runtime_table;
 use anyhow::{Result, bail};
 use scale_info::PortableRegistry;
 use scale_info::loaded::LoadedTypes;
-use scale_info::value::{Definitions, decode_value, decode_value_by};
+use scale_info::value::{Definitions, decode_value};
 use scale_info::view::TableView;
 use std::alloc::Global;
 
@@ -70,7 +70,7 @@ fn put_values<T: Definitions>(
             1 => second,
             _ => third,
         };
-        let (value, rest) = decode_value_by(alloc, types, id, input)?;
+        let (value, rest) = decode_value(alloc, types, id, input)?;
         digest.put_value(&value);
         digest.put(rest.len() as u64);
         input = more;

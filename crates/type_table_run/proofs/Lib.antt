@@ -1,3 +1,2 @@
-pub mod PruneErrors
 pub mod Reports
 mod Rests

@@ -1,4 +1,3 @@
-pub mod Errors
 pub mod OneTable
 pub mod Outputs
 pub mod Refusals

@@ -1,36 +1,34 @@
 //! What a command writes for its input.
-ghost use Rattle.std.specs.Prelude.{◌≡◌, All, IfOk, IfErr, map};
+ghost use Rattle.std.specs.Prelude.{◌≡◌, ◌↔◌, All, IfOk, IfErr, List, map, ℕ};
+ghost use Rattle.scale_info_prune.specs.Prunes.{IsPruneError};
+ghost use Rattle.scale_info_prune.specs.declared.prune.PruneError.TheVariants as prune_error;
 ghost use Rattle.type_table_io.specs.Commands.{HasIdTexts, given_ids};
 ghost use Rattle.type_table_io.specs.Ids.{IsIdText, id_in};
-ghost use Rattle.type_table_run.specs.Errors.{error_of};
+ghost use Rattle.type_table_io.specs.declared.error.RunError.TheVariants as run_error;
 ghost use Rattle.type_table_run.specs.Outputs.{IsPrunedTo, Outputs};
 ghost use Rattle.type_table_run.specs.Refusals.{IsCommandError};
 
 use crate::json_line::json_of;
 use crate::table::check_table;
-use scale_info_bytes::error::DecodeError;
 use scale_info_collections::text::Text;
 use scale_info_prune::prune::{PruneError, append_pruned};
-use scale_info_walk::walk::RetainError;
 use std::alloc::Global;
 use type_table_io::command::Command;
 use type_table_io::error::RunError;
 use type_table_io::id::ids_of;
 
-/// The program's error for one of pruning. Those that `append_pruned` says never come are as that
-/// of an allocation.
+/// The program's error for one of pruning.
 fn command_error(error: PruneError) -> RunError
-    ensures { result ≡ error_of error }
+    ensures cause { (given input : List ℕ) → IsPruneError input given error
+        → IsCommandError given input result }
+    ensures memory { (result ≡ run_error.Memory) ↔ (error ≡ prune_error.Memory) }
 {
     match error {
-        PruneError::Decode(DecodeError::Malformed) => RunError::Malformed,
+        PruneError::Malformed => RunError::Malformed,
         PruneError::Trailing => RunError::TrailingBytes,
         PruneError::NoSuchType(id) => RunError::NoSuchType(id),
-        PruneError::Retain(RetainError::Dangling { id }) => RunError::Dangling(id),
-        PruneError::Decode(DecodeError::Memory)
-        | PruneError::Retain(RetainError::TooManyTypes | RetainError::Memory)
-        | PruneError::Encode(_)
-        | PruneError::Memory => RunError::Memory,
+        PruneError::Dangling(id) => RunError::Dangling(id),
+        PruneError::Memory => RunError::Memory,
     }
 }
 

@@ -5,7 +5,7 @@ ghost use Rattle.scale_info_export.specs.declared.export.ExportError as export_e
 ghost use Rattle.scale_info_export.specs.declared.export.Exported as exporteds;
 
 use crate::export::{ExportError, Exported};
-use scale_info_catalogue::laws::equal_register_errors;
+use scale_info_identities::laws::equal_type_ids;
 
 /// What is returned is equal exactly where the ids are, in order, and the maps have the same
 /// entries.
@@ -17,10 +17,10 @@ pub fn equal_exported()
 /// Errors of exports are equal exactly where they are of one variant and what they hold is the
 /// same; an identity within is compared as its term.
 ///
-/// So `Register` of `Undescribed` of `u32` is another error than that of `u64`.
+/// So `Undescribed` of `u32` is another error than `Undescribed` of `u64`.
 pub fn equal_export_errors()
     ensures { (a b : export_errors.ExportError)
         → IsTrue (⟦<ExportError as PartialEq>⟧.eq a b) ↔ AreSameExportErrors a b }
 {
-    equal_register_errors();
+    equal_type_ids();
 }

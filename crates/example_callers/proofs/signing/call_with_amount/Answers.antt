@@ -6,7 +6,7 @@ use Rattle.scale_info.specs.Readings.{reading}
 use Rattle.example_callers.proofs.signing.call_with_amount.Goals as goal
 
 pub returns : goal.returns
-returns c =
+returns g c =
     let call = c.in_ok-call.call in
     let new = c.in_ok-call-2.call in
     let appended = c.in_ok-encode_value.ensures.ok in
@@ -22,6 +22,6 @@ returns c =
       changed = c.in_ok-call-2.ensures;
       was_read = c.in_ok-call.ensures.ok ∙ ap (decoded call) none_left;
       is_read =
-          ap (reading c.args.table.now c.args.id 1) whole
-          ∙ c.read_back.ensures c.args.table.now c.args.id 1 new appended.encoding appended.encodes [];
+          ap (reading (g.T.Definitions.table c.args.table.now) c.args.id 1) whole
+          ∙ c.read_back.ensures (g.T.Definitions.table c.args.table.now) c.args.id 1 new appended.encoding appended.encodes [];
     }

@@ -5,6 +5,6 @@ use Rattle.scale_info_describe.specs.TypeDeclarations.{variant_line}
 use Rattle.scale_info_describe.proofs.describe.append_enum.Given as goal
 
 abbrev pub invariant-loop-variant : goal.invariant-loop-variant
-invariant-loop-variant l =
-    string_bytes l.out ++ flat_map (variant_line (name_within 8 l.table)) (drop l.variant-index l.variants)
-    ≡ string_bytes l.initial.out ++ flat_map (variant_line (name_within 8 l.table)) l.variants
+invariant-loop-variant g l =
+    string_bytes l.out ++ flat_map (variant_line (name_within 8 (g.T.Definitions.table l.table))) (drop l.variant-index l.variants)
+    ≡ string_bytes l.initial.out ++ flat_map (variant_line (name_within 8 (g.T.Definitions.table l.table))) l.variants

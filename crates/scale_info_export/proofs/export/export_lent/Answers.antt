@@ -4,7 +4,7 @@ use Rattle.scale_info_catalogue.specs.CatalogueSystems.{catalogue_system}
 use Rattle.scale_info_catalogue.specs.Discoveries.{roots_of}
 use Rattle.scale_info_export.specs.Exports.{IsExported, IsRegisteredTable}
 use Rattle.scale_info_export.specs.LentEntries.{lent_entries, picked, renumbered_entries}
-use Rattle.scale_info_export.proofs.Exported.{encode_error, retain_error}
+use Rattle.scale_info_export.proofs.Exported.{encode_error, only_memory}
 use Rattle.scale_info_export.proofs.LentEntries.{length_lent, lent_pruned, lent_table}
 use Rattle.scale_info_registry.specs.LentTypes.{all_with_ids_in}
 use Rattle.scale_info_registry.specs.Registrations.{registered}
@@ -44,7 +44,7 @@ is_exported :
       types = lent_entries c.in_ok-found.found.numbers c.in_ok-found.found.descriptions.items;
     })
     → IsExported (catalogue_system c.args.catalogue.now) (roots_of c.args.types.now) (goal.F-step g)
-    c.args.filter c.in_ok-found.found.ids.items c.in_ok-kept.kept.map
+    c.args.filter c.in_ok-found.found.ids.items c.in-Ok.kept.map
     (record {
       types =
           renumbered_entries c.in_ok-found.found.numbers c.deref-2.result.now
@@ -53,19 +53,28 @@ is_exported :
 is_exported g c table =
     lent_pruned (catalogue_system c.args.catalogue.now) (roots_of c.args.types.now)
     c.in_ok-found.found.numbers c.in_ok-found.found.descriptions.items c.in_ok-found.found.ids.items
-    c.deref.result.now c.deref-2.result.now c.in_ok-kept.kept.order.items
-    c.in_ok-kept.kept.numbers.items c.in_ok-kept.kept.map _ c.args.filter table
-    c.deref.ensures.value c.deref-2.ensures.value c.in_ok-kept.ensures.within
-    c.in_ok-kept.ensures.ok
+    c.deref.result.now c.deref-2.result.now c.in-Ok.kept.order.items
+    c.in-Ok.kept.numbers.items c.in-Ok.kept.map _ c.args.filter table
+    c.deref.ensures.value c.deref-2.ensures.value c.in-Ok.ensures.within
+    c.in-Ok.ensures.ok
 
-pub returns-in_err-kept-clause-cause : goal.returns-in_err-kept-clause-cause
-returns-in_err-kept-clause-cause g c =
-    let at = (goal.at.returns-in_err-kept-clause-cause g c).In_ok-found in
-    let p = err_from_is_err_and c.from_residual-in_err-kept.result c.from_residual-in_err-kept.ensures.1 in
-    rw (p.1, p.2)
-    (retain_error (catalogue_system c.args.catalogue.now) (roots_of c.args.types.now)
+pub unreachable-requires : goal.unreachable-requires
+unreachable-requires g c =
+    let at = (goal.at.unreachable-requires g c).In_ok-found in
+    let only =
+    only_memory (catalogue_system c.args.catalogue.now) (roots_of c.args.types.now)
     c.in_ok-found.found.ids.items (whole g at) _ c.args.filter (is_table g at)
-    c.in_err-kept.field-0.0 c.in_err-kept.ensures.cause)
+    c.in-Err-Dangling.field-0 c.in-Err-Dangling.ensures.cause in
+    cc
+
+pub unreachable-requires-in-Err-TooManyTypes : goal.unreachable-requires-in-Err-TooManyTypes
+unreachable-requires-in-Err-TooManyTypes g c =
+    let at = (goal.at.unreachable-requires-in-Err-TooManyTypes g c).In_ok-found in
+    let only =
+    only_memory (catalogue_system c.args.catalogue.now) (roots_of c.args.types.now)
+    c.in_ok-found.found.ids.items (whole g at) _ c.args.filter (is_table g at)
+    c.in-Err-TooManyTypes.field-0 c.in-Err-TooManyTypes.ensures.cause in
+    cc
 
 pub returns-in_err-encode_kept-clause-cause : goal.returns-in_err-encode_kept-clause-cause
 returns-in_err-encode_kept-clause-cause g c =
@@ -73,7 +82,7 @@ returns-in_err-encode_kept-clause-cause g c =
     let p = err_from_is_err_and c.from_residual-in_err-encode_kept.result c.from_residual-in_err-encode_kept.ensures.1 in
     rw (p.1, p.2)
     (encode_error (catalogue_system c.args.catalogue.now) (roots_of c.args.types.now)
-    c.in_ok-found.found.ids.items c.in_ok-kept.kept.map _ _ c.args.filter
+    c.in_ok-found.found.ids.items c.in-Ok.kept.map _ _ c.args.filter
     (is_exported g at.After-encode_kept (is_table g at.In_ok-found))
     c.in_err-encode_kept.field-0.0 c.in_err-encode_kept.ensures.too_long)
 

@@ -1,4 +1,4 @@
-use Rattle.std.proofs.Common.{sym, inl, inr}
+use Rattle.std.proofs.Common.{sym, inr}
 use Rattle.std.proofs.lemmas.Result.{err_from_is_err_and}
 use Rattle.scale_info_prune.proofs.Renumbering.{reaches_indices, tells_match}
 use Rattle.scale_info_prune.proofs.same_types.same_types.Goals as goal

@@ -24,14 +24,14 @@ pub returns-clause-read : goal.returns-clause-read
 returns-clause-read g c =
     let value = c.in_ok-standing.standing in
     let appended : OnOk c.map_err-2.result
-    (Appends (writing c.args.table.now c.args.id 1 value) c.args.out.now.items c.encode_value.new.out.items) =
+    (Appends (writing (g.D.Definitions.table c.args.table.now) c.args.id 1 value) c.args.out.now.items c.encode_value.new.out.items) =
     search rules
     in
     on_ok_weaker c.map_err-2.result
     (λ a. record {
       encoding = a.encoding;
       encodes =
-          read_as g.T.Shown.meant c.args.table.now c.args.id value a.encoding (g.T.Shown.seen c.args.value.now)
+          read_as g.T.Shown.meant (g.D.Definitions.table c.args.table.now) c.args.id value a.encoding (g.T.Shown.seen c.args.value.now)
           a.encodes (search rules);
       parts = a.parts;
     })

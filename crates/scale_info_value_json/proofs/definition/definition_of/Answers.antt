@@ -1,23 +1,24 @@
-use Rattle.std.proofs.Common.{◌≡◌, None, Some, ap, option_map, arith}
-use Rattle.std.proofs.lemmas.Grind.{common_steps}
+use Rattle.std.proofs.Common.{◌≡◌, None, Some, ap, option_map, sym, ◌∙◌, arith}
+use Rattle.std.specs.Option.{option_copied}
 use Rattle.scale_info_value.specs.Readings.{type_at}
 use Rattle.scale_info_value.proofs.Steps.{levels_end, levels_missing, levels_known, both_at}
 use Rattle.scale_info_value_json.specs.Takings.{takings}
 use Rattle.scale_info_value_json.proofs.definition.definition_of.Goals as goal
 
 pub returns-then-left-eq0-clause-unknown : goal.returns-then-left-eq0-clause-unknown
-returns-then-left-eq0-clause-unknown c =
-    both_at (levels_end takings c.args.left c.args.table.now c.args.id (omega arith))
+returns-then-left-eq0-clause-unknown g c =
+    both_at (levels_end takings c.args.left (g.T.Definitions.table c.args.table.now) c.args.id (omega arith))
 
 pub returns-in-None-clause-unknown : goal.returns-in-None-clause-unknown
-returns-in-None-clause-unknown c =
-    let none : type_at c.args.table.now c.args.id ≡ None = grind (arith, common_steps) in
-    both_at
-    (levels_missing takings c.args.left c.args.table.now c.args.id (omega arith) (ap (option_map (λ t. t.type_def)) none))
+returns-in-None-clause-unknown g c =
+    let none : option_map (λ d. d.type_def) (type_at (g.T.Definitions.table c.args.table.now) c.args.id) ≡ None =
+    sym c.definition.ensures ∙ ap option_copied c.in-None.is in
+    both_at (levels_missing takings c.args.left (g.T.Definitions.table c.args.table.now) c.args.id (omega arith) none)
 
 pub returns-in-Some-clause-known : goal.returns-in-Some-clause-known
-returns-in-Some-clause-known c =
-    let some : type_at c.args.table.now c.args.id ≡ Some c.in-Some.ty.now = grind (arith, common_steps) in
+returns-in-Some-clause-known g c =
+    let some : option_map (λ d. d.type_def) (type_at (g.T.Definitions.table c.args.table.now) c.args.id)
+    ≡ Some c.in-Some.definition.now =
+    sym c.definition.ensures ∙ ap option_copied c.in-Some.is in
     both_at
-    (levels_known takings c.args.left c.args.table.now c.args.id c.in-Some.ty.now.type_def (omega arith)
-    (ap (option_map (λ t. t.type_def)) some))
+    (levels_known takings c.args.left (g.T.Definitions.table c.args.table.now) c.args.id c.in-Some.definition.now (omega arith) some)

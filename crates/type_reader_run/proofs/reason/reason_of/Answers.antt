@@ -9,16 +9,16 @@ returns-in-Ok-clause-ok c = λ docs table other x y.
     (c.ids_of-ids.ensures x.types x.named) (c.ids_of-new_ids.ensures y.types y.named)
     (inl (c.in-Ok.ensures.ok c.args.old.now.named.bytes.now c.args.new.now.named.bytes.now x.indexed y.indexed))
 
-pub returns-in-Err-Retain-Dangling-clause-ok : goal.returns-in-Err-Retain-Dangling-clause-ok
-returns-in-Err-Retain-Dangling-clause-ok c = λ docs table other x y.
+pub returns-in-Err-Dangling-clause-ok : goal.returns-in-Err-Dangling-clause-ok
+returns-in-Err-Dangling-clause-ok c = λ docs table other x y.
     reasoned_by None x y
     (c.ids_of-ids.ensures x.types x.named) (c.ids_of-new_ids.ensures y.types y.named)
     (inr (
       (
-        c.in-Err-Retain-Dangling.field-0-0-0,
+        c.in-Err-Dangling.field-0-0,
         ⊎_map (λ own. own) (λ theirs. theirs.1)
-            ((rw (c.in-Err-Retain-Dangling.field-0-is, c.in-Err-Retain-Dangling.field-0-0-is) at
-            c.in-Err-Retain-Dangling.ensures.cause) c.args.old.now.named.bytes.now c.args.new.now.named.bytes.now x.indexed y.indexed),
+            ((rw c.in-Err-Dangling.field-0-is at
+            c.in-Err-Dangling.ensures.cause) c.args.old.now.named.bytes.now c.args.new.now.named.bytes.now x.indexed y.indexed),
       ),
       refl,
     ))

@@ -1,7 +1,6 @@
 use Rattle.std.proofs.Common.{rules, ◌≡◌, map, subst}
 use Rattle.scale_info_prune.specs.Prunes.{IsPruneError}
 use Rattle.type_table_io.specs.Ids.{id_in}
-use Rattle.type_table_run.proofs.PruneErrors.{prune_error}
 use Rattle.type_table_run.proofs.output.pruned.Goals as goal
 
 pub returns-clause-err : goal.returns-clause-err
@@ -10,4 +9,4 @@ returns-clause-err c =
     let ids : c.deref.result.now ≡ given = search rules in
     let e = c.in-Err.error in
     let cause = subst (λ ids. IsPruneError c.args.input.now ids e) ids c.in-Err.ensures.cause in
-    rw c.command_error.ensures (prune_error given c.args.input.now e cause)
+    c.command_error.ensures.cause given c.args.input.now cause

@@ -5,8 +5,8 @@ use Rattle.scale_info_export.proofs.laws.equalities.equal_export_errors.Goals as
 pub returns : goal.returns
 returns c =
     elim [
-      | error.Register a ↦ elim [ error.Register b ↦ c.equal_register_errors.ensures a b | _ ↦ ((λ h. cc), (λ h. absurd h)) ]
-      | error.Retain a ↦ elim [ error.Retain b ↦ search rules | _ ↦ ((λ h. cc), (λ h. absurd h)) ]
-      | error.Encode a ↦ elim [ error.Encode b ↦ search rules | _ ↦ ((λ h. cc), (λ h. absurd h)) ]
+      | error.Undescribed a ↦ elim [ error.Undescribed b ↦ c.equal_type_ids.ensures a b | _ ↦ ((λ h. cc), (λ h. absurd h)) ]
+      | error.Full ↦ elim [ error.Full ↦ search rules | _ ↦ ((λ h. cc), (λ h. absurd h)) ]
+      | error.TooLong ↦ elim [ error.TooLong ↦ search rules | _ ↦ ((λ h. cc), (λ h. absurd h)) ]
       | error.Memory ↦ elim [ error.Memory ↦ search rules | _ ↦ ((λ h. cc), (λ h. absurd h)) ]
     ]

@@ -1,5 +1,5 @@
 use Rattle.std.proofs.Common.{rules}
-use Rattle.scale_info_value.proofs.decode.decode_value_by.Goals as goal
+use Rattle.scale_info_value.proofs.decode.decode_value.Goals as goal
 
 pub returns-clause-err : goal.returns-clause-err
 returns-clause-err g c = search rules
