@@ -16,27 +16,23 @@ use Rattle.scale_info_numberings.proofs.Reached.{reached_exactly}
 use Rattle.scale_info_numberings.specs.Numberings.{IsNumbering}
 use Rattle.scale_info_numberings.specs.Systems.{root, System}
 use Rattle.scale_info_numberings.specs.Tables.{ArePlaces}
-use Rattle.scale_info_passes.specs.Entries.{AreAtOffsets}
 use Rattle.scale_info_passes.specs.Visits.{renumbered}
 use Rattle.scale_info_types.specs.declared.ty.PortableType.{PortableType}
 use Rattle.scale_info_walk.specs.TypeSystems.{entry_of, types_system}
 use Rattle.scale_info_walk.specs.Walks.{AreNumbers}
 use Rattle.scale_info_prune.proofs.AscendingRoots.{split}
-use Rattle.scale_info_prune.proofs.Pruning.{ids_of_kept, numbering_of, table_of}
+use Rattle.scale_info_prune.proofs.Pruning.{ids_of_kept, table_of}
 use Rattle.scale_info_prune.proofs.SameTables.{PartsLaw, same_types}
-use Rattle.scale_info_prune.proofs.ByteIndexes.{index_alike, index_long, same_first}
 use Rattle.scale_info_walk.proofs.Inside.{inside}
-use Rattle.scale_info_walk.specs.SystemLaws.{nothing_past}
-use Rattle.scale_info_prune.specs.ByteIndexes.{index_system}
 use Rattle.scale_info_prune.specs.declared.prune.PruneError.{PruneError}
 use Rattle.scale_info_prune.specs.declared.prune.PruneError.TheVariants.{Malformed, Trailing}
 use Rattle.scale_info_prune.specs.declared.prune.PruneError.TheVariants.{NoSuchType, Dangling}
 use Rattle.scale_info_prune.specs.declared.prune.PruneError.TheVariants.{Memory}
-use Rattle.scale_info_prune.specs.Prunes.{HasNoSuchType, IsNumberedFrom, IsRootsNumberingError}
+use Rattle.scale_info_prune.specs.Prunes.{IsNumberedFrom, IsRootsNumberingError, IsTableError}
 use Rattle.scale_info_prune.specs.Roots.{IsNoSuchType}
-use Rattle.scale_info_prune.specs.SameTypes.{IsRenumbered, IsRenumberingError, ReachesIndices}
-use Rattle.scale_info_prune.specs.SameTypes.{TellsMatch}
-use Rattle.scale_info_prune.specs.TableIndexes.{AppendsKeptTable, IsTableIndex}
+use Rattle.scale_info_prune.specs.SameTypes.{HaveMatch, IsRenumbered, IsRenumberingError}
+use Rattle.scale_info_prune.specs.SameTypes.{IsTypesRenumberingError, StaysInside}
+use Rattle.scale_info_prune.specs.TableIndexes.{AppendsKeptTable}
 
 -- the new id of one more id is its place
 pub one_more :
@@ -82,74 +78,56 @@ roots_inside S roots order x k d h =
     none : Contains [] (get_or roots k d) → ⊥
     none c = let p = place_of [] (get_or roots k d) c in none-some (get_or roots k d) p.1
 
-module _ {count : ℕ} {input body offsets starts references ids order numbers : List ℕ}
-    (x : IsTableIndex count input body offsets starts references)
-    (z : IsNumberedFrom starts references ids order numbers) where
+module _ {types : List PortableType} {ids order numbers : List ℕ}
+    (z : IsNumberedFrom types ids order numbers) where
   -- what was written of a table that was numbered from the ids, and their places
   pub is_renumbered :
-      {bytes new_ids : List ℕ}
-      → ((entries : List PortableType) → AreAtOffsets body entries offsets
-      → AppendsKeptTable entries (renumbered numbers) order [] bytes)
+      {bytes new_ids : List ℕ} → AppendsKeptTable types (renumbered numbers) order [] bytes
       → ((order : List ℕ) → AreNumbers order numbers → All (λ id. Contains order id) ids
       → ArePlaces order ids new_ids)
-      → IsRenumbered input ids bytes new_ids
-  is_renumbered {bytes} f places =
-      let k = f x.types x.at_offsets in
-      let numbering = numbering_of count input body offsets starts references x ids order numbers z in
-      record {
-        types = x.types;
-        encodes = x.encodes;
-        order = order;
-        numbering = numbering;
-        kept = k.kept;
-        table = table_of count input body offsets starts references x ids order numbers z k.kept k.are_kept;
-        ids_are = ids_of_kept count input body offsets starts references x ids order numbers z k.kept k.are_kept;
-        written = subst (λ b. EncodesTypes k.kept b) (sym k.appends.parts) k.appends.encodes;
-        places = places order z.dense (roots_inside (types_system x.types) ids order numbering);
-      }
+      → IsRenumbered types ids bytes new_ids
+  is_renumbered {bytes} k places = record {
+    order = order;
+    numbering = z.numbering;
+    kept = k.kept;
+    table = table_of z k.kept k.are_kept;
+    ids_are = ids_of_kept z k.kept k.are_kept;
+    written = subst (λ b. EncodesTypes k.kept b) (sym k.appends.parts) k.appends.encodes;
+    places = places order z.dense (roots_inside (types_system types) ids order z.numbering);
+  }
 
 -- where a table was numbered from ids, each id that is reached from them is an index
-pub reaches_indices :
-    {input ids bytes new_ids : List ℕ} → IsRenumbered input ids bytes new_ids
-    → ReachesIndices input ids
-reaches_indices {ids = ids} x = record {
-  types = x.types;
-  encodes = x.encodes;
-  inside = inside x.types ids x.order x.numbering;
-}
+pub stays_inside :
+    {types : List PortableType} {ids bytes new_ids : List ℕ} → IsRenumbered types ids bytes new_ids
+    → StaysInside types ids
+stays_inside {types} {ids} x = inside types ids x.order x.numbering
 
 -- the tables of two numberings from ids, and the new ids, are equal exactly where a match exists
 pub tells_match :
-    PartsLaw → {first ids second others bytes new_ids other_bytes other_ids : List ℕ}
-    → IsRenumbered first ids bytes new_ids → IsRenumbered second others other_bytes other_ids
+    PartsLaw → {types other_types : List PortableType}
+    → {ids others bytes new_ids other_bytes other_ids : List ℕ}
+    → IsRenumbered types ids bytes new_ids → IsRenumbered other_types others other_bytes other_ids
     → (same : Bool) → (IsTrue same ↔ ((bytes ≡ other_bytes) × (new_ids ≡ other_ids)))
-    → TellsMatch first ids second others same
-tells_match parts_law {first} {ids} {second} {others} {bytes} {new_ids} {other_bytes} {other_ids} x y same decides =
+    → (IsTrue same ↔ HaveMatch types ids other_types others)
+tells_match parts_law {types} {other_types} {ids} {others} {bytes} {new_ids} {other_bytes} {other_ids} x y same decides =
     let law = list_law portable_type_law in
     let decided =
-    match_exactly (types_system x.types) ids x.order (types_system y.types) others y.order
+    match_exactly (types_system types) ids x.order (types_system other_types) others y.order
     (map entry_of x.kept) (map entry_of y.kept) new_ids other_ids x.numbering y.numbering x.table y.table
-    x.places y.places in
-    record {
-      types = x.types;
-      other_types = y.types;
-      encodes = x.encodes;
-      other_encodes = y.encodes;
-      tells = (
-        λ t.
-            let equal = decides.0 t in
-            let kept = law.prefix_free x.kept y.kept bytes other_bytes [] [] x.written y.written
-            (ap (λ b. b ++ []) equal.0) in
-            decided.0 (ap (λ ts. map entry_of ts) kept.1, equal.1),
-        λ found.
-            let equal = decided.1 found in
-            let kept = same_types parts_law x.kept y.kept x.ids_are y.ids_are equal.0 in
-            decides.1 (
-              law.one y.kept bytes other_bytes (subst (λ ts. EncodesTypes ts bytes) kept x.written) y.written,
-              equal.1,
-            ),
-      );
-    }
+    x.places y.places in (
+      λ t.
+          let equal = decides.0 t in
+          let kept = law.prefix_free x.kept y.kept bytes other_bytes [] [] x.written y.written
+          (ap (λ b. b ++ []) equal.0) in
+          decided.0 (ap (λ ts. map entry_of ts) kept.1, equal.1),
+      λ found.
+          let equal = decided.1 found in
+          let kept = same_types parts_law x.kept y.kept x.ids_are y.ids_are equal.0 in
+          decides.1 (
+            law.one y.kept bytes other_bytes (subst (λ ts. EncodesTypes ts bytes) kept x.written) y.written,
+            equal.1,
+          ),
+    )
 
 -- what holds of the ids before the end holds of all
 pub all_inside :
@@ -158,33 +136,29 @@ all_inside P ids i past inside = subst (λ (xs : List ℕ). All P xs) (take_all 
 
 -- why a table is not numbered from the ids
 pub renumbering_error :
-    {count : ℕ} {input body offsets starts references : List ℕ} (ids : List ℕ)
-    → IsTableIndex count input body offsets starts references → (e : PruneError)
-    → IsRootsNumberingError starts references ids e → IsRenumberingError input ids e
-renumbering_error ids x Malformed h = absurd h
-renumbering_error ids x Trailing h = absurd h
-renumbering_error ids x (NoSuchType id) h = absurd h
-renumbering_error {starts = starts} {references = references} ids x (Dangling id) h =
-    let long = index_long x.types starts x.are_starts in
-    let past = h.1 in
-    record {
-      types = x.types;
-      encodes = x.encodes;
-      first =
-          same_first (index_system starts references) (types_system x.types)
-          (index_alike x.types starts references x.are_starts x.are_references) [] ids id
-          (nothing_past x.types id (omega arith)) h.0;
-      outside = omega arith;
-    }
-renumbering_error ids x Memory h = h
+    (types : List PortableType) (ids : List ℕ) (e : PruneError)
+    → IsRootsNumberingError types ids e → IsTypesRenumberingError types ids e
+renumbering_error types ids Malformed h = absurd h
+renumbering_error types ids Trailing h = absurd h
+renumbering_error types ids (NoSuchType id) h = absurd h
+renumbering_error types ids (Dangling id) h = h
+renumbering_error types ids Memory h = h
 
--- the input encodes a table of which this given id is no index
-pub no_such_type :
-    {count : ℕ} {input body offsets starts references ids : List ℕ} {id : ℕ}
-    → IsTableIndex count input body offsets starts references → IsNoSuchType count ids id
-    → HasNoSuchType input ids id
-no_such_type {ids = ids} {id = id} x n = record {
-  types = x.types;
-  encodes = x.encodes;
-  no_such_type = subst (λ k. IsNoSuchType k ids id) (sym x.long) n;
-}
+-- why the input is not found to be one table is also why it is not numbered
+pub table_renumbering_error :
+    (input ids : List ℕ) (e : PruneError) → IsTableError input e → IsRenumberingError input ids e
+table_renumbering_error input ids Malformed x = x
+table_renumbering_error input ids Trailing x = x
+table_renumbering_error input ids (NoSuchType id) x = absurd x
+table_renumbering_error input ids (Dangling id) x = absurd x
+table_renumbering_error input ids Memory x = x
+
+-- why the table that the input encodes is not numbered from the ids is why the input is not
+pub types_renumbering_error :
+    (types : List PortableType) (input ids : List ℕ) (e : PruneError) → EncodesTypes types input
+    → IsTypesRenumberingError types ids e → IsRenumberingError input ids e
+types_renumbering_error types input ids Malformed x h = absurd h
+types_renumbering_error types input ids Trailing x h = absurd h
+types_renumbering_error types input ids (NoSuchType id) x h = record { types = types; encodes = x; no_such_type = h }
+types_renumbering_error types input ids (Dangling id) x h = record { types = types; encodes = x; leads = h }
+types_renumbering_error types input ids Memory x h = h

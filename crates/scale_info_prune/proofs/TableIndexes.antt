@@ -29,19 +29,20 @@ table_prefix n a b r p s rs f x = prefix_list EncodesPortableType x.at.entries n
 -- a count, and an index of so many entries with nothing after them, are an index of a table
 pub is_index :
     (n : ℕ) (a b r p s rs : List ℕ) → r ≡ [] → HasPrefix (EncodesCompact n) a b
-    → IsEntryIndex n b r p s rs → IsTableIndex n a b p s rs
+    → IsEntryIndex n b r p s rs → (types : List PortableType) × IsTableIndex types n a b p s rs
 is_index n a b r p s rs e f x =
-    let t = table_prefix n a b r p s rs f x in
-    record {
-      types = x.at.entries;
-      long = x.at.count;
-      encodes =
-          subst (λ bytes. EncodesTypes x.at.entries bytes)
-          (sym (t.parts ∙ ap (λ z. t.encoding ++ z) e ∙ append-nil t.encoding)) t.encodes;
-      at_offsets = x.at.at_offsets;
-      are_starts = x.are_starts;
-      are_references = x.references;
-    }
+    let t = table_prefix n a b r p s rs f x in (
+      x.at.entries,
+      record {
+        long = x.at.count;
+        encodes =
+            subst (λ bytes. EncodesTypes x.at.entries bytes)
+            (sym (t.parts ∙ ap (λ z. t.encoding ++ z) e ∙ append-nil t.encoding)) t.encodes;
+        at_offsets = x.at.at_offsets;
+        are_starts = x.are_starts;
+        are_references = x.references;
+      },
+    )
 
 -- a count and so many entries, with a rest that is not empty, are a table and trailing bytes
 pub has_trailing :

@@ -4,4 +4,5 @@ pub mod Prunes
 pub mod Roots
 pub mod SameTypes
 pub mod TableIndexes
+pub mod TableLaws
 pub use Rattle.scale_info_grammar.specs.Ty

@@ -5,25 +5,21 @@ use Rattle.scale_info_grammar.specs.Ty.{EncodesTypes}
 use Rattle.scale_info_passes.specs.Entries.{AreAtOffsets, AreKeptEntries, AreStarts, reference_ids}
 use Rattle.scale_info_types.specs.Portable.{Id}
 use Rattle.scale_info_types.specs.declared.ty.PortableType.{PortableType}
-use Rattle.scale_info_walk.specs.Walks.{IsRoom}
-use Rattle.scale_info_prune.specs.declared.indexed.IndexedTable.{IndexedTable}
 
--- the input encodes a table of so many entries, with nothing after it; in its body, which is what
+-- the table that the bytes encode
+abbrev pub IsEncodedTable : List ℕ → Type 0
+IsEncodedTable bytes = (types : List PortableType) × ∥ EncodesTypes types bytes ∥₁
+
+-- the bytes encode this table of so many entries, with nothing after it; in its body, which is what
 -- comes after the count, the descriptions are at these offsets; and the references of each entry
 -- begin at these starts
-pub record IsTableIndex (count : ℕ) (input body offsets starts references : List ℕ) : Type 0 where
-  pub types : List PortableType
+pub record IsTableIndex (types : List PortableType) (count : ℕ)
+    (bytes body offsets starts references : List ℕ) : Type 0 where
   pub long : length types ≡ count
-  pub encodes : EncodesTypes types input
+  pub encodes : EncodesTypes types bytes
   pub at_offsets : AreAtOffsets body types offsets
   pub are_starts : AreStarts 0 types starts
   pub are_references : references ≡ flat_map reference_ids types
-
--- this is the index of the table that the input encodes
-abbrev pub IsIndexed : (input : List ℕ) → IndexedTable → Type 0
-IsIndexed input table =
-    IsTableIndex table.count input table.body.now table.index.offsets.items
-    table.index.starts.items table.index.references.items × IsRoom table.count table.room
 
 -- the input begins with a table, and goes on
 pub record HasTrailing (input : List ℕ) : Type 0 where

@@ -4,6 +4,7 @@
 mod byte_references;
 pub mod indexed;
 pub mod laws;
+mod new_ids;
 pub mod prune;
 mod roots;
 pub mod same_types;

@@ -21,7 +21,8 @@ pub(crate) fn index_table(
     alloc: Global,
     input: &[u8],
 ) -> Result<(u32, &[u8], EntryIndex), PruneError>
-    ensures ok { IfOk result (λ found. IsTableIndex found.0 input.now found.1.now
+    ensures ok { IfOk result (λ found. (types : List PortableType)
+        × IsTableIndex types found.0 input.now found.1.now
         found.2.offsets.items found.2.starts.items found.2.references.items) }
     ensures err { IfErr result (IsTableError input.now) }
 {

@@ -1,7 +1,7 @@
 use Rattle.std.proofs.Common.{rules, ◌≡◌, ◌++◌, ◌∷◌, [], List, ℕ, subst, sym, take, ◌+◌}
 use Rattle.scale_info_numberings.specs.Tables.{ArePlaces}
 use Rattle.scale_info_prune.proofs.Renumbering.{one_more}
-use Rattle.scale_info_prune.proofs.same_types.new_ids_of.Goals as goal
+use Rattle.scale_info_prune.proofs.new_ids.new_ids_of.Goals as goal
 
 pub loop-id-preserved : goal.loop-id-preserved
 loop-id-preserved c = λ order dense inside.

@@ -1,7 +1,7 @@
 use Rattle.std.proofs.Common.{ℕ, List, All, Contains, take}
 use Rattle.scale_info_numberings.specs.Tables.{ArePlaces}
 use Rattle.scale_info_walk.specs.Walks.{AreNumbers}
-use Rattle.scale_info_prune.proofs.same_types.new_ids_of.Given as goal
+use Rattle.scale_info_prune.proofs.new_ids.new_ids_of.Given as goal
 
 abbrev pub invariant-loop-id : goal.invariant-loop-id
 invariant-loop-id l =
