@@ -21,7 +21,7 @@ use Rattle.scale_info_types.specs.declared.ty.PortableType.{PortableType}
 use Rattle.scale_info_walk.proofs.Visiting.{same_or_not, set_at, set_other}
 use Rattle.scale_info_diff.proofs.Pushed.{both_pushed_at, pushed_at}
 use Rattle.scale_info_diff.proofs.Reaches.{decided, not_in_none, refuted}
-use Rattle.scale_info_diff.specs.NamedTables.{IsNamedTable}
+use Rattle.scale_info_diff.specs.NamedTables.{AreTypesByPath}
 use Rattle.scale_info_diff.specs.TypesByPath.{AddsId, AreIdsByPath, has_path, ids_of, is_among, is_new, new_paths, paths_of}
 
 -- ---- the tests
@@ -300,8 +300,8 @@ module _ (types : List PortableType) (n : ℕ) (e : PortableType) (es : List Por
 
 -- ---- the ids of a path that is looked up
 
-module _ (types : List PortableType) (bytes : List ℕ) (paths : List Text) (rows : List (List ℕ))
-    (x : IsNamedTable types bytes paths rows) where
+module _ (types : List PortableType) (paths : List Text) (rows : List (List ℕ))
+    (x : AreTypesByPath types paths rows) where
   -- a path that is none of the table's
   pub no_ids : (p : Text) → (Contains paths p → ⊥) → [] ≡ ids_of p types
   no_ids p new =

@@ -1,5 +1,5 @@
 -- Types of paths, compared all at once.
-use Rattle.std.proofs.Common.{◌≡◌, ◌≢◌, ◌∙◌, ◌++◌, ◌∷◌, ℕ, Bool, false, List, [], All, Contains, length}
+use Rattle.std.proofs.Common.{◌≡◌, ◌≢◌, ◌↔◌, IsTrue, ◌∙◌, ◌++◌, ◌∷◌, ℕ, Bool, false, List, [], All, Contains, length}
 use Rattle.std.proofs.Common.{eqb, ap, sym, subst, arith, append-nil, get_or, inl, inr}
 use Rattle.std.proofs.lemmas.Bool.{false≢true}
 use Rattle.std.proofs.lemmas.Bool.Decides.{Decides-eqb}
@@ -7,15 +7,13 @@ use Rattle.std.proofs.lemmas.List.Elements.{All-cons, All-head, All-nil, All-tai
 use Rattle.std.proofs.lemmas.Option.{none-some}
 use Rattle.std.proofs.lemmas.Slice.Zip.{AllZip-long}
 use Rattle.std.specs.List.{AllZip, flat_map}
-use Rattle.scale_info_grammar.specs.Ty.{EncodesTypes}
 use Rattle.scale_info_numberings.proofs.Places.{contains_cases, place_of}
 use Rattle.scale_info_numberings.specs.Matches.{IsMatch, Pairs}
-use Rattle.scale_info_prune.specs.SameTypes.{TellsMatch}
+use Rattle.scale_info_prune.specs.SameTypes.{HaveMatch}
 use Rattle.scale_info_types.specs.Portable.{Text}
 use Rattle.scale_info_types.specs.declared.ty.PortableType.{PortableType}
 use Rattle.scale_info_walk.specs.TypeSystems.{types_system}
 use Rattle.scale_info_diff.proofs.CommonIds.{own, own_some, theirs}
-use Rattle.scale_info_diff.proofs.Encoded.{one_table}
 use Rattle.scale_info_diff.proofs.MatchParts.{match_part}
 use Rattle.scale_info_diff.specs.TableChanges.{AreSame}
 use Rattle.scale_info_diff.specs.Comparisons.{AreCommonIds, HasSameCount, HaveOtherCounts, TellsSame}
@@ -63,40 +61,30 @@ module _ (types others : List PortableType) where
 
   -- what a comparison of all says
   pub tells_same :
-      (paths : List Text) (old new ids other_ids : List ℕ) (same : Bool)
-      → EncodesTypes types old → EncodesTypes others new
-      → AreCommonIds types others paths ids other_ids → TellsMatch old ids new other_ids same
-      → TellsSame types others paths same
-  tells_same paths old new ids other_ids same x y common tells =
-      let left = one_table tells.types types old tells.encodes x in
-      let right = one_table tells.other_types others new tells.other_encodes y in
-      record {
-        all = λ yes.
-            let found = tells.tells.0 yes in
-            none_changed paths found.0 common.counts
-            (subst (λ xs. IsMatch (types_system types) (flat_map (own types others) paths) (types_system others) xs found.0)
-            common.theirs
-            (subst (λ xs. IsMatch (types_system types) xs (types_system others) other_ids found.0)
-            common.own
-            (subst (λ ts. IsMatch (types_system types) ids (types_system ts) other_ids found.0) right
-            (subst (λ ts. IsMatch (types_system ts) ids (types_system tells.other_types) other_ids found.0)
-            left found.1))));
-        one = λ isnt path only some match.
-            let is_own : ids ≡ ids_of path types =
-            common.own ∙ ap (flat_map (own types others)) only ∙ append-nil (own types others path)
-            ∙ own_some (ids_of path types) (ids_of path others) some in
-            let is_theirs : other_ids ≡ ids_of path others =
-            common.theirs ∙ ap (flat_map (theirs types others)) only ∙ append-nil (theirs types others path) in
-            false≢true (sym isnt ∙ tells.tells.1 (
-              match.0,
-              subst (λ ts. IsMatch (types_system ts) ids (types_system tells.other_types) other_ids match.0)
-                  (sym left)
-                  (subst (λ ts. IsMatch (types_system types) ids (types_system ts) other_ids match.0) (sym right)
-                  (subst (λ xs. IsMatch (types_system types) xs (types_system others) other_ids match.0) (sym is_own)
-                  (subst (λ xs. IsMatch (types_system types) (ids_of path types) (types_system others) xs match.0)
-                  (sym is_theirs) match.1))),
-            ));
-      }
+      (paths : List Text) (ids other_ids : List ℕ) (same : Bool)
+      → AreCommonIds types others paths ids other_ids
+      → (IsTrue same ↔ HaveMatch types ids others other_ids) → TellsSame types others paths same
+  tells_same paths ids other_ids same common tells = record {
+    all = λ yes.
+        let found = tells.0 yes in
+        none_changed paths found.0 common.counts
+        (subst (λ xs. IsMatch (types_system types) (flat_map (own types others) paths) (types_system others) xs found.0)
+        common.theirs
+        (subst (λ xs. IsMatch (types_system types) xs (types_system others) other_ids found.0)
+        common.own found.1));
+    one = λ isnt path only some match.
+        let is_own : ids ≡ ids_of path types =
+        common.own ∙ ap (flat_map (own types others)) only ∙ append-nil (own types others path)
+        ∙ own_some (ids_of path types) (ids_of path others) some in
+        let is_theirs : other_ids ≡ ids_of path others =
+        common.theirs ∙ ap (flat_map (theirs types others)) only ∙ append-nil (theirs types others path) in
+        false≢true (sym isnt ∙ tells.1 (
+          match.0,
+          subst (λ xs. IsMatch (types_system types) xs (types_system others) other_ids match.0) (sym is_own)
+              (subst (λ xs. IsMatch (types_system types) (ids_of path types) (types_system others) xs match.0)
+              (sym is_theirs) match.1),
+        ));
+  }
 
   -- where one has another number of types, they are not the same
   pub other_counts :

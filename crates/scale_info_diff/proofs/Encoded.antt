@@ -15,7 +15,7 @@ use Rattle.scale_info_grammar.specs.TyLaws.{portable_type_law}
 use Rattle.scale_info_numberings.proofs.Places.{at_seam, contains_at}
 use Rattle.scale_info_numberings.proofs.FirstOutside.{outside_reached}
 use Rattle.scale_info_numberings.specs.Systems.{Entry, IsFirstOutside, IsReached, next, root}
-use Rattle.scale_info_prune.specs.SameTypes.{IsRenumberingError, IsSameTypesError}
+use Rattle.scale_info_prune.specs.SameTypes.{IsMatchError, IsTypesRenumberingError}
 use Rattle.scale_info_prune.specs.TableIndexes.{HasTrailing}
 use Rattle.scale_info_prune.specs.declared.prune.PruneError.{PruneError}
 use Rattle.scale_info_prune.specs.declared.prune.PruneError.TheVariants.{Dangling, Malformed}
@@ -130,28 +130,20 @@ IsDanglingError types Memory = Unit {0}
 IsDanglingError types error = ⊥
 
 one_error :
-    (types : List PortableType) (input ids : List ℕ)
-    → EncodesTypes types input → All (λ id. id < length types) ids
-    → (e : PruneError) → IsRenumberingError input ids e → IsDanglingError types e
-one_error types input ids x within Malformed h = has_prefix types input x h
-one_error types input ids x within Trailing h = no_trailing types input x h
-one_error types input ids x within (NoSuchType id) h =
-    let same = one_table h.types types input h.encodes x in
+    (types : List PortableType) (ids : List ℕ) → All (λ id. id < length types) ids
+    → (e : PruneError) → IsTypesRenumberingError types ids e → IsDanglingError types e
+one_error types ids within Malformed h = h
+one_error types ids within Trailing h = h
+one_error types ids within (NoSuchType id) h =
     let there =
-    contains_at ids id (length h.no_such_type.before)
-    (subst (λ (xs : List ℕ). slice_get xs (length h.no_such_type.before) ≡ Some id)
-    (sym h.no_such_type.parts) (at_seam h.no_such_type.before h.no_such_type.after id)) in
+    contains_at ids id (length h.before)
+    (subst (λ (xs : List ℕ). slice_get xs (length h.before) ≡ Some id) (sym h.parts) (at_seam h.before h.after id)) in
     let below = All-contains (λ i. i < length types) ids id within there in
-    let past = h.no_such_type.outside in
-    let long = ap length same in
+    let past = h.outside in
     omega arith
-one_error types input ids x within (Dangling id) h =
-    let same = one_table h.types types input h.encodes x in
-    dangling types ids within id
-    (outside_reached _ [] ids id
-    (subst (λ ts. IsFirstOutside (types_system ts) [] ids id) same h.first))
-    (subst (λ (ts : List PortableType). length ts ≤ id) same h.outside)
-one_error types input ids x within Memory h = h
+one_error types ids within (Dangling id) h =
+    dangling types ids within id (outside_reached _ [] ids id h.first) h.outside
+one_error types ids within Memory h = h
 
 either_error :
     (types others : List PortableType) (e : PruneError)
@@ -162,12 +154,11 @@ either_error types others e h = elim h [ inl x ↦ x | inr x ↦ x ]
 
 -- why tables are not compared by the ids that paths have in both
 pub compare_error :
-    (types others : List PortableType) (paths : List Text) (old new ids other_ids : List ℕ)
-    → EncodesTypes types old → EncodesTypes others new
+    (types others : List PortableType) (paths : List Text) (ids other_ids : List ℕ)
     → AreCommonIds types others paths ids other_ids
-    → (e : PruneError) → IsSameTypesError old ids new other_ids e
+    → (e : PruneError) → IsMatchError types ids others other_ids e
     → IsCompareError types others e
-compare_error types others paths old new ids other_ids x y common e h =
+compare_error types others paths ids other_ids common e h =
     let own =
     subst (λ (xs : List ℕ). All (λ id. id < length types) xs) (sym common.own)
     (joined_within (length types) (λ path. own_ids (ids_of path others) (ids_of path types)) paths
@@ -177,8 +168,8 @@ compare_error types others paths old new ids other_ids x y common e h =
     (joined_within (length others) (λ path. ids_of path others) paths (λ path. ids_within path others)) in
     either_error types others e
     (elim h [
-      | inl a ↦ inl (one_error types old ids x own e a)
-      | inr b ↦ inr (one_error others new other_ids y theirs e b.1)
+      | inl a ↦ inl (one_error types ids own e a)
+      | inr b ↦ inr (one_error others other_ids theirs e b.1)
     ])
 
 -- where no prefix is a table, none is types

@@ -1,14 +1,15 @@
 -- Paths of which some are known to have changed.
 use Rattle.std.proofs.Common.{◌≡◌, ◌≢◌, ◌∙◌, ◌++◌, ◌∷◌, ℕ, zero, suc, Bool, true, false, List, [], All, Some, get_or, length, slice_get}
-use Rattle.std.proofs.Common.{ap, arith, refl, subst, sym}
+use Rattle.std.proofs.Common.{◌+◌, ◌<◌, ap, append_assoc, arith, drop, refl, subst, sym}
 use Rattle.std.proofs.lemmas.Bool.{false≢true}
+use Rattle.std.proofs.lemmas.List.{drop_more}
 use Rattle.std.proofs.lemmas.List.Elements.{All-head, All-tail}
 use Rattle.std.specs.List.{AllZip, flat_map}
 use Rattle.scale_info_types.specs.Portable.{Text}
 use Rattle.scale_info_types.specs.declared.ty.PortableType.{PortableType}
 use Rattle.scale_info_diff.proofs.Listed.{one_removed}
 use Rattle.scale_info_diff.specs.Comparisons.{AddsOldChanges, TellsSame, removed_by}
-use Rattle.scale_info_diff.specs.Differing.{AreMarks, marked_changes, unmarked}
+use Rattle.scale_info_diff.specs.Differing.{AreMarks, marked_by, marked_changes, unmarked}
 use Rattle.scale_info_diff.specs.TableChanges.{AreSame, IsOldChange, changed}
 use Rattle.scale_info_diff.specs.TypesByPath.{ids_of}
 use Rattle.scale_info_diff.specs.declared.change.Change.{Change}
@@ -93,3 +94,22 @@ module _ (types others : List PortableType) where
     λ yes. absurd (false≢true (sym (none zero mark refl) ∙ yes)),
     no_marks paths marks (omega (arith, long)) (λ i b e. none (suc i) b e),
   )
+
+-- one more path, with or without a mark
+pub one_more_marked :
+    (others : List PortableType) (paths : List Text) (marks : List Bool) (i : ℕ) (d : Text) (e : Bool)
+    (changes after all : List Change)
+    → i < length paths → length marks ≡ length paths
+    → after ≡ changes ++ marked_by (get_or marks i e) (ids_of (get_or paths i d) others) (get_or paths i d)
+    → changes ++ marked_changes others (drop i paths) (drop i marks) ≡ all
+    → after ++ marked_changes others (drop (i + 1) paths) (drop (i + 1) marks) ≡ all
+one_more_marked others paths marks i d e changes after all within long is before =
+    let rest = marked_changes others (drop (i + 1) paths) (drop (i + 1) marks) in
+    let here = marked_by (get_or marks i e) (ids_of (get_or paths i d) others) (get_or paths i d) in
+    let inside : i < length marks = omega arith in
+    ap (λ cs. cs ++ rest) is
+    ∙ append_assoc changes here rest
+    ∙ ap (λ cs. changes ++ cs)
+    (sym (ap (λ ps. marked_changes others ps (drop i marks)) (drop_more paths i d within)
+    ∙ ap (λ ms. marked_changes others (get_or paths i d ∷ drop (i + 1) paths) ms) (drop_more marks i e inside)))
+    ∙ before

@@ -8,6 +8,7 @@ use Rattle.scale_info_describe.specs.TypeNames.{type_at}
 use Rattle.scale_info_segments.specs.TypePaths.{joined}
 use Rattle.scale_info_tables.specs.declared.portable.PortableRegistry.{PortableRegistry}
 use Rattle.scale_info_types.specs.Portable.{Text, Description}
+use Rattle.scale_info_types.specs.declared.ty.PortableType.{PortableType}
 use Rattle.scale_info_diff.specs.Differences.{TellsOfPruned}
 
 -- the line at a place; past the last one it is empty
@@ -70,10 +71,10 @@ pub record IsDeclaredChange (table other : PortableRegistry) (text : Text) : Typ
   pub first : IsLineChange (lines_at table place) (lines_at other place) change
   pub is : text ≡ place_before table place ++ change
 
--- the tables that two inputs encode, each pruned to its ids, are first declared by other lines so;
--- or they are by none
-abbrev pub TellsDeclaredChange : (old old_ids new new_ids : List ℕ) → Option Text → Type 0
-TellsDeclaredChange old old_ids new new_ids found =
-    TellsOfPruned (λ (table : PortableRegistry). table.types) old old_ids new new_ids
+-- two tables, each pruned to its ids, are first declared by other lines so; or they are by none
+abbrev pub TellsDeclaredChange : (types : List PortableType) → (ids : List ℕ)
+    → (others : List PortableType) → (other_ids : List ℕ) → Option Text → Type 0
+TellsDeclaredChange types ids others other_ids found =
+    TellsOfPruned (λ (table : PortableRegistry). table.types) types ids others other_ids
     (λ order other_order table other.
     MatchOption found (AreDeclaredAlike table other) (IsDeclaredChange table other))

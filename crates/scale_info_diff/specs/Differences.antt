@@ -1,28 +1,30 @@
 -- Where two tables differ first, from given ids on.
 use Rattle.std.specs.Prelude.{◌≡◌, ◌≢◌, ◌<◌, ◌⊎◌, ℕ, List, [], Option, Some, MatchOption, slice_get}
 use Rattle.scale_info_grammar.specs.Ty.{EncodesTypes}
-use Rattle.scale_info_prune.specs.Prunes.{IsPruneError, IsPrunedEncoding}
+use Rattle.scale_info_prune.specs.Prunes.{AppendsPruned, IsTypesPruneError}
 use Rattle.scale_info_prune.specs.declared.prune.PruneError.{PruneError}
 use Rattle.scale_info_types.specs.declared.ty.PortableType.{PortableType}
 
--- what pruning the input to the given ids keeps: the old ids of the entries, in depth-first order
+-- what pruning the types to the given ids keeps: the old ids of the entries, in depth-first order
 -- of discovery, and the entries, in which each reference is the place of an entry
-pub record IsPrunedTo (input given order : List ℕ) (kept : List PortableType) : Type 0 where
+pub record IsPrunedTo (types : List PortableType) (given order : List ℕ)
+    (kept : List PortableType) : Type 0 where
   pub bytes : List ℕ
-  pub pruned : IsPrunedEncoding input given order [] bytes
+  pub pruned : AppendsPruned types given order [] bytes
   pub encodes : EncodesTypes kept bytes
 
--- the input can be pruned to the given ids
-pub record CanBePruned (input given : List ℕ) : Type 0 where
+-- the types can be pruned to the given ids
+pub record CanBePruned (types : List PortableType) (given : List ℕ) : Type 0 where
   pub order : List ℕ
   pub kept : List PortableType
-  pub pruned : IsPrunedTo input given order kept
+  pub pruned : IsPrunedTo types given order kept
 
--- why two inputs are not pruned to their ids: the old one is not; or it is, and the new one is not
-abbrev pub IsDifferenceError : (old old_ids new new_ids : List ℕ) → PruneError → Type 0
-IsDifferenceError old old_ids new new_ids error =
-    IsPruneError old old_ids error
-    ⊎ (CanBePruned old old_ids × IsPruneError new new_ids error)
+-- why two tables are not pruned to their ids: the old one is not; or it is, and the new one is not
+abbrev pub IsDifferenceError : (types : List PortableType) → (ids : List ℕ)
+    → (others : List PortableType) → (other_ids : List ℕ) → PruneError → Type 0
+IsDifferenceError types ids others other_ids error =
+    IsTypesPruneError types ids error
+    ⊎ (CanBePruned types ids × IsTypesPruneError others other_ids error)
 
 -- at each place below this one both lists have the same entry
 abbrev pub AgreeBelow : ℕ → List PortableType → List PortableType → Type 0
@@ -51,24 +53,25 @@ pub record IsFirstDifference (order other_order : List ℕ) (entries others : Li
   pub is : slice_get order place ≡ Some id
   pub other_is : slice_get other_order place ≡ Some other_id
 
--- two inputs encode tables, of which this is told, each pruned to its ids: of the old ids in their
--- orders, and of what is kept
+-- this is told of two tables, each pruned to its ids: of the old ids in their orders, and of what is
+-- kept
 pub record TellsOfPruned {T : Type 0} (types_of : T → List PortableType)
-    (old old_ids new new_ids : List ℕ)
+    (types : List PortableType) (ids : List ℕ) (others : List PortableType) (other_ids : List ℕ)
     (Told : (order other_order : List ℕ) → (kept other_kept : T) → Type 0) : Type 0 where
   pub order : List ℕ
   pub other_order : List ℕ
   pub kept : T
   pub other_kept : T
-  pub pruned : IsPrunedTo old old_ids order (types_of kept)
-  pub other_pruned : IsPrunedTo new new_ids other_order (types_of other_kept)
+  pub pruned : IsPrunedTo types ids order (types_of kept)
+  pub other_pruned : IsPrunedTo others other_ids other_order (types_of other_kept)
   pub tells : Told order other_order kept other_kept
 
--- the tables that two inputs encode, each pruned to its ids, differ first at these old ids; or they
--- differ at no place that both have
-abbrev pub TellsDifference : (old old_ids new new_ids : List ℕ) → Option (ℕ × ℕ) → Type 0
-TellsDifference old old_ids new new_ids found =
-    TellsOfPruned (λ entries. entries) old old_ids new new_ids
-    (λ order other_order entries others.
-    MatchOption found (AgreeThroughout entries others)
-    (λ ids. IsFirstDifference order other_order entries others ids.0 ids.1))
+-- two tables, each pruned to its ids, differ first at these old ids; or they differ at no place that
+-- both have
+abbrev pub TellsDifference : (types : List PortableType) → (ids : List ℕ)
+    → (others : List PortableType) → (other_ids : List ℕ) → Option (ℕ × ℕ) → Type 0
+TellsDifference types ids others other_ids found =
+    TellsOfPruned (λ entries. entries) types ids others other_ids
+    (λ order other_order entries other_entries.
+    MatchOption found (AgreeThroughout entries other_entries)
+    (λ at. IsFirstDifference order other_order entries other_entries at.0 at.1))

@@ -4,7 +4,6 @@ use Rattle.std.specs.Prelude.{slice_get}
 use Rattle.std.specs.List.{AllZip}
 use Rattle.scale_info_grammar.specs.Ty.{EncodesDescription}
 use Rattle.scale_info_numberings.specs.Matches.{IsMatch, Pairs}
-use Rattle.scale_info_passes.specs.Entries.{IsAtOffset}
 use Rattle.scale_info_references.specs.Conversions.{ids_in, symbol}
 use Rattle.scale_info_types.specs.Portable.{Text}
 use Rattle.scale_info_types.specs.Shapes.{map_description}
@@ -61,13 +60,6 @@ StayDiffering edges before after =
     → All (IsEdge types others pairs) edges
     → AreDiffering types others pairs before
     → AreDiffering types others pairs after
-
--- each offset is that of the type with the same index, in the bytes; and each number is 0
-pub record AreEntriesOf (types : List PortableType) (body offsets zeros : List ℕ) : Type 0 where
-  pub at_offsets :
-      (id offset : ℕ) → slice_get offsets id ≡ Some offset
-      → (entry : PortableType) × (slice_get types id ≡ Some entry) × IsAtOffset body entry offset
-  pub zero : (id number : ℕ) → slice_get zeros id ≡ Some number → number ≡ 0
 
 -- the type with this id refers to these ids
 pub record HasReferences (types : List PortableType) (id : ℕ) (references : List ℕ) : Type 0 where

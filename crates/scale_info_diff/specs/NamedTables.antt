@@ -6,11 +6,10 @@ use Rattle.scale_info_types.specs.Portable.{Text}
 use Rattle.scale_info_types.specs.declared.ty.PortableType.{PortableType}
 use Rattle.scale_info_diff.specs.TypesByPath.{AreIdsByPath, paths_of}
 
--- the bytes encode these types; these are their paths, and each row has the ids of the types with
--- the path at the same place
-pub record IsNamedTable (types : List PortableType) (bytes : List ℕ) (paths : List Text)
-    (rows : List (List ℕ)) : Type 0 where
-  pub encodes : EncodesTypes types bytes
+-- these are the paths of the types, and each row has the ids of the types with the path at the same
+-- place
+pub record AreTypesByPath (types : List PortableType) (paths : List Text) (rows : List (List ℕ))
+    : Type 0 where
   pub are_paths : paths ≡ paths_of types
   pub are_ids : AreIdsByPath types paths rows
 

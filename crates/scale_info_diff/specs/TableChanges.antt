@@ -1,11 +1,8 @@
 -- What changed between two tables.
 use Rattle.std.specs.Prelude.{◌≡◌, ◌≢◌, ◌≤◌, ◌++◌, ◌⊎◌, ℕ, List, [], ◌∷◌, Contains, Some}
-use Rattle.std.specs.Prelude.{length, map, slice_get}
+use Rattle.std.specs.Prelude.{length, slice_get}
 use Rattle.std.specs.List.{AllZip, flat_map}
-use Rattle.scale_info_docs.specs.WithoutDocs.{entry_without_docs}
-use Rattle.scale_info_grammar.specs.Ty.{EncodesTypes}
-use Rattle.scale_info_numberings.specs.Matches.{IsMatch}
-use Rattle.scale_info_prune.specs.Prunes.{IsTableError}
+use Rattle.scale_info_prune.specs.SameTypes.{HaveMatch}
 use Rattle.scale_info_prune.specs.declared.prune.PruneError.{PruneError}
 use Rattle.scale_info_prune.specs.declared.prune.PruneError.TheVariants.{Malformed, Trailing}
 use Rattle.scale_info_prune.specs.declared.prune.PruneError.TheVariants.{NoSuchType, Dangling}
@@ -13,7 +10,6 @@ use Rattle.scale_info_prune.specs.declared.prune.PruneError.TheVariants.{Memory}
 use Rattle.scale_info_references.specs.Conversions.{ids_in}
 use Rattle.scale_info_types.specs.Portable.{Text}
 use Rattle.scale_info_types.specs.declared.ty.PortableType.{PortableType}
-use Rattle.scale_info_walk.specs.TypeSystems.{types_system}
 use Rattle.scale_info_diff.specs.TypesByPath.{ids_of, paths_of}
 use Rattle.scale_info_diff.specs.declared.change.Change.{Change}
 use Rattle.scale_info_diff.specs.declared.change.Change.TheVariants.{Removed, Added, Changed}
@@ -21,10 +17,7 @@ use Rattle.scale_info_diff.specs.declared.change.Change.TheVariants.{Removed, Ad
 -- the types with this path are the same in both tables: a match takes what they reach in the one,
 -- one to one and in order, to what they reach in the other
 abbrev pub AreSame : List PortableType → List PortableType → Text → Type 0
-AreSame types others path =
-    (pairs : List (ℕ × ℕ))
-    × IsMatch (types_system types) (ids_of path types) (types_system others) (ids_of path others)
-    pairs
+AreSame types others path = HaveMatch types (ids_of path types) others (ids_of path others)
 
 -- what became of a path of the old types, where the others are new: it is removed, where no new
 -- type has it; changed, where new types have it and are not the same; and there is no change, where
@@ -58,23 +51,6 @@ pub record AreChanges (types others : List PortableType) (changes : List Change)
   pub listed :
       changes ≡ flat_map (λ part. part) of_old ++ flat_map (new_change types) (paths_of others)
 
--- the changes between the tables that two inputs encode
-pub record AreTableChangesWithDocs (old new : List ℕ) (changes : List Change) : Type 0 where
-  pub types : List PortableType
-  pub others : List PortableType
-  pub encodes : EncodesTypes types old
-  pub other_encodes : EncodesTypes others new
-  pub changed : AreChanges types others changes
-
--- the changes between the tables that two inputs encode, without their docs
-pub record AreTableChanges (old new : List ℕ) (changes : List Change) : Type 0 where
-  pub types : List PortableType
-  pub others : List PortableType
-  pub encodes : EncodesTypes types old
-  pub other_encodes : EncodesTypes others new
-  pub changed :
-      AreChanges (map entry_without_docs types) (map entry_without_docs others) changes
-
 -- an entry refers to this id, which is no index
 pub record IsDangling (types : List PortableType) (id : ℕ) : Type 0 where
   pub index : ℕ
@@ -83,35 +59,8 @@ pub record IsDangling (types : List PortableType) (id : ℕ) : Type 0 where
   pub refers : Contains (ids_in entry.ty) id
   pub outside : length types ≤ id
 
--- the input encodes a table of which an entry refers to this id, which is no index
-pub record HasDanglingReference (input : List ℕ) (id : ℕ) : Type 0 where
-  pub types : List PortableType
-  pub encodes : EncodesTypes types input
-  pub dangling : IsDangling types id
-
--- the input encodes a table
-pub record IsOneTable (input : List ℕ) : Type 0 where
-  pub types : List PortableType
-  pub encodes : EncodesTypes types input
-
--- why a table is not compared with others
-abbrev pub IsReferenceError : List ℕ → PruneError → Type 0
-IsReferenceError input Malformed = ⊥
-IsReferenceError input Trailing = ⊥
-IsReferenceError input (NoSuchType id) = ⊥
-IsReferenceError input (Dangling id) = HasDanglingReference input id
-IsReferenceError input Memory = Unit {0}
-
--- why two inputs are not compared: the old one is no table; or it is one, and the new one is none;
--- or both are, and one of them refers to an id that is no index
-abbrev pub IsChangesError : (old new : List ℕ) → PruneError → Type 0
-IsChangesError old new error =
-    IsTableError old error
-    ⊎ ((IsOneTable old × IsTableError new error)
-    ⊎ (IsOneTable old × IsOneTable new
-    × (IsReferenceError old error ⊎ IsReferenceError new error)))
-
--- why types are not compared with others
+-- why the types of two tables are not compared: an entry of one of them refers to an id that is no
+-- index; or an allocation failed
 abbrev pub IsCompareError : List PortableType → List PortableType → PruneError → Type 0
 IsCompareError types others Malformed = ⊥
 IsCompareError types others Trailing = ⊥

@@ -1,11 +1,9 @@
 //! What changed between two tables.
-ghost use Rattle.std.specs.Prelude.{◌≡◌, ◌++◌, List, IfOk, IfErr, OnOk, map};
+ghost use Rattle.std.specs.Prelude.{◌≡◌, ◌++◌, IfOk, IfErr, OnOk};
 ghost use Rattle.std.specs.List.{flat_map};
-ghost use Rattle.scale_info_diff.specs.TableChanges.{AreTableChanges, AreTableChangesWithDocs};
-ghost use Rattle.scale_info_diff.specs.TableChanges.{IsChangesError, new_change};
-ghost use Rattle.scale_info_diff.specs.NamedTables.{IsNamedTable, IsWithoutDocs};
+ghost use Rattle.scale_info_diff.specs.TableChanges.{AreChanges, IsCompareError, new_change};
+ghost use Rattle.scale_info_diff.specs.NamedTables.{IsWithoutDocs};
 ghost use Rattle.scale_info_prune.specs.Prunes.{IsTableError};
-ghost use Rattle.scale_info_types.specs.declared.ty.PortableType.{PortableType};
 
 use crate::change::Change;
 use crate::compare::push_old_changes;
@@ -22,53 +20,41 @@ use std::alloc::{AllocError, Global};
 ///
 /// The types of a path are the same where [`same_types`] says so of all that have it in the old
 /// table and all that have it in the new one, in ascending order of id. So a type has changed where
-/// a type that it reaches has. Docs don't count, nor types without a path. Each path comes once:
-/// those of the old table first, in the order of the first types that have them, and then those
-/// that are new.
+/// a type that it reaches has. Types without a path don't count; docs do: take both tables
+/// [`without_docs`] where they should not. Each path comes once: those of the old table first, in
+/// the order of the first types that have them, and then those that are new.
 ///
 /// All paths of both tables are compared at once. Where they are not all the same, one pass over
 /// both tables finds the paths that have changed since contents or counts differ below them, and
 /// the others are compared at once again. That is linear in the tables. Only where a difference is
 /// left, as where a type of one table stands for two of the other, are the halves compared, down to
-/// single paths, each time with a pass over both tables.
+/// single paths, each time as far as their types reach.
 ///
-/// Errors, of the old table before the new one: `Malformed`, where no prefix of the input is a
-/// table; `Trailing`, where bytes come after it. Then `Dangling`, where an entry of one of them
-/// refers to an id that is no index, and `Memory`, where an allocation failed.
+/// Errors: `Dangling`, where an entry of one of them refers to an id that is no index; `Memory`,
+/// where an allocation failed.
 ///
 /// ```text
-/// changes(alloc, &old, &new)?  // of tables with `a::T` of u8, and with `a::T` of u16 and `b::U`:
-///                              // Changed("a::T"), Added("b::U")
+/// let (old, new) = (without_docs(alloc, &old)?, without_docs(alloc, &new)?);
+/// let mut old = NamedTable::of(alloc, &old)?;
+/// let mut new = NamedTable::of(alloc, &new)?;
+/// changes(alloc, &mut old, &mut new)?  // of tables with `a::T` of u8, and with `a::T` of u16 and
+///                                      // `b::U`: Changed("a::T"), Added("b::U")
 /// ```
 ///
 /// [`same_types`]: scale_info_prune::same_types::same_types
-pub fn changes(alloc: Global, old: &[u8], new: &[u8]) -> Result<Vec<Change>, PruneError>
-    ensures ok { IfOk result (λ changes. AreTableChanges old.now new.now changes.items) }
-    ensures cause { IfErr result (IsChangesError old.now new.now) }
+pub fn changes(
+    alloc: Global,
+    old: &mut NamedTable<'_>,
+    new: &mut NamedTable<'_>,
+) -> Result<Vec<Change>, PruneError>
+    ensures ok { IfOk result (λ changes. AreChanges old.old new.old changes.items) }
+    ensures cause { IfErr result (IsCompareError old.old new.old) }
+    ensures old { old.new ≡ old.old }
+    ensures new { new.new ≡ new.old }
 {
-    let old = without_docs(alloc, old)?;
-    let new = without_docs(alloc, new)?;
-    changes_with_docs(alloc, &old, &new)
-}
-
-/// What changed between two tables, as [`changes`] says it, where docs count: a type has also
-/// changed where only a line of docs has, its own or one of a type that it reaches.
-///
-/// Errors: as those of [`changes`].
-///
-/// ```text
-/// changes_with_docs(alloc, &old, &new)?  // of tables with `a::T` of u8, in the new one with docs:
-///                                        // Changed("a::T")
-/// ```
-pub fn changes_with_docs(alloc: Global, old: &[u8], new: &[u8]) -> Result<Vec<Change>, PruneError>
-    ensures ok { IfOk result (λ changes. AreTableChangesWithDocs old.now new.now changes.items) }
-    ensures cause { IfErr result (IsChangesError old.now new.now) }
-{
-    let old = NamedTable::of(alloc, old)?;
-    let new = NamedTable::of(alloc, new)?;
     let mut changes = Vec::new(alloc);
-    push_old_changes(alloc, &old, &new, &mut changes)?;
-    push_added(alloc, &old, new.paths.elements(), &mut changes)?;
+    push_old_changes(alloc, old, new, &mut changes)?;
+    push_added(alloc, old, new.paths.elements(), &mut changes)?;
     Ok(changes)
 }
 
@@ -76,7 +62,11 @@ pub fn changes_with_docs(alloc: Global, old: &[u8], new: &[u8]) -> Result<Vec<Ch
 ///
 /// Errors: `Malformed`, where no prefix of the input is a table; `Trailing`, where bytes come after
 /// it; `Memory`, where an allocation failed.
-fn without_docs(alloc: Global, input: &[u8]) -> Result<Vec<u8>, PruneError>
+///
+/// ```text
+/// without_docs(alloc, &bytes)?  // a table that changes of docs leave as it is
+/// ```
+pub fn without_docs(alloc: Global, input: &[u8]) -> Result<Vec<u8>, PruneError>
     ensures ok { IfOk result (λ bytes. IsWithoutDocs input.now bytes.items) }
     ensures cause { IfErr result (IsTableError input.now) }
 {
@@ -100,10 +90,8 @@ fn push_added(
     paths: &[Text],
     changes: &mut Vec<Change>,
 ) -> Result<(), AllocError>
-    ensures { OnOk result ((types : List PortableType)
-        → IsNamedTable types old.now.bytes.now old.now.paths
-        (map (λ row. row.items) old.now.ids.items)
-        → changes.new.items ≡ changes.old.items ++ flat_map (new_change types) paths.now) }
+    ensures { OnOk result
+        (changes.new.items ≡ changes.old.items ++ flat_map (new_change old.now) paths.now) }
 {
     for path in paths {
         if old.ids_of(path).is_empty() {

@@ -1,14 +1,11 @@
 //! Paths of an old table, compared with a new table.
-ghost use Rattle.std.specs.Prelude.{◌≡◌, ◌++◌, ◌≢◌, List, IfOk, IfErr, OnOk, IsOk, true, false};
-ghost use Rattle.std.specs.Prelude.{◌∷◌, [], All, MatchOption, length, map};
+ghost use Rattle.std.specs.Prelude.{◌≡◌, ◌++◌, ◌≢◌, List, IfOk, IfErr, OnOk};
+ghost use Rattle.std.specs.Prelude.{◌∷◌, [], MatchOption, length, map};
 ghost use Rattle.scale_info_diff.specs.TableChanges.{AreSame, IsCompareError, IsOldChange};
 ghost use Rattle.scale_info_diff.specs.Comparisons.{AddsOldChanges, AreCommonIds};
 ghost use Rattle.scale_info_diff.specs.Comparisons.{HaveOtherCounts, TellsSame};
 ghost use Rattle.scale_info_diff.specs.Differing.{AreMarks, marked_changes, unmarked};
-ghost use Rattle.scale_info_diff.specs.NamedTables.{IsNamedTable};
-ghost use Rattle.scale_info_diff.specs.TypesByPath.{AreIdsByPath, ids_of};
-ghost use Rattle.scale_info_grammar.specs.Ty.{EncodesTypes};
-ghost use Rattle.scale_info_types.specs.Portable as portable;
+ghost use Rattle.scale_info_diff.specs.TypesByPath.{AreIdsByPath, ids_of, paths_of};
 ghost use Rattle.scale_info_types.specs.declared.ty.PortableType.{PortableType};
 
 use crate::change::Change;
@@ -16,8 +13,8 @@ use crate::differing::changed_paths;
 use crate::named::NamedTable;
 use scale_info_collections::text::Text;
 use scale_info_collections::try_clone::TryClone;
+use scale_info_prune::indexed::IndexedTable;
 use scale_info_prune::prune::PruneError;
-use scale_info_prune::same_types::same_types;
 use std::alloc::{AllocError, Global};
 
 /// Pushes what became of the paths of the old table, in order.
@@ -30,32 +27,24 @@ use std::alloc::{AllocError, Global};
 /// allocation failed.
 pub(crate) fn push_old_changes(
     alloc: Global,
-    old: &NamedTable<'_>,
-    new: &NamedTable<'_>,
+    old: &mut NamedTable<'_>,
+    new: &mut NamedTable<'_>,
     changes: &mut Vec<Change>,
 ) -> Result<(), PruneError>
-    requires { length old.now.ids.items ≡ length old.now.paths }
-    ensures ok { OnOk result ((types others : List PortableType)
-        → IsNamedTable types old.now.bytes.now old.now.paths
-        (map (λ row. row.items) old.now.ids.items)
-        → IsNamedTable others new.now.bytes.now new.now.paths
-        (map (λ row. row.items) new.now.ids.items)
-        → AddsOldChanges types others old.now.paths changes.old.items changes.new.items) }
-    ensures cause { IfErr result (λ error. (types others : List PortableType)
-        → IsNamedTable types old.now.bytes.now old.now.paths
-        (map (λ row. row.items) old.now.ids.items)
-        → IsNamedTable others new.now.bytes.now new.now.paths
-        (map (λ row. row.items) new.now.ids.items)
-        → IsCompareError types others error) }
+    ensures ok { OnOk result (AddsOldChanges old.old new.old (paths_of old.old)
+        changes.old.items changes.new.items) }
+    ensures cause { IfErr result (IsCompareError old.old new.old) }
+    ensures old { old.new ≡ old.old }
+    ensures new { new.new ≡ new.old }
 {
     let paths = old.paths.elements();
     let mut marks = Vec::new(alloc);
     marks.resize(paths.len(), false)?;
-    if are_same(alloc, old.bytes, new, paths, &old.ids, &marks)? {
+    if are_same(alloc, &mut old.table, new, paths, &old.ids, &marks)? {
         return Ok(push_marked(alloc, new, paths, &marks, changes)?);
     }
-    let marks = changed_paths(alloc, old, new)?;
-    push_by_halves(alloc, old.bytes, new, paths, &old.ids, &marks, changes)
+    let marks = changed_paths(alloc, &old.table, new, paths, &old.ids)?;
+    push_by_halves(alloc, &mut old.table, new, paths, &old.ids, &marks, changes)
 }
 
 /// Pushes what became of these paths of the old table, whose ids are given, in order; those with a
@@ -68,8 +57,8 @@ pub(crate) fn push_old_changes(
 /// allocation failed.
 fn push_by_halves(
     alloc: Global,
-    old: &[u8],
-    new: &NamedTable<'_>,
+    old: &mut IndexedTable<'_>,
+    new: &mut NamedTable<'_>,
     paths: &[Text],
     ids: &[Vec<u32>],
     marks: &[bool],
@@ -77,19 +66,13 @@ fn push_by_halves(
 ) -> Result<(), PruneError>
     requires ids { length ids.now ≡ length paths.now }
     requires marks { length marks.now ≡ length paths.now }
-    ensures ok { OnOk result ((types others : List PortableType)
-        → EncodesTypes types old.now
-        → IsNamedTable others new.now.bytes.now new.now.paths
-        (map (λ row. row.items) new.now.ids.items)
-        → AreIdsByPath types paths.now (map (λ row. row.items) ids.now)
-        → AreMarks types others paths.now marks.now
-        → AddsOldChanges types others paths.now changes.old.items changes.new.items) }
-    ensures cause { IfErr result (λ error. (types others : List PortableType)
-        → EncodesTypes types old.now
-        → IsNamedTable others new.now.bytes.now new.now.paths
-        (map (λ row. row.items) new.now.ids.items)
-        → AreIdsByPath types paths.now (map (λ row. row.items) ids.now)
-        → IsCompareError types others error) }
+    ensures ok { OnOk result (AreIdsByPath old.old paths.now (map (λ row. row.items) ids.now)
+        → AreMarks old.old new.old paths.now marks.now
+        → AddsOldChanges old.old new.old paths.now changes.old.items changes.new.items) }
+    ensures cause { IfErr result (λ error. AreIdsByPath old.old paths.now (map (λ row. row.items) ids.now)
+        → IsCompareError old.old new.old error) }
+    ensures old { old.new ≡ old.old }
+    ensures new { new.new ≡ new.old }
 {
     if paths.is_empty() || are_same(alloc, old, new, paths, ids, marks)? {
         return Ok(push_marked(alloc, new, paths, marks, changes)?);
@@ -113,30 +96,24 @@ fn push_by_halves(
 /// Errors: as those of [`push_old_changes`].
 fn are_same(
     alloc: Global,
-    old: &[u8],
-    new: &NamedTable<'_>,
+    old: &mut IndexedTable<'_>,
+    new: &mut NamedTable<'_>,
     paths: &[Text],
     ids: &[Vec<u32>],
     marks: &[bool],
 ) -> Result<bool, PruneError>
     requires ids { length ids.now ≡ length paths.now }
     requires marks { length marks.now ≡ length paths.now }
-    ensures ok { IfOk result (λ same. (types others : List PortableType)
-        → EncodesTypes types old.now
-        → IsNamedTable others new.now.bytes.now new.now.paths
-        (map (λ row. row.items) new.now.ids.items)
-        → AreIdsByPath types paths.now (map (λ row. row.items) ids.now)
-        → TellsSame types others (unmarked paths.now marks.now) same) }
-    ensures cause { IfErr result (λ error. (types others : List PortableType)
-        → EncodesTypes types old.now
-        → IsNamedTable others new.now.bytes.now new.now.paths
-        (map (λ row. row.items) new.now.ids.items)
-        → AreIdsByPath types paths.now (map (λ row. row.items) ids.now)
-        → IsCompareError types others error) }
+    ensures ok { IfOk result (λ same. AreIdsByPath old.old paths.now (map (λ row. row.items) ids.now)
+        → TellsSame old.old new.old (unmarked paths.now marks.now) same) }
+    ensures cause { IfErr result (λ error. AreIdsByPath old.old paths.now (map (λ row. row.items) ids.now)
+        → IsCompareError old.old new.old error) }
+    ensures old { old.new ≡ old.old }
+    ensures new { new.new ≡ new.old }
 {
     match common_ids(alloc, new, paths, ids, marks)? {
         None => Ok(false),
-        Some((common, others)) => same_types(alloc, old, &common, new.bytes, &others),
+        Some((common, others)) => old.same_types(alloc, &common, &mut new.table, &others),
     }
 }
 
@@ -153,12 +130,10 @@ fn common_ids(
 ) -> Result<Option<(Vec<u32>, Vec<u32>)>, AllocError>
     requires ids { length ids.now ≡ length paths.now }
     requires marks { length marks.now ≡ length paths.now }
-    ensures { IfOk result (λ found. (types others : List PortableType)
-        → IsNamedTable others new.now.bytes.now new.now.paths
-        (map (λ row. row.items) new.now.ids.items)
+    ensures { IfOk result (λ found. (types : List PortableType)
         → AreIdsByPath types paths.now (map (λ row. row.items) ids.now)
-        → MatchOption found (HaveOtherCounts types others (unmarked paths.now marks.now))
-        (λ both. AreCommonIds types others (unmarked paths.now marks.now) both.0.items
+        → MatchOption found (HaveOtherCounts types new.now (unmarked paths.now marks.now))
+        (λ both. AreCommonIds types new.now (unmarked paths.now marks.now) both.0.items
         both.1.items)) }
 {
     let mut common = Vec::new(alloc);
@@ -192,10 +167,8 @@ fn push_marked(
     changes: &mut Vec<Change>,
 ) -> Result<(), AllocError>
     requires { length marks.now ≡ length paths.now }
-    ensures { OnOk result ((others : List PortableType)
-        → IsNamedTable others new.now.bytes.now new.now.paths
-        (map (λ row. row.items) new.now.ids.items)
-        → changes.new.items ≡ changes.old.items ++ marked_changes others paths.now marks.now) }
+    ensures { OnOk result (changes.new.items
+        ≡ changes.old.items ++ marked_changes new.now paths.now marks.now) }
 {
     for index in 0..paths.len() {
         let path = &paths[index];
@@ -216,11 +189,9 @@ fn push_difference(
     path: &Text,
     changes: &mut Vec<Change>,
 ) -> Result<(), AllocError>
-    ensures { OnOk result ((types others : List PortableType)
-        → IsNamedTable others new.now.bytes.now new.now.paths
-        (map (λ row. row.items) new.now.ids.items)
-        → (ids_of path.now others ≢ [] → ¬ (AreSame types others path.now))
-        → AddsOldChanges types others (path.now ∷ []) changes.old.items changes.new.items) }
+    ensures { OnOk result ((types : List PortableType)
+        → (ids_of path.now new.now ≢ [] → ¬ (AreSame types new.now path.now))
+        → AddsOldChanges types new.now (path.now ∷ []) changes.old.items changes.new.items) }
 {
     let copy = path.try_clone(alloc)?;
     if new.ids_of(path).is_empty() {

@@ -8,11 +8,12 @@ ghost use Rattle.scale_info_diff.specs.Declarations.{IsDeclaredChange, IsLineCha
 ghost use Rattle.scale_info_diff.specs.Declarations.{TellsDeclaredChange, place_before};
 ghost use Rattle.scale_info_diff.specs.Declarations.{type_before};
 ghost use Rattle.scale_info_diff.specs.Differences.{IsDifferenceError, IsPrunedTo};
-ghost use Rattle.scale_info_prune.specs.Prunes.{IsPruneError};
-ghost use Rattle.scale_info_prune.specs.TableIndexes.{IsIndexed};
+ghost use Rattle.scale_info_diff.specs.TypesByPath.{ids_of};
+ghost use Rattle.scale_info_prune.specs.Prunes.{IsTypesPruneError};
 
 use crate::lines::{first_change, lines_of};
-use crate::named::table_of;
+use crate::named::{NamedTable, row_of, table_of};
+use scale_info_collections::text::Text;
 use scale_info_describe::describe::append_description;
 use scale_info_prune::indexed::IndexedTable;
 use scale_info_prune::prune::PruneError;
@@ -24,86 +25,80 @@ use std::alloc::{AllocError, Global};
 /// it is in the old table and as it is in the new one, both without the four blanks of each level
 /// before them; None, where no types are declared by other lines.
 ///
-/// So it says why a path has changed: the ids are those of the types with the path. Both
-/// tables are pruned to their ids, which count in ascending order, each once; then the types that
-/// are kept are gone over in both at once, in depth-first order of discovery. So the field of a
-/// type comes before what its own type has changed in. Types are declared as by [`describe`]; what
-/// that doesn't write doesn't count here, such as the names of types that fields hold. Past the
-/// last line of a declaration, and past the last type, come empty lines. Docs count: write both
+/// Both tables are pruned to their ids, which count in ascending order, each once; then the types
+/// that are kept are gone over in both at once, in depth-first order of discovery. So the field of
+/// a type comes before what its own type has changed in. Types are declared as by [`describe`];
+/// what that doesn't write doesn't count here, such as the names of types that fields hold. Past
+/// the last line of a declaration, and past the last type, come empty lines. Docs count: write both
 /// tables without docs first where they should not.
 ///
 /// Errors: as those of [`first_difference`].
 ///
 /// ```text
 /// // `a::T { x: u8, y: b::U }` in both, with ids 0 and 3; `b::U` has `z: u8` and then `z: u16`
-/// first_declared_change(alloc, &old, &[0], &new, &[3])?   // Some("b::U: z: u8, -> z: u16,")
+/// first_declared_change(alloc, &mut old, &[0], &mut new, &[3])?
+/// // Some("b::U: z: u8, -> z: u16,")
 /// ```
 ///
 /// [`describe`]: scale_info_describe::describe::describe
 /// [`first_difference`]: crate::difference::first_difference
 pub fn first_declared_change(
     alloc: Global,
-    old: &[u8],
-    old_ids: &[u32],
-    new: &[u8],
-    new_ids: &[u32],
-) -> Result<Option<String>, PruneError>
-    ensures ok { IfOk result (λ found. TellsDeclaredChange old.now old_ids.now new.now
-        new_ids.now (option_map string_bytes found)) }
-    ensures cause { IfErr result
-        (IsDifferenceError old.now old_ids.now new.now new_ids.now) }
-{
-    let mut old = IndexedTable::of(alloc, old)?;
-    let table = pruned_to(alloc, &mut old, old_ids)?;
-    let mut new = IndexedTable::of(alloc, new)?;
-    let other = pruned_to(alloc, &mut new, new_ids)?;
-    Ok(change_between(alloc, &table, &other)?)
-}
-
-/// What [`first_declared_change`] says of the bytes, of tables that were read before: who asks of
-/// many paths reads both tables once, and each answer takes time for what is kept of them.
-///
-/// Errors, of the old table before the new one: `NoSuchType`, for the first id that is no index;
-/// `Dangling`, for the first id that is reached and is no index; `Memory`, where an allocation
-/// failed.
-pub fn declared_change_of(
-    alloc: Global,
     old: &mut IndexedTable<'_>,
     old_ids: &[u32],
     new: &mut IndexedTable<'_>,
     new_ids: &[u32],
 ) -> Result<Option<String>, PruneError>
-    requires old { (input : List ℕ) × IsIndexed input old.old }
-    requires new { (input : List ℕ) × IsIndexed input new.old }
-    ensures ok { IfOk result (λ found. (input other : List ℕ)
-        → IsIndexed input old.old → IsIndexed other new.old
-        → TellsDeclaredChange input old_ids.now other new_ids.now
-        (option_map string_bytes found)) }
-    ensures cause { IfErr result (λ error. (input other : List ℕ)
-        → IsIndexed input old.old → IsIndexed other new.old
-        → IsDifferenceError input old_ids.now other new_ids.now error) }
-    ensures old { (input : List ℕ) → IsIndexed input old.old → IsIndexed input old.new }
-    ensures new { (input : List ℕ) → IsIndexed input new.old → IsIndexed input new.new }
+    ensures ok { IfOk result (λ found. TellsDeclaredChange old.old old_ids.now new.old
+        new_ids.now (option_map string_bytes found)) }
+    ensures cause { IfErr result
+        (IsDifferenceError old.old old_ids.now new.old new_ids.now) }
+    ensures old { old.new ≡ old.old }
+    ensures new { new.new ≡ new.old }
 {
     let table = pruned_to(alloc, old, old_ids)?;
     let other = pruned_to(alloc, new, new_ids)?;
     Ok(change_between(alloc, &table, &other)?)
 }
 
+/// Why a path has changed: what [`first_declared_change`] says of the types with the path in two
+/// tables. Each answer takes time for what is kept of them.
+///
+/// Errors: as those of [`first_declared_change`], for the ids of these types.
+///
+/// ```text
+/// declared_change_of(alloc, &mut old, &mut new, &path)?   // Some("b::U: z: u8, -> z: u16,")
+/// ```
+pub fn declared_change_of(
+    alloc: Global,
+    old: &mut NamedTable<'_>,
+    new: &mut NamedTable<'_>,
+    path: &Text,
+) -> Result<Option<String>, PruneError>
+    ensures ok { IfOk result (λ found. TellsDeclaredChange old.old (ids_of path.now old.old)
+        new.old (ids_of path.now new.old) (option_map string_bytes found)) }
+    ensures cause { IfErr result (IsDifferenceError old.old (ids_of path.now old.old)
+        new.old (ids_of path.now new.old)) }
+    ensures old { old.new ≡ old.old }
+    ensures new { new.new ≡ new.old }
+{
+    let ids = row_of(&old.paths, &old.ids, path);
+    let others = row_of(&new.paths, &new.ids, path);
+    first_declared_change(alloc, &mut old.table, ids, &mut new.table, others)
+}
+
 /// The table that a table is, pruned to these ids.
 ///
-/// Errors: as those of [`declared_change_of`], for one table.
+/// Errors: as those of [`first_declared_change`], for one table.
 fn pruned_to(
     alloc: Global,
     table: &mut IndexedTable<'_>,
     ids: &[u32],
 ) -> Result<PortableRegistry, PruneError>
-    requires { (input : List ℕ) × IsIndexed input table.old }
-    ensures ok { IfOk result (λ kept. (input : List ℕ) → IsIndexed input table.old
-        → (order : List ℕ) × IsPrunedTo input ids.now order kept.types) }
-    ensures cause { IfErr result (λ error. (input : List ℕ) → IsIndexed input table.old
-        → IsPruneError input ids.now error) }
-    ensures indexed { (input : List ℕ) → IsIndexed input table.old → IsIndexed input table.new }
+    ensures ok { IfOk result (λ kept. (order : List ℕ)
+        × IsPrunedTo table.old ids.now order kept.types) }
+    ensures cause { IfErr result (IsTypesPruneError table.old ids.now) }
+    ensures table { table.new ≡ table.old }
 {
     let mut bytes = Vec::new(alloc);
     table.append_pruned(alloc, ids, &mut bytes)?;

@@ -4,10 +4,11 @@ ghost use Rattle.std.specs.BTreeMap.{get};
 ghost use Rattle.std.specs.Ordering.{nat_cmp};
 ghost use Rattle.scale_info_diff.specs.Differences.{AgreeThroughout, IsDifferenceError};
 ghost use Rattle.scale_info_diff.specs.Differences.{IsFirstPlace, IsPrunedTo, TellsDifference};
-ghost use Rattle.scale_info_prune.specs.Prunes.{HasNewIds, IsPruneError};
+ghost use Rattle.scale_info_prune.specs.Prunes.{HasNewIds, IsTypesPruneError};
 
 use crate::named::table_of;
-use scale_info_prune::prune::{PruneError, prune};
+use scale_info_prune::indexed::IndexedTable;
+use scale_info_prune::prune::PruneError;
 use scale_info_tables::portable::PortableRegistry;
 use scale_info_types::laws::equal_portable;
 use scale_info_types::ty::PortableType;
@@ -25,25 +26,26 @@ use std::collections::BTreeMap;
 /// that order; ids themselves don't count. Docs count: write both tables without docs first where
 /// they should not.
 ///
-/// Errors, of the old table before the new one: `Malformed`, where no prefix of the input is a
-/// table; `Trailing`, where bytes come after it; `NoSuchType`, for the first id that is no index;
+/// Errors, of the old table before the new one: `NoSuchType`, for the first id that is no index;
 /// `Dangling`, for the first id that is reached and is no index; `Memory`, where an allocation
 /// failed.
 ///
 /// ```text
 /// // `a::T { x: u8, y: b::U }` in both, with ids 0 and 3; `b::U` has one field more in new
-/// first_difference(alloc, &old, &[0], &new, &[3])?   // Some((2, 5)), the ids of b::U
+/// first_difference(alloc, &mut old, &[0], &mut new, &[3])?   // Some((2, 5)), the ids of b::U
 /// ```
 pub fn first_difference(
     alloc: Global,
-    old: &[u8],
+    old: &mut IndexedTable<'_>,
     old_ids: &[u32],
-    new: &[u8],
+    new: &mut IndexedTable<'_>,
     new_ids: &[u32],
 ) -> Result<Option<(u32, u32)>, PruneError>
-    ensures ok { IfOk result (TellsDifference old.now old_ids.now new.now new_ids.now) }
+    ensures ok { IfOk result (TellsDifference old.old old_ids.now new.old new_ids.now) }
     ensures cause { IfErr result
-        (IsDifferenceError old.now old_ids.now new.now new_ids.now) }
+        (IsDifferenceError old.old old_ids.now new.old new_ids.now) }
+    ensures old { old.new ≡ old.old }
+    ensures new { new.new ≡ new.old }
 {
     let (table, places) = pruned(alloc, old, old_ids)?;
     let (other_table, other_places) = pruned(alloc, new, new_ids)?;
@@ -58,17 +60,18 @@ pub fn first_difference(
 /// Errors: as those of [`first_difference`], for one table.
 fn pruned(
     alloc: Global,
-    input: &[u8],
+    table: &mut IndexedTable<'_>,
     ids: &[u32],
 ) -> Result<(PortableRegistry, BTreeMap<u32, u32>), PruneError>
     ensures ok { IfOk result (λ found. (order : List ℕ) × HasNewIds order found.1
-        × IsPrunedTo input.now ids.now order found.0.types) }
-    ensures cause { IfErr result (IsPruneError input.now ids.now) }
+        × IsPrunedTo table.old ids.now order found.0.types) }
+    ensures cause { IfErr result (IsTypesPruneError table.old ids.now) }
+    ensures table { table.new ≡ table.old }
 {
     let mut bytes = Vec::new(alloc);
-    let places = prune(alloc, input, ids, &mut bytes)?;
-    let table = table_of(alloc, &bytes)?;
-    Ok((table, places))
+    let places = table.prune(alloc, ids, &mut bytes)?;
+    let kept = table_of(alloc, &bytes)?;
+    Ok((kept, places))
 }
 
 /// The first place at which both lists have entries that differ; None, where there is none.

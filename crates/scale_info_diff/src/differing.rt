@@ -6,10 +6,9 @@
 //! said, since a type of one table may stand for two of the other.
 ghost use Rattle.std.specs.Prelude.{◌≡◌, ◌≢◌, [], All, List, IfOk, IsTrue, OnOk, ℕ, Some};
 ghost use Rattle.std.specs.Prelude.{length, map, slice_get};
-ghost use Rattle.scale_info_diff.specs.Differing.{AreDiffering, AreEntriesOf, AreMarks};
+ghost use Rattle.scale_info_diff.specs.Differing.{AreDiffering, AreMarks};
 ghost use Rattle.scale_info_diff.specs.Differing.{AreNeverPaired, Grows, HasReferences};
 ghost use Rattle.scale_info_diff.specs.Differing.{HaveNoMatch, IsDiffering, IsEdge};
-ghost use Rattle.scale_info_diff.specs.NamedTables.{IsNamedTable};
 ghost use Rattle.scale_info_diff.specs.TypesByPath.{AreIdsByPath};
 ghost use Rattle.scale_info_types.specs.declared.ty.PortableType.{PortableType};
 
@@ -18,6 +17,7 @@ use crate::entries::Entries;
 use crate::named::NamedTable;
 use crate::pairs::Pairs;
 use scale_info_collections::text::Text;
+use scale_info_prune::indexed::IndexedTable;
 use std::alloc::{AllocError, Global};
 
 /// Pairs of types, with a mark at each that is known to be of types that are never paired.
@@ -27,31 +27,29 @@ struct Differing {
     marks: Vec<bool>,
 }
 
-/// For each path of the old table, whether it is known to have changed: where it has no mark, it
-/// may have too.
+/// For each of these paths of the old table, whose ids are given, whether it is known to have
+/// changed: where it has no mark, it may have too.
 ///
 /// Errors: `AllocError`, if an allocation failed.
 pub(crate) fn changed_paths(
     alloc: Global,
-    old: &NamedTable<'_>,
+    old: &IndexedTable<'_>,
     new: &NamedTable<'_>,
+    paths: &[Text],
+    ids: &[Vec<u32>],
 ) -> Result<Vec<bool>, AllocError>
-    requires { length old.now.ids.items ≡ length old.now.paths }
-    ensures long { IfOk result (λ marks. length marks.items ≡ length old.now.paths) }
-    ensures marks { IfOk result (λ marks. (types others : List PortableType)
-        → IsNamedTable types old.now.bytes.now old.now.paths
-        (map (λ row. row.items) old.now.ids.items)
-        → IsNamedTable others new.now.bytes.now new.now.paths
-        (map (λ row. row.items) new.now.ids.items)
-        → AreMarks types others old.now.paths marks.items) }
+    requires { length ids.now ≡ length paths.now }
+    ensures long { IfOk result (λ marks. length marks.items ≡ length paths.now) }
+    ensures marks { IfOk result
+        (λ marks. AreIdsByPath old.now paths.now (map (λ row. row.items) ids.now)
+        → AreMarks old.now new.now paths.now marks.items) }
 {
-    let paths = old.paths.elements();
-    let entries = Entries::of(alloc, old.bytes)?;
-    let others = Entries::of(alloc, new.bytes)?;
-    let mut pairs = Pairs::new(alloc, entries.offsets.len())?;
-    pair_types(new, paths, &old.ids, &mut pairs)?;
+    let entries = Entries::of(alloc, old)?;
+    let others = Entries::of(alloc, &new.table)?;
+    let mut pairs = Pairs::new(alloc, entries.zeros.len())?;
+    pair_types(new, paths, ids, &mut pairs)?;
     let found = find_differing(alloc, &entries, &others, pairs)?;
-    marks_of(alloc, &found, new, paths, &old.ids)
+    marks_of(alloc, &found, new, paths, ids)
 }
 
 /// Adds a pair for each of the types with one of these paths, in order.
@@ -87,22 +85,20 @@ fn pair_ids(ids: &[u32], others: &[u32], pairs: &mut Pairs) -> Result<(), AllocE
 /// Errors: `AllocError`, if an allocation failed.
 fn find_differing(
     alloc: Global,
-    old: &Entries<'_>,
-    new: &Entries<'_>,
+    old: &Entries<'_, '_>,
+    new: &Entries<'_, '_>,
     pairs: Pairs,
 ) -> Result<Differing, AllocError>
-    ensures { IfOk result (λ found. (types others : List PortableType)
-        → AreEntriesOf types old.now.body.now old.now.offsets.items old.now.zeros.items
-        → AreEntriesOf others new.now.body.now new.now.offsets.items new.now.zeros.items
-        → AreDiffering types others found.pairs.items.items found.marks.items) }
+    ensures { IfOk result (λ found. AreDiffering old.now.table.now new.now.table.now
+        found.pairs.items.items found.marks.items) }
 {
     let mut pairs = pairs;
     let mut marks = Vec::new(alloc);
     let mut edges = Vec::new(alloc);
     let most = old
-        .offsets
+        .zeros
         .len()
-        .saturating_add(new.offsets.len())
+        .saturating_add(new.zeros.len())
         .saturating_mul(2);
     for _ in 0..most {
         if marks.len() >= pairs.items.len() {
@@ -122,22 +118,19 @@ fn find_differing(
 /// Errors: `AllocError`, if an allocation failed.
 fn visit(
     alloc: Global,
-    old: &Entries<'_>,
-    new: &Entries<'_>,
+    old: &Entries<'_, '_>,
+    new: &Entries<'_, '_>,
     number: usize,
     pairs: &mut Pairs,
     edges: &mut Vec<(usize, usize)>,
 ) -> Result<bool, AllocError>
     ensures grows { Grows pairs.old.items.items pairs.new.items.items }
-    ensures mark { IfOk result (λ mark. (types others : List PortableType)
-        → AreEntriesOf types old.now.body.now old.now.offsets.items old.now.zeros.items
-        → AreEntriesOf others new.now.body.now new.now.offsets.items new.now.zeros.items
-        → IsTrue mark → IsDiffering types others pairs.new.items.items number) }
-    ensures edges { OnOk result ((types others : List PortableType)
-        → AreEntriesOf types old.now.body.now old.now.offsets.items old.now.zeros.items
-        → AreEntriesOf others new.now.body.now new.now.offsets.items new.now.zeros.items
-        → All (IsEdge types others pairs.old.items.items) edges.old.items
-        → All (IsEdge types others pairs.new.items.items) edges.new.items) }
+    ensures mark { IfOk result (λ mark. IsTrue mark
+        → IsDiffering old.now.table.now new.now.table.now pairs.new.items.items number) }
+    ensures edges { OnOk result
+        (All (IsEdge old.now.table.now new.now.table.now pairs.old.items.items) edges.old.items
+        → All (IsEdge old.now.table.now new.now.table.now pairs.new.items.items)
+        edges.new.items) }
 {
     let Some(pair) = pairs.items.get(number) else {
         return Ok(false);
@@ -246,12 +239,10 @@ fn marks_of(
 ) -> Result<Vec<bool>, AllocError>
     requires { length ids.now ≡ length paths.now }
     ensures long { IfOk result (λ marks. length marks.items ≡ length paths.now) }
-    ensures marks { IfOk result (λ marks. (types others : List PortableType)
-        → AreDiffering types others found.now.pairs.items.items found.now.marks.items
-        → IsNamedTable others new.now.bytes.now new.now.paths
-        (map (λ row. row.items) new.now.ids.items)
+    ensures marks { IfOk result (λ marks. (types : List PortableType)
+        → AreDiffering types new.now found.now.pairs.items.items found.now.marks.items
         → AreIdsByPath types paths.now (map (λ row. row.items) ids.now)
-        → AreMarks types others paths.now marks.items) }
+        → AreMarks types new.now paths.now marks.items) }
 {
     let mut marks = Vec::new(alloc);
     for index in 0..paths.len() {

@@ -1,12 +1,10 @@
-//! The entries of a table's bytes, read one at a time.
-ghost use Rattle.std.specs.Prelude.{◌<◌, All, IsTrue, List, IfOk, IfSome, length};
-ghost use Rattle.scale_info_diff.specs.Differing.{AreEntriesOf, HasParts};
-ghost use Rattle.scale_info_grammar.specs.Ty.{EncodesTypes};
-ghost use Rattle.scale_info_types.specs.declared.ty.PortableType.{PortableType};
+//! The entries of a table, read one at a time.
+ghost use Rattle.std.specs.Prelude.{◌≡◌, ◌<◌, All, IsTrue, IfOk, IfSome, length};
+ghost use Rattle.std.proofs.Props.{props};
+ghost use Rattle.scale_info_diff.specs.Differing.{HasParts};
 
-use scale_info_bytes::integer::decode_compact;
-use scale_info_passes::entries::index_entries;
 use scale_info_passes::visitors::{gather, renumber};
+use scale_info_prune::indexed::IndexedTable;
 use scale_info_types::form::PortableForm;
 use scale_info_types::ty::Description;
 use std::alloc::{AllocError, Global};
@@ -20,47 +18,26 @@ pub(crate) struct Parts {
     pub references: Vec<u32>,
 }
 
-/// The entries of a table, in its bytes.
+/// The entries of a table.
 #[derive(Drop)]
-pub(crate) struct Entries<'a> {
-    /// The bytes after the count.
-    pub body: &'a [u8],
-    /// Where each entry's description begins in them.
-    pub offsets: Vec<usize>,
+pub(crate) struct Entries<'t, 'a> {
+    /// The table.
+    pub table: &'t IndexedTable<'a>,
     /// As many zeros as there are entries: what is written in the place of references to them.
     pub zeros: Vec<u32>,
+    ghost zero: { All (λ number. number ≡ 0) zeros.items } by { Prim.hlevel props },
 }
 
-impl<'a> Entries<'a> {
-    /// The entries of the table that these bytes are; none, where they are no table.
+impl<'t, 'a> Entries<'t, 'a> {
+    /// The entries of this table.
     ///
     /// Errors: `AllocError`, if an allocation failed.
-    pub fn of(alloc: Global, bytes: &'a [u8]) -> Result<Entries<'a>, AllocError>
-        ensures { IfOk result (λ entries. (types : List PortableType)
-            → EncodesTypes types bytes.now
-            → AreEntriesOf types entries.body.now entries.offsets.items entries.zeros.items) }
+    pub fn of(alloc: Global, table: &'t IndexedTable<'a>) -> Result<Entries<'t, 'a>, AllocError>
+        ensures { IfOk result (λ entries. entries.table.now ≡ table.now) }
     {
         let mut zeros = Vec::new(alloc);
-        let Some((count, body)) = decode_compact(bytes) else {
-            return Ok(Entries {
-                body: bytes,
-                offsets: Vec::new(alloc),
-                zeros,
-            });
-        };
-        let Some((index, _)) = index_entries(alloc, count, body)? else {
-            return Ok(Entries {
-                body,
-                offsets: Vec::new(alloc),
-                zeros,
-            });
-        };
-        zeros.resize(count as usize, 0)?;
-        Ok(Entries {
-            body,
-            offsets: index.offsets,
-            zeros,
-        })
+        zeros.resize(table.len(), 0)?;
+        Ok(Entries { table, zeros })
     }
 
     /// The two parts of the entry with this id; None, where the id is no index, or one of its
@@ -68,14 +45,11 @@ impl<'a> Entries<'a> {
     ///
     /// Errors: `AllocError`, if an allocation failed.
     pub fn parts_of(&self, alloc: Global, id: u32) -> Result<Option<Parts>, AllocError>
-        ensures { IfOk result (λ found. IfSome found (λ parts. (types : List PortableType)
-            → AreEntriesOf types self.now.body.now self.now.offsets.items self.now.zeros.items
-            → HasParts types id parts.contents.items parts.references.items)) }
+        ensures { IfOk result (λ found. IfSome found
+            (λ parts. HasParts self.now.table.now id parts.contents.items
+            parts.references.items)) }
     {
-        let Some(offset) = self.offsets.get(id as usize) else {
-            return Ok(None);
-        };
-        let Some(description) = self.body.get(*offset..) else {
+        let Some(description) = self.table.description_at(id) else {
             return Ok(None);
         };
         let gathered = gather::<Description<PortableForm>>(description, Vec::new(alloc))?;

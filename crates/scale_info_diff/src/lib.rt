@@ -1,10 +1,11 @@
 //! What changed between two tables, by the paths of their types.
 //!
-//! [`changes::changes`] lists the paths of types that are gone, new, or no longer the same; docs
-//! don't count. [`changes::changes_with_docs`] does so where docs count.
+//! A [`named::NamedTable`] is a table that was read once, with its types by their paths.
+//! [`changes::changes`] lists the paths of types that are gone, new, or no longer the same between
+//! two of them; docs count, unless the tables are taken [`changes::without_docs`].
 //! [`difference::first_difference`] finds where types of two tables differ first, and
-//! [`declarations::first_declared_change`] says it in words; for many paths,
-//! [`declarations::declared_change_of`] says it of tables that were read once.
+//! [`declarations::first_declared_change`] says it in words;
+//! [`declarations::declared_change_of`] says it of the types with a path.
 #![tactic(auto)]
 
 pub mod change;

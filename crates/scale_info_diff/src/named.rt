@@ -1,6 +1,6 @@
 //! Tables of which the types are found by their paths.
 ghost use Rattle.std.specs.Prelude.{◌≡◌, IfOk, IfErr, List, map};
-ghost use Rattle.scale_info_diff.specs.NamedTables.{IsNamedTable};
+ghost use Rattle.scale_info_diff.specs.NamedTables.{AreTypesByPath};
 ghost use Rattle.scale_info_diff.specs.TypesByPath.{ids_of};
 ghost use Rattle.scale_info_grammar.specs.Ty.{EncodesTypes};
 ghost use Rattle.scale_info_prune.specs.Prunes.{IsTableError};
@@ -10,11 +10,16 @@ use crate::paths::paths_with_ids;
 use scale_info_bytes::error::DecodeError;
 use scale_info_collections::text::Text;
 use scale_info_interner::interner::Interner;
+use scale_info_prune::indexed::IndexedTable;
 use scale_info_prune::prune::PruneError;
 use scale_info_tables::portable::PortableRegistry;
 use std::alloc::Global;
+use std::marker::Model;
 
-/// A table, and its types by their paths.
+/// A table that stays bytes, with its types by their paths.
+///
+/// Contracts see it as the entries that its bytes encode. It is read once, however often it is
+/// compared.
 ///
 /// ```text
 /// let table = NamedTable::of(alloc, &bytes)?;
@@ -22,12 +27,25 @@ use std::alloc::Global;
 /// ```
 #[derive(Drop)]
 pub struct NamedTable<'a> {
-    /// The table's bytes.
-    pub bytes: &'a [u8],
+    /// The table's bytes, and where its entries are in them.
+    pub(crate) table: IndexedTable<'a>,
     /// The paths of its types, each once, in the order of the first types that have them.
-    pub paths: Interner<Text>,
+    pub(crate) paths: Interner<Text>,
     /// For each path the ids of its types, ascending.
-    pub ids: Vec<Vec<u32>>,
+    pub(crate) ids: Vec<Vec<u32>>,
+}
+
+impl<'a> Model for NamedTable<'a> {
+    ghost use Rattle.std.specs.Prelude.{List, map};
+    ghost use Rattle.scale_info_diff.specs.NamedTables.{AreTypesByPath};
+    ghost use Rattle.scale_info_types.specs.declared.ty.PortableType.{PortableType};
+
+    ghost Value = { List PortableType };
+
+    ghost view = { λ named. named.table };
+
+    ghost invariant = { λ named. AreTypesByPath named.table named.paths
+        (map (λ row. row.items) named.ids.items) };
 }
 
 impl<'a> NamedTable<'a> {
@@ -36,30 +54,55 @@ impl<'a> NamedTable<'a> {
     /// Errors: `Malformed`, where no prefix of them is a table; `Trailing`, where bytes come after
     /// it; `Memory`, where an allocation failed.
     pub fn of(alloc: Global, bytes: &'a [u8]) -> Result<NamedTable<'a>, PruneError>
-        ensures ok { IfOk result (λ table. (types : List PortableType) × IsNamedTable types
-            table.bytes.now table.paths (map (λ row. row.items) table.ids.items)) }
-        ensures bytes { IfOk result (λ table. table.bytes.now ≡ bytes.now) }
+        ensures ok { IfOk result (λ table. EncodesTypes table bytes.now) }
         ensures cause { IfErr result (IsTableError bytes.now) }
     {
-        let table = table_of(alloc, bytes)?;
-        let (paths, ids) = paths_with_ids(alloc, table.types())?;
-        Ok(NamedTable { bytes, paths, ids })
+        let (paths, ids) = paths_in(alloc, bytes)?;
+        let table = IndexedTable::of(alloc, bytes)?;
+        Ok(NamedTable { table, paths, ids })
+    }
+
+    /// The bytes of the table, which are its encoding.
+    pub fn as_bytes(&self) -> &'a [u8]
+        ensures { EncodesTypes self.now result.now }
+    {
+        self.table.as_bytes()
     }
 
     /// The ids, ascending, of the types with this path; none, where no type has it.
     pub fn ids_of(&self, path: &Text) -> &[u32]
-        ensures { (types : List PortableType) → IsNamedTable types self.now.bytes.now
-            self.now.paths (map (λ row. row.items) self.now.ids.items)
-            → result.now ≡ ids_of path.now types }
+        ensures { result.now ≡ ids_of path.now self.now }
     {
-        let Some(symbol) = self.paths.get(path) else {
-            return &[];
-        };
-        match self.ids.get(symbol.into_untracked().id as usize) {
-            Some(row) => row,
-            None => &[],
-        }
+        row_of(&self.paths, &self.ids, path)
     }
+}
+
+/// The ids, ascending, of the types with this path, by all paths and the ids of the types with each.
+pub(crate) fn row_of<'r>(paths: &Interner<Text>, ids: &'r [Vec<u32>], path: &Text) -> &'r [u32]
+    ensures { (types : List PortableType)
+        → AreTypesByPath types paths.now (map (λ row. row.items) ids.now)
+        → result.now ≡ ids_of path.now types }
+{
+    let Some(symbol) = paths.get(path) else {
+        return &[];
+    };
+    match ids.get(symbol.into_untracked().id as usize) {
+        Some(row) => row,
+        None => &[],
+    }
+}
+
+/// The paths of the types of the table that bytes are, and the ids of the types with each. The
+/// table is decoded for it, and let go.
+///
+/// Errors: as those of [`NamedTable::of`].
+fn paths_in(alloc: Global, bytes: &[u8]) -> Result<(Interner<Text>, Vec<Vec<u32>>), PruneError>
+    ensures ok { IfOk result (λ found. (types : List PortableType) × EncodesTypes types bytes.now
+        × AreTypesByPath types found.0 (map (λ row. row.items) found.1.items)) }
+    ensures cause { IfErr result (IsTableError bytes.now) }
+{
+    let table = table_of(alloc, bytes)?;
+    Ok(paths_with_ids(alloc, table.types())?)
 }
 
 /// The table that bytes are.

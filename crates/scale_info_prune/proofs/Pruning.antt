@@ -1,17 +1,20 @@
 -- What a numbered index says of its table.
 use Rattle.std.proofs.Common.{◌≢◌, ◌↔◌, Some, slice_get, ◌≡◌, ℕ, ◌<◌, ◌≤◌, List, [], ◌∷◌, length}
-use Rattle.std.proofs.Common.{refl, ap, sym, ◌∙◌, subst, arith, suc, All, get_or, map}
+use Rattle.std.proofs.Common.{refl, ap, sym, ◌∙◌, subst, arith, suc, All, get_or, map, None, ◌-◌}
+use Rattle.std.proofs.Common.{drop, take, take_all, length-drop}
 use Rattle.std.proofs.Math.Logic.{∥∥₁_elim}
 use Rattle.std.proofs.lemmas.List.Elements.{Contains-get_or}
-use Rattle.std.proofs.lemmas.Option.{slice_get_within}
+use Rattle.std.proofs.lemmas.Option.{slice_get_past, slice_get_read, slice_get_within}
 use Rattle.std.specs.BTreeMap.{BTreeMap, get}
 use Rattle.std.specs.Ordering.{nat_cmp}
+use Rattle.scale_info_bytes.specs.Encodings.{HasPrefix}
 use Rattle.scale_info_bytes.specs.Integers.{EncodesCompact, in_one, in_two, in_four, in_five}
-use Rattle.scale_info_grammar.specs.Ty.{EncodesTypes}
+use Rattle.scale_info_grammar.specs.Ty.{EncodesDescription, EncodesTypes}
+use Rattle.scale_info_numberings.proofs.Zip.{zip_right, zip_turned}
 use Rattle.scale_info_numberings.specs.Numberings.{IsNumbering}
 use Rattle.scale_info_numberings.specs.Systems.{IsFirstOutside}
 use Rattle.scale_info_numberings.specs.Tables.{IsTable}
-use Rattle.scale_info_passes.specs.Entries.{AreAtOffsets, AreKeptEntries, HasEntriesAt}
+use Rattle.scale_info_passes.specs.Entries.{AreAtOffsets, AreKeptEntries, HasEntriesAt, IsAtOffset}
 use Rattle.scale_info_passes.specs.Visits.{renumbered}
 use Rattle.scale_info_types.specs.declared.ty.PortableType.{PortableType}
 use Rattle.scale_info_walk.proofs.KeptEntries.{kept_table, kept_ids}
@@ -28,7 +31,8 @@ use Rattle.scale_info_prune.specs.Prunes.{AppendsPruned, HasNewIds, IsNumbered, 
 use Rattle.scale_info_prune.specs.Prunes.{IsPruneError, IsRootsNumberingError, IsTableError}
 use Rattle.scale_info_prune.specs.Prunes.{IsTypesPruneError, LeadsOutside}
 use Rattle.scale_info_prune.specs.Roots.{AreRoots}
-use Rattle.scale_info_prune.specs.TableIndexes.{AppendsKeptTable, IsEncodedTable, IsTableIndex}
+use Rattle.scale_info_prune.specs.TableIndexes.{AppendsKeptTable, BeginsWithDescription}
+use Rattle.scale_info_prune.specs.TableIndexes.{IsEncodedTable, IsTableIndex}
 use Rattle.scale_info_prune.specs.TableLaws.{table_prop}
 use Rattle.scale_info_prune.specs.declared.prune.PruneError.{PruneError}
 use Rattle.scale_info_prune.specs.declared.prune.PruneError.TheVariants.{Malformed, Trailing}
@@ -77,6 +81,14 @@ compact_fits n b (in_five above below is) = omega arith
 pub types_few : (types : List PortableType) (bytes : List ℕ) → EncodesTypes types bytes → length types ≤ 4294967295
 types_few types bytes x = compact_fits (length types) x.first x.encodes_first
 
+-- what is read of a list at an index is its element there
+pub found_at :
+    (xs ys : List ℕ) (index x : ℕ) → ys ≡ xs → index < length ys → x ≡ get_or ys index x
+    → slice_get xs index ≡ Some x
+found_at xs ys index x same within is =
+    subst (λ list. slice_get list index ≡ Some x) same
+    (slice_get_read ys (length ys) index x refl within is)
+
 zip_long :
     (body : List ℕ) (es : List PortableType) (os : List ℕ) → AreAtOffsets body es os
     → length os ≡ length es
@@ -105,6 +117,35 @@ module _ {types : List PortableType} {count : ℕ} {bytes body offsets starts re
   -- there are as many offsets as entries
   pub offsets_long : length offsets ≡ length types
   offsets_long = zip_long body types offsets x.at_offsets
+
+  -- past the last offset there is no entry
+  pub no_entry : (id : ℕ) → length offsets ≤ id → slice_get types id ≡ None
+  no_entry id past = let long = offsets_long in slice_get_past types id (omega arith)
+
+  -- where an offset is found, the description of the entry with its index begins there
+  pub entry_at :
+      (id offset : ℕ) → slice_get offsets id ≡ Some offset
+      → (entry : PortableType) × (slice_get types id ≡ Some entry) × IsAtOffset body entry offset
+  entry_at id offset found =
+      zip_right (λ at entry. IsAtOffset body entry at) offsets types
+      (zip_turned (IsAtOffset body) types offsets x.at_offsets) id offset found
+
+  -- so the bytes begin with it there
+  pub begins_there :
+      (id offset : ℕ) (part : List ℕ) → slice_get offsets id ≡ Some offset
+      → part ≡ take (length body - offset) (drop offset body) → BeginsWithDescription types id part
+  begins_there id offset part found is =
+      let here = entry_at id offset found in
+      let whole : take (length body - offset) (drop offset body) ≡ drop offset body =
+      take_all (length body - offset) (drop offset body) (omega (arith, length-drop offset body)) in
+      record {
+        entry = here.0;
+        found = here.1;
+        rest = here.2.rest;
+        prefix =
+            subst (λ bytes. HasPrefix (EncodesDescription here.0.ty) bytes here.2.rest)
+            (sym (is ∙ whole)) here.2.prefix;
+      }
 
   -- a numbering of the index is one of the table
   pub numbered_from :

@@ -1,7 +1,7 @@
 -- Indexes of whole tables, and tables that are kept.
-use Rattle.std.specs.Prelude.{◌≡◌, ◌≢◌, ℕ, List, [], length, flat_map}
+use Rattle.std.specs.Prelude.{◌≡◌, ◌≢◌, ℕ, List, [], Some, length, flat_map, slice_get}
 use Rattle.scale_info_bytes.specs.Encodings.{AppendsEncoding, HasPrefix}
-use Rattle.scale_info_grammar.specs.Ty.{EncodesTypes}
+use Rattle.scale_info_grammar.specs.Ty.{EncodesDescription, EncodesTypes}
 use Rattle.scale_info_passes.specs.Entries.{AreAtOffsets, AreKeptEntries, AreStarts, reference_ids}
 use Rattle.scale_info_types.specs.Portable.{Id}
 use Rattle.scale_info_types.specs.declared.ty.PortableType.{PortableType}
@@ -20,6 +20,14 @@ pub record IsTableIndex (types : List PortableType) (count : ℕ)
   pub at_offsets : AreAtOffsets body types offsets
   pub are_starts : AreStarts 0 types starts
   pub are_references : references ≡ flat_map reference_ids types
+
+-- the bytes begin with the description of the entry with this id
+pub record BeginsWithDescription (types : List PortableType) (id : ℕ) (bytes : List ℕ)
+    : Type 0 where
+  pub entry : PortableType
+  pub found : slice_get types id ≡ Some entry
+  pub rest : List ℕ
+  pub prefix : HasPrefix (EncodesDescription entry.ty) bytes rest
 
 -- the input begins with a table, and goes on
 pub record HasTrailing (input : List ℕ) : Type 0 where

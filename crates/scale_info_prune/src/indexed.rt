@@ -1,13 +1,13 @@
 //! Tables that are read once, and pruned as often as one likes.
-ghost use Rattle.std.specs.Prelude.{◌≡◌, ◌↔◌, ℕ, List, Some, IfErr, IfOk, IsTrue, OnErr, OnOk};
-ghost use Rattle.std.specs.Prelude.{length};
+ghost use Rattle.std.specs.Prelude.{◌≡◌, ◌↔◌, ℕ, List, None, IfErr, IfNone, IfOk, IfSome, IsTrue};
+ghost use Rattle.std.specs.Prelude.{OnErr, OnOk, length, slice_get};
 ghost use Rattle.scale_info_grammar.specs.Ty.{EncodesTypes};
 ghost use Rattle.scale_info_prune.specs.Prunes.{AppendsPruned, HasNewIds, IsNumbered};
 ghost use Rattle.scale_info_prune.specs.Prunes.{IsNumberedFrom, IsRootsNumberingError};
 ghost use Rattle.scale_info_prune.specs.Prunes.{IsTableError, IsTypesPruneError};
 ghost use Rattle.scale_info_prune.specs.SameTypes.{HaveMatch, IsMatchError, IsRenumbered};
 ghost use Rattle.scale_info_prune.specs.SameTypes.{IsTypesRenumberingError, StaysInside};
-ghost use Rattle.scale_info_prune.specs.TableIndexes.{IsEncodedTable};
+ghost use Rattle.scale_info_prune.specs.TableIndexes.{BeginsWithDescription, IsEncodedTable};
 ghost use Rattle.scale_info_prune.specs.TableLaws.{table_prop};
 
 use crate::byte_references::ByteReferences;
@@ -96,6 +96,17 @@ impl<'a> IndexedTable<'a> {
         ensures { result ≡ length self.now }
     {
         self.count as usize
+    }
+
+    /// The bytes from the description of the entry with this id on; None, where it is no index.
+    pub fn description_at(&self, id: u32) -> Option<&'a [u8]>
+        ensures some { IfSome result (λ bytes. BeginsWithDescription self.now id bytes.now) }
+        ensures none { IfNone result (slice_get self.now id ≡ None) }
+    {
+        let Some(offset) = self.index.offsets.get(id as usize) else {
+            return None;
+        };
+        Some(&self.body[*offset..])
     }
 
     /// Prunes the table: appends the table of what the given ids reach, and returns the new id of

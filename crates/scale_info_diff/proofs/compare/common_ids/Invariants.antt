@@ -2,14 +2,12 @@ use Rattle.std.proofs.Common.{List, drop, map}
 use Rattle.scale_info_types.specs.declared.ty.PortableType.{PortableType}
 use Rattle.scale_info_diff.proofs.CommonIds.{IsCommonSoFar}
 use Rattle.scale_info_diff.specs.Differing.{unmarked}
-use Rattle.scale_info_diff.specs.NamedTables.{IsNamedTable}
 use Rattle.scale_info_diff.specs.TypesByPath.{AreIdsByPath}
 use Rattle.scale_info_diff.proofs.compare.common_ids.Given as goal
 
 abbrev pub invariant-loop-index : goal.invariant-loop-index
 invariant-loop-index l =
-    (types others : List PortableType)
-    → IsNamedTable others l.new.bytes.now l.new.paths (map (λ row. row.items) l.new.ids.items)
+    (types : List PortableType)
     → AreIdsByPath types l.paths (map (λ row. row.items) l.ids)
-    → IsCommonSoFar types others (unmarked l.paths l.marks)
+    → IsCommonSoFar types l.new (unmarked l.paths l.marks)
     (unmarked (drop l.index l.paths) (drop l.index l.marks)) l.common.items l.others.items

@@ -1,20 +1,20 @@
 use Rattle.std.proofs.Common.{subst, sym}
 use Rattle.std.proofs.lemmas.Result.{IfErr-weaker, IfOk-weaker}
 use Rattle.scale_info_grammar.specs.Ty.{EncodesTypes}
-use Rattle.scale_info_prune.specs.Prunes.{IsPrunedEncoding}
+use Rattle.scale_info_prune.specs.Prunes.{AppendsPruned}
 use Rattle.scale_info_diff.proofs.Differences.{kept_encoding, only_memory}
 use Rattle.scale_info_diff.proofs.declarations.pruned_to.Goals as goal
 
 pub returns-clause-ok : goal.returns-clause-ok
 returns-clause-ok c =
     IfOk-weaker c.table_of.result _ _
-    (λ kept encodes input x.
-    let made = c.in_ok-append_pruned.ensures.ok input x in (
+    (λ kept encodes.
+    let made = c.in_ok-append_pruned.ensures.ok in (
       made.0,
       record {
         bytes = c.append_pruned.new.out.items;
         pruned =
-            subst (λ old. IsPrunedEncoding input c.args.ids.now made.0 old c.append_pruned.new.out.items)
+            subst (λ old. AppendsPruned c.args.table.now c.args.ids.now made.0 old c.append_pruned.new.out.items)
             c.new-bytes.ensures.items made.1;
         encodes = subst (EncodesTypes kept.types) c.deref.ensures.value encodes;
       },
@@ -24,11 +24,11 @@ returns-clause-ok c =
 pub returns-clause-cause : goal.returns-clause-cause
 returns-clause-cause c =
     IfErr-weaker c.table_of.result _ _
-    (λ error why input x.
-    let made = c.in_ok-append_pruned.ensures.ok input x in
-    only_memory made.1.kept c.deref.result.now input c.args.ids.now
+    (λ error why.
+    let made = c.in_ok-append_pruned.ensures.ok in
+    only_memory made.1.kept c.deref.result.now c.args.table.now c.args.ids.now
     (subst (EncodesTypes made.1.kept) (sym c.deref.ensures.value)
-    (kept_encoding input c.args.ids.now made.0 c.new-bytes.result.items c.append_pruned.new.out.items
+    (kept_encoding c.args.table.now c.args.ids.now made.0 c.new-bytes.result.items c.append_pruned.new.out.items
     c.new-bytes.ensures.items made.1))
     error why)
     c.table_of.ensures.cause

@@ -4,14 +4,14 @@ use Rattle.scale_info_grammar.specs.Ty.{EncodesTypes}
 use Rattle.scale_info_diff.proofs.Differences.{kept_encoding, only_memory}
 use Rattle.scale_info_diff.proofs.difference.pruned.Goals as goal
 
-pub returns-in_err-table-clause-cause : goal.returns-in_err-table-clause-cause
-returns-in_err-table-clause-cause c =
+pub returns-in_err-kept-clause-cause : goal.returns-in_err-kept-clause-cause
+returns-in_err-kept-clause-cause c =
     let made = c.in_ok-places.ensures.ok in
     let p =
-    err_from_is_err_and c.from_residual-in_err-table.result c.from_residual-in_err-table.ensures.1 in
+    err_from_is_err_and c.from_residual-in_err-kept.result c.from_residual-in_err-kept.ensures.1 in
     rw (p.1, p.2)
-    (only_memory made.2.kept c.deref.result.now c.args.input.now c.args.ids.now
+    (only_memory made.2.kept c.deref.result.now c.args.table.now c.args.ids.now
     (subst (EncodesTypes made.2.kept) (sym c.deref.ensures.value)
-    (kept_encoding c.args.input.now c.args.ids.now made.0 c.new-bytes.result.items c.prune.new.out.items
+    (kept_encoding c.args.table.now c.args.ids.now made.0 c.new-bytes.result.items c.prune.new.out.items
     c.new-bytes.ensures.items made.2))
-    c.in_err-table.field-0.0 c.in_err-table.ensures.cause)
+    c.in_err-kept.field-0.0 c.in_err-kept.ensures.cause)
