@@ -73,6 +73,11 @@ pub use Rattle.scale_info_tables.specs.IndexedEntries
 pub use Rattle.scale_info_describe.specs.TypeNames
 pub use Rattle.scale_info_describe.specs.TypeDeclarations
 pub use Rattle.scale_info_describe.specs.PathSearches
+pub use Rattle.scale_info_diff.specs.TypesByPath
+pub use Rattle.scale_info_diff.specs.NamedTables
+pub use Rattle.scale_info_diff.specs.TableChanges
+pub use Rattle.scale_info_diff.specs.Differences
+pub use Rattle.scale_info_diff.specs.Declarations
 pub use Rattle.scale_info_graph.specs.GraphTexts
 pub use Rattle.scale_info_view.specs.ViewEntries
 pub use Rattle.scale_info_view.specs.Views

@@ -2,6 +2,7 @@
 #![tactic(auto)]
 
 pub mod describe;
+pub mod diff;
 pub mod export;
 pub mod graph;
 pub mod impls;
@@ -30,6 +31,7 @@ pub use scale_info_json::{JsonError, append_json, from_json, to_json};
 pub use scale_info_json_text::{JsonTextError, from_json_text};
 pub use scale_info_lent::lent;
 pub use scale_info_loaded::loaded;
+pub use scale_info_prune::indexed::IndexedTable;
 pub use scale_info_prune::prune::{PruneError, append_pruned, prune};
 pub use scale_info_prune::same_types::same_types;
 pub use scale_info_registry::registry;

@@ -1,24 +1,28 @@
 -- What is said of changes, by what is known of the inputs.
-use Rattle.std.proofs.Common.{◌≡◌, ◌≢◌, ◌⊎◌, ◌++◌, ◌∙◌, ℕ, List, [], ◌∷◌, Option, None, Some, IfSome}
-use Rattle.std.proofs.Common.{All, ap, arith, flat_map, get_or, inl, inr, length, map, refl, subst, sym}
+use Rattle.std.proofs.Common.{◌≡◌, ◌≢◌, ◌⊎◌, ◌++◌, ◌∙◌, ◌+◌, ℕ, Bool, List, [], ◌∷◌, Option, None, Some, IfSome}
+use Rattle.std.proofs.Common.{All, ap, arith, flat_map, get_or, if◌then◌else◌, inl, inr, length, map, refl, subst, sym}
+use Rattle.std.proofs.Math.Logic.{⊎_map}
 use Rattle.std.proofs.KnownBytes.{Appends-nil, Keeps-refl}
 use Rattle.std.proofs.lemmas.List.Concat.{flat_map-cons}
-use Rattle.scale_info_diff.specs.Declarations.{TellsDeclaredChange}
-use Rattle.scale_info_diff.specs.TypesByPath.{ids_of}
+use Rattle.scale_info_describe.specs.PathSearches.{indices_from}
+use Rattle.scale_info_diff.proofs.Encoded.{one_table}
+use Rattle.scale_info_diff.proofs.WithoutDocs.{dangling_with_docs}
+use Rattle.scale_info_diff.specs.TableChanges.{IsDangling}
+use Rattle.scale_info_diff.specs.TypesByPath.{has_path, ids_of}
 use Rattle.scale_info_diff.specs.declared.change.Change.TheVariants.{Removed, Added, Changed}
-use Rattle.scale_info_diff.specs.NamedTables.{IsNamedTable}
-use Rattle.scale_info_prune.specs.TableIndexes.{IsIndexed}
+use Rattle.scale_info_docs.specs.WithoutDocs.{entry_without_docs}
+use Rattle.scale_info_grammar.specs.Ty.{EncodesTypes}
 use Rattle.scale_info_types.specs.declared.ty.PortableType.{PortableType}
 use Rattle.type_reader_io.specs.declared.command.Docs.{Docs}
+use Rattle.type_reader_io.specs.declared.command.Docs.TheVariants as docs
 use Rattle.type_reader_io.specs.declared.command.Comparison.{Comparison}
 use Rattle.type_reader_io.specs.declared.error.ReaderError.{ReaderError}
 use Rattle.type_reader_io.specs.declared.error.ReaderError.TheVariants as errors
-use Rattle.type_reader_run.specs.Differences.{AreLines, AreTold, ExplainsDiff, IfBoth, IsDiffError}
-use Rattle.type_reader_run.specs.Differences.{IsComparedAs, IsInEither, IsNotPruned, IsPathError}
-use Rattle.type_reader_run.specs.Differences.{IsReason, IsReferenceError, IsSideOf}
-use Rattle.type_reader_run.specs.Differences.{ToldChange, WritesChanges, told_line}
-use Rattle.type_reader_run.specs.declared.reason.Side.{Side}
-use Rattle.type_reader_run.specs.Tables.{HasTable, IsFoundError, input_bytes}
+use Rattle.type_reader_run.specs.Differences.{AreLines, AreLinesBetween, AreTold, ExplainsDiff}
+use Rattle.type_reader_run.specs.Differences.{HasUnknownPath, IfBoth, IsDiffError, IsInEither}
+use Rattle.type_reader_run.specs.Differences.{IsPathError, IsReferenceError, IsTablesError}
+use Rattle.type_reader_run.specs.Differences.{ToldChange, WritesChanges, compared, told_line}
+use Rattle.type_reader_run.specs.Tables.{HasTable, HasTypes, IsFoundError, input_bytes}
 
 no_line : (lines : List ℕ) → length lines ≡ 0 → lines ≡ []
 no_line [] none = refl
@@ -136,96 +140,142 @@ found_error paths bytes others errors.Memory cause = tt
 found_error paths bytes others errors.Input cause = cause
 found_error paths bytes others errors.Output cause = cause
 
+-- the path of a type is the same without docs
+ids_without_docs :
+    (n : ℕ) (test : List (List ℕ) → Bool) (types : List PortableType)
+    → indices_from n test (map entry_without_docs types) ≡ indices_from n test types
+ids_without_docs n test [] = refl
+ids_without_docs n test (entry ∷ types) =
+    ap (λ ids. if test entry.ty.path.segments then n ∷ ids else ids) (ids_without_docs (n + 1) test types)
+
+-- so are the ids of the types with a path, as they are compared
+ids_compared : (docs : Docs) (path : List ℕ) (types : List PortableType) → ids_of path (compared docs types) ≡ ids_of path types
+ids_compared docs.LeftOut path types = ids_without_docs 0 (has_path path) types
+ids_compared docs.Compared path types = refl
+
+-- an id that dangles in a table as it is compared dangles in it
+dangling_compared : (docs : Docs) (types : List PortableType) (id : ℕ) → IsDangling (compared docs types) id → IsDangling types id
+dangling_compared docs.LeftOut types id h = dangling_with_docs types id h
+dangling_compared docs.Compared types id h = h
+
+module _ (docs : Docs) (old new : List PortableType) where
+  dangling_either :
+      (id : ℕ) → IsDangling (compared docs old) id ⊎ IsDangling (compared docs new) id
+      → IsDangling old id ⊎ IsDangling new id
+  dangling_either id h = ⊎_map (dangling_compared docs old id) (dangling_compared docs new id) h
+
+  -- a path that one of the tables as they are compared has
+  in_either : (path : List ℕ) → IsInEither (compared docs old) (compared docs new) path → IsInEither old new path
+  in_either path h =
+      ⊎_map (λ some none. some (ids_compared docs path old ∙ none))
+      (λ some none. some (ids_compared docs path new ∙ none)) h
+
+  pub all_in_either :
+      (paths : List (List ℕ)) → All (IsInEither (compared docs old) (compared docs new)) paths
+      → All (IsInEither old new) paths
+  all_in_either paths known k d within = in_either (get_or paths k d) (known k d within)
+
+  -- a path that neither has
+  unknown_path :
+      (paths : List (List ℕ)) (path : List ℕ)
+      → HasUnknownPath paths (compared docs old) (compared docs new) path
+      → HasUnknownPath paths old new path
+  unknown_path paths path x = record {
+    before = x.before;
+    after = x.after;
+    parts = x.parts;
+    known = all_in_either x.before x.known;
+    not_old = sym (ids_compared docs path old) ∙ x.not_old;
+    not_new = sym (ids_compared docs path new) ∙ x.not_new;
+  }
+
+-- why the changes between two tables, as they are compared, are not told
+pub tables_error :
+    (docs : Docs) (paths : List (List ℕ)) (bytes others : List ℕ) (old new : List PortableType)
+    (error : ReaderError) → HasTypes bytes old → HasTypes others new
+    → IsTablesError paths (compared docs old) (compared docs new) error
+    → IsDiffError paths bytes others error
+tables_error docs paths bytes others old new errors.Malformed has_old has_new cause = absurd cause
+tables_error docs paths bytes others old new errors.TrailingBytes has_old has_new cause = absurd cause
+tables_error docs paths bytes others old new (errors.Version version) has_old has_new cause = absurd cause
+tables_error docs paths bytes others old new (errors.NoSuchType id) has_old has_new cause = absurd cause
+tables_error docs paths bytes others old new (errors.NoSuchPath path) has_old has_new cause = record {
+  old = old;
+  new = new;
+  has_old = has_old;
+  has_new = has_new;
+  unknown = unknown_path docs old new paths path cause;
+}
+tables_error docs paths bytes others old new (errors.SharedPath path) has_old has_new cause = absurd cause
+tables_error docs paths bytes others old new (errors.NoValue fault) has_old has_new cause = absurd cause
+tables_error docs paths bytes others old new (errors.Dangling id) has_old has_new cause = record {
+  old = old;
+  new = new;
+  has_old = has_old;
+  has_new = has_new;
+  known = all_in_either docs old new paths cause.0;
+  dangling = dangling_either docs old new id cause.1;
+}
+tables_error docs paths bytes others old new errors.Memory has_old has_new cause = tt
+tables_error docs paths bytes others old new errors.Input has_old has_new cause = absurd cause
+tables_error docs paths bytes others old new errors.Output has_old has_new cause = absurd cause
+
 -- a path that is refused
 pub path_error :
-    (paths : List (List ℕ)) {bytes others old new : List ℕ} (error : ReaderError)
-    → HasTable bytes old → HasTable others new → IsPathError paths old new error
-    → IsDiffError paths bytes others error
-path_error paths errors.Malformed has_old has_new cause = absurd cause
-path_error paths errors.TrailingBytes has_old has_new cause = absurd cause
-path_error paths (errors.Version version) has_old has_new cause = absurd cause
-path_error paths (errors.NoSuchType id) has_old has_new cause = absurd cause
-path_error paths {old = old} {new = new} (errors.NoSuchPath path) has_old has_new cause =
-    record { old = old; new = new; has_old = has_old; has_new = has_new; unknown = cause }
-path_error paths (errors.SharedPath path) has_old has_new cause = absurd cause
-path_error paths (errors.NoValue fault) has_old has_new cause = absurd cause
-path_error paths (errors.Dangling id) has_old has_new cause = absurd cause
-path_error paths errors.Memory has_old has_new cause = tt
-path_error paths errors.Input has_old has_new cause = absurd cause
-path_error paths errors.Output has_old has_new cause = absurd cause
+    (paths : List (List ℕ)) (types others : List PortableType) (error : ReaderError)
+    → IsPathError paths types others error → IsTablesError paths types others error
+path_error paths types others errors.Malformed cause = absurd cause
+path_error paths types others errors.TrailingBytes cause = absurd cause
+path_error paths types others (errors.Version version) cause = absurd cause
+path_error paths types others (errors.NoSuchType id) cause = absurd cause
+path_error paths types others (errors.NoSuchPath path) cause = cause
+path_error paths types others (errors.SharedPath path) cause = absurd cause
+path_error paths types others (errors.NoValue fault) cause = absurd cause
+path_error paths types others (errors.Dangling id) cause = absurd cause
+path_error paths types others errors.Memory cause = tt
+path_error paths types others errors.Input cause = absurd cause
+path_error paths types others errors.Output cause = absurd cause
 
 -- one of two tables that refers to an id that is no index
 pub changes_error :
-    (paths : List (List ℕ)) {bytes others old new : List ℕ} (error : ReaderError)
-    → HasTable bytes old → HasTable others new → All (IsInEither old new) paths
-    → IsReferenceError old error ⊎ IsReferenceError new error
-    → IsDiffError paths bytes others error
-changes_error paths errors.Malformed has_old has_new known (inl cause) = absurd cause
-changes_error paths errors.Malformed has_old has_new known (inr cause) = absurd cause
-changes_error paths errors.TrailingBytes has_old has_new known (inl cause) = absurd cause
-changes_error paths errors.TrailingBytes has_old has_new known (inr cause) = absurd cause
-changes_error paths (errors.Version version) has_old has_new known (inl cause) = absurd cause
-changes_error paths (errors.Version version) has_old has_new known (inr cause) = absurd cause
-changes_error paths (errors.NoSuchType id) has_old has_new known (inl cause) = absurd cause
-changes_error paths (errors.NoSuchType id) has_old has_new known (inr cause) = absurd cause
-changes_error paths (errors.NoSuchPath path) has_old has_new known (inl cause) = absurd cause
-changes_error paths (errors.NoSuchPath path) has_old has_new known (inr cause) = absurd cause
-changes_error paths (errors.SharedPath path) has_old has_new known (inl cause) = absurd cause
-changes_error paths (errors.SharedPath path) has_old has_new known (inr cause) = absurd cause
-changes_error paths (errors.NoValue fault) has_old has_new known (inl cause) = absurd cause
-changes_error paths (errors.NoValue fault) has_old has_new known (inr cause) = absurd cause
-changes_error paths {old = old} {new = new} (errors.Dangling id) has_old has_new known cause =
-    record {
-      old = old;
-      new = new;
-      has_old = has_old;
-      has_new = has_new;
-      known = known;
-      dangling = cause;
-    }
-changes_error paths errors.Memory has_old has_new known cause = tt
-changes_error paths errors.Input has_old has_new known (inl cause) = absurd cause
-changes_error paths errors.Input has_old has_new known (inr cause) = absurd cause
-changes_error paths errors.Output has_old has_new known (inl cause) = absurd cause
-changes_error paths errors.Output has_old has_new known (inr cause) = absurd cause
+    (paths : List (List ℕ)) (types others : List PortableType) (error : ReaderError)
+    → All (IsInEither types others) paths → IsReferenceError types others error
+    → IsTablesError paths types others error
+changes_error paths types others errors.Malformed known cause = absurd cause
+changes_error paths types others errors.TrailingBytes known cause = absurd cause
+changes_error paths types others (errors.Version version) known cause = absurd cause
+changes_error paths types others (errors.NoSuchType id) known cause = absurd cause
+changes_error paths types others (errors.NoSuchPath path) known cause = absurd cause
+changes_error paths types others (errors.SharedPath path) known cause = absurd cause
+changes_error paths types others (errors.NoValue fault) known cause = absurd cause
+changes_error paths types others (errors.Dangling id) known cause = (known, cause)
+changes_error paths types others errors.Memory known cause = tt
+changes_error paths types others errors.Input known cause = absurd cause
+changes_error paths types others errors.Output known cause = absurd cause
 
--- what a reason says of the ids of two tables
-abbrev TellsReason : Option (List ℕ) → (old old_ids new new_ids : List ℕ) → Type 0
-TellsReason reason old old_ids new new_ids =
-    TellsDeclaredChange old old_ids new new_ids reason
-    ⊎ (IsNotPruned old old_ids new new_ids × (reason ≡ None))
+-- bytes encode one table, as it is compared
+pub same_compared :
+    (docs : Docs) (types : List PortableType) (bytes : List ℕ) (named : List PortableType)
+    → EncodesTypes (compared docs types) bytes → EncodesTypes named bytes → named ≡ compared docs types
+same_compared docs types bytes named x y = one_table named (compared docs types) bytes y x
 
--- a side of the bytes that are compared
-pub is_side :
-    {docs : Docs} {table bytes given : List ℕ} (side : Side)
-    → IsComparedAs docs table bytes → given ≡ bytes → side.named.bytes.now ≡ given
-    → ((types : List PortableType) × IsNamedTable types side.named.bytes.now side.named.paths
-    (map (λ row. row.items) side.named.ids.items))
-    → IsIndexed given side.indexed → IsSideOf docs table side
-is_side {docs = docs} {table = table} side compared is same named indexed = record {
-  types = named.0;
-  compared = subst (IsComparedAs docs table) (sym (same ∙ is)) compared;
-  named = named.1;
-  indexed = subst (λ bytes. IsIndexed bytes side.indexed) (sym same) indexed;
+-- the lines of the changes of a comparison
+pub are_lines :
+    (comparison : Comparison) (bytes others output : List ℕ) (old new : List PortableType)
+    → HasTypes bytes old → HasTypes others new
+    → AreLinesBetween comparison.paths.now (compared comparison.docs old) (compared comparison.docs new) output
+    → AreLines comparison bytes others output
+are_lines comparison bytes others output old new has_old has_new x = record {
+  told = x.lines.told;
+  are_told = record {
+    old = old;
+    new = new;
+    has_old = has_old;
+    has_new = has_new;
+    known = all_in_either comparison.docs old new comparison.paths.now x.known;
+    changes = x.changes;
+    changed = x.changed;
+    chosen = x.lines.reasoned;
+  };
+  lines = x.lines.lines;
 }
-
--- why a path has changed, by the ids that both sides have of it
-pub reasoned_by :
-    {docs : Docs} {table other path : List ℕ} {side other_side : Side} {ids more : List ℕ}
-    (reason : Option (List ℕ)) (x : IsSideOf docs table side) (y : IsSideOf docs other other_side)
-    → ids ≡ ids_of path x.types → more ≡ ids_of path y.types
-    → TellsReason reason side.named.bytes.now ids other_side.named.bytes.now more
-    → IsReason docs table other path reason
-reasoned_by {path = path} {side = side} {other_side = other_side} {ids = ids} reason x y p q tells =
-    let to = TellsReason reason in
-    let bytes = side.named.bytes.now in
-    let others = other_side.named.bytes.now in
-    record {
-      bytes = bytes;
-      others = others;
-      types = x.types;
-      other_types = y.types;
-      side = record { compared = x.compared; encodes = x.named.encodes };
-      other_side = record { compared = y.compared; encodes = y.named.encodes };
-      tells = subst (λ is. to bytes is others (ids_of path y.types)) p (subst (to bytes ids others) q tells);
-    }

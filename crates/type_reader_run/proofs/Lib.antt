@@ -1,5 +1,4 @@
 pub mod Differences
-mod Sides
 pub mod DigitValues
 pub mod Explained
 pub mod Faults

@@ -7,11 +7,12 @@ use Rattle.std.proofs.lemmas.List.{drop_more, map-append}
 use Rattle.std.proofs.lemmas.List.Elements.{All-append, All-cons, All-nil}
 use Rattle.std.specs.List.{All, filter}
 use Rattle.scale_info_diff.specs.declared.change.Change.{Change}
-use Rattle.type_reader_io.specs.declared.command.Docs.{Docs}
+use Rattle.scale_info_diff.specs.TypesByPath.{ids_of}
+use Rattle.scale_info_types.specs.declared.ty.PortableType.{PortableType}
 use Rattle.type_reader_io.specs.declared.error.ReaderError.{ReaderError}
 use Rattle.type_reader_io.specs.declared.error.ReaderError.TheVariants as errors
 use Rattle.type_reader_run.specs.Differences.{AppendsChange, AreLinesOf, HasReason, IsInEither}
-use Rattle.type_reader_run.specs.Differences.{IsPathError, LacksPath, ToldChange, is_of, told_line}
+use Rattle.type_reader_run.specs.Differences.{IsPathError, ToldChange, is_of, told_line}
 
 -- what is left from an index on
 pub next_of :
@@ -21,39 +22,39 @@ next_of items i item within is =
     drop_more items i item within ∙ ap (λ t. t ∷ drop (i + 1) items) (sym is)
 
 -- some first changes were gone over: those of these paths are there, each with its reason
-pub record IsSoFar (docs : Docs) (old new : List ℕ) (paths : List (List ℕ))
+pub record IsSoFar (old new : List PortableType) (paths : List (List ℕ))
     (changes left : List Change) (text : List ℕ) : Type 0 where
   pub told : List ToldChange
   pub whole :
       map (λ one. one.0) told ++ filter (is_of paths) left ≡ filter (is_of paths) changes
-  pub reasons : All (λ one. HasReason docs old new one.0 one.1) told
+  pub reasons : All (λ one. HasReason old new one.0 one.1) told
   pub lines : text ≡ flat_map told_line told
 
 -- before the first change
 pub none_told :
-    (docs : Docs) (old new : List ℕ) (paths : List (List ℕ)) (changes : List Change)
-    → IsSoFar docs old new paths changes changes []
-none_told docs old new paths changes = record {
+    (old new : List PortableType) (paths : List (List ℕ)) (changes : List Change)
+    → IsSoFar old new paths changes changes []
+none_told old new paths changes = record {
   told = [];
   whole = refl;
-  reasons = All-nil (λ one. HasReason docs old new one.0 one.1);
+  reasons = All-nil (λ one. HasReason old new one.0 one.1);
   lines = refl;
 }
 
-module _ {docs : Docs} {old new : List ℕ} {paths : List (List ℕ)} {changes : List Change}
+module _ {old new : List PortableType} {paths : List (List ℕ)} {changes : List Change}
     {text : List ℕ} (i : ℕ) (change : Change) (within : i < length changes)
     (at : change ≡ get_or changes i change)
-    (so_far : IsSoFar docs old new paths changes (drop i changes) text) where
+    (so_far : IsSoFar old new paths changes (drop i changes) text) where
   -- what was gone over before the change at the index, and what is left from it on
-  at_next : IsSoFar docs old new paths changes (change ∷ drop (i + 1) changes) text
+  at_next : IsSoFar old new paths changes (change ∷ drop (i + 1) changes) text
   at_next =
-      subst (λ left. IsSoFar docs old new paths changes left text) (next_of changes i change within at)
+      subst (λ left. IsSoFar old new paths changes left text) (next_of changes i change within at)
       so_far
 
   -- a change of no such path
   pub not_told :
       is_of paths change ≡ false
-      → IsSoFar docs old new paths changes (drop (i + 1) changes) text
+      → IsSoFar old new paths changes (drop (i + 1) changes) text
   not_told isnt =
       let x = at_next in
       let left = filter (is_of paths) (drop (i + 1) changes) in
@@ -69,8 +70,8 @@ module _ {docs : Docs} {old new : List ℕ} {paths : List (List ℕ)} {changes :
   -- a change of such a path
   pub one_told :
       {after : List ℕ} → is_of paths change ≡ true
-      → AppendsChange docs old new change text after
-      → IsSoFar docs old new paths changes (drop (i + 1) changes) after
+      → AppendsChange old new change text after
+      → IsSoFar old new paths changes (drop (i + 1) changes) after
   one_told is y =
       let x = at_next in
       let left = filter (is_of paths) (drop (i + 1) changes) in
@@ -83,9 +84,9 @@ module _ {docs : Docs} {old new : List ℕ} {paths : List (List ℕ)} {changes :
             ∙ ap (λ b. map (λ one. one.0) x.told ++ cond b (change ∷ left) left) (sym is)
             ∙ x.whole;
         reasons =
-            All-append (λ (t : ToldChange). HasReason docs old new t.0 t.1) x.told (one ∷ []) x.reasons
-            (All-cons (λ (t : ToldChange). HasReason docs old new t.0 t.1) one [] y.1
-            (All-nil (λ (t : ToldChange). HasReason docs old new t.0 t.1)));
+            All-append (λ (t : ToldChange). HasReason old new t.0 t.1) x.told (one ∷ []) x.reasons
+            (All-cons (λ (t : ToldChange). HasReason old new t.0 t.1) one [] y.1
+            (All-nil (λ (t : ToldChange). HasReason old new t.0 t.1)));
         lines =
             y.2 ∙ ap (λ l. l ++ told_line one) x.lines
             ∙ ap (λ l. flat_map told_line x.told ++ l) (sym (append-nil (told_line one)))
@@ -94,10 +95,10 @@ module _ {docs : Docs} {old new : List ℕ} {paths : List (List ℕ)} {changes :
 
 -- after the last change
 pub all_told :
-    {docs : Docs} {old new : List ℕ} {paths : List (List ℕ)} {changes left : List Change}
+    {old new : List PortableType} {paths : List (List ℕ)} {changes left : List Change}
     {text : List ℕ}
-    → left ≡ [] → IsSoFar docs old new paths changes left text
-    → AreLinesOf docs old new (filter (is_of paths) changes) text
+    → left ≡ [] → IsSoFar old new paths changes left text
+    → AreLinesOf old new (filter (is_of paths) changes) text
 all_told {paths = paths} none x = record {
   told = x.told;
   reasoned = record {
@@ -112,9 +113,10 @@ all_told {paths = paths} none x = record {
 
 -- the first path that neither table has
 pub unknown_path :
-    (old new : List ℕ) (paths : List (List ℕ)) (i : ℕ) (path : List ℕ) (error : ReaderError)
+    (old new : List PortableType) (paths : List (List ℕ)) (i : ℕ) (path : List ℕ)
+    (error : ReaderError)
     → i < length paths → path ≡ get_or paths i path
-    → All (IsInEither old new) (take i paths) → LacksPath old path → LacksPath new path
+    → All (IsInEither old new) (take i paths) → ids_of path old ≡ [] → ids_of path new ≡ []
     → (error ≡ errors.NoSuchPath path) ⊎ (error ≡ errors.Memory)
     → IsPathError paths old new error
 unknown_path old new paths i path error within is so_far not_old not_new (inl no_such) =

@@ -5,24 +5,19 @@ use Rattle.std.specs.Io.KnownBytes.{Appends, Keeps}
 use Rattle.std.specs.List.{flat_map, list_any}
 use Rattle.std.specs.Str.{bytes_eq}
 use Rattle.scale_info_diff.specs.Declarations.{TellsDeclaredChange}
-use Rattle.scale_info_diff.specs.NamedTables.{IsNamedTable}
-use Rattle.scale_info_diff.specs.TableChanges.{AreTableChanges, AreTableChangesWithDocs}
-use Rattle.scale_info_diff.specs.TableChanges.{HasDanglingReference}
+use Rattle.scale_info_diff.specs.TableChanges.{AreChanges, IsDangling}
 use Rattle.scale_info_diff.specs.TypesByPath.{ids_of}
 use Rattle.scale_info_diff.specs.declared.change.Change.{Change}
 use Rattle.scale_info_diff.specs.declared.change.Change.TheVariants.{Removed, Added, Changed}
-use Rattle.scale_info_grammar.specs.Ty.{EncodesTypes}
-use Rattle.scale_info_prune.specs.Prunes.{HasDangling}
-use Rattle.scale_info_prune.specs.TableIndexes.{IsIndexed}
+use Rattle.scale_info_docs.specs.WithoutDocs.{entry_without_docs}
+use Rattle.scale_info_prune.specs.Prunes.{DanglesFrom}
 use Rattle.scale_info_types.specs.declared.ty.PortableType.{PortableType}
 use Rattle.type_reader_io.specs.declared.command.Comparison.{Comparison}
 use Rattle.type_reader_io.specs.declared.command.Docs.{Docs}
 use Rattle.type_reader_io.specs.declared.command.Docs.TheVariants as docs
 use Rattle.type_reader_io.specs.declared.error.ReaderError.{ReaderError}
 use Rattle.type_reader_io.specs.declared.error.ReaderError.TheVariants as errors
-use Rattle.type_reader_run.specs.Outputs.{IsStripped}
-use Rattle.type_reader_run.specs.declared.reason.Side.{Side}
-use Rattle.type_reader_run.specs.Tables.{HasTable, IsFoundError, input_bytes}
+use Rattle.type_reader_run.specs.Tables.{HasTable, HasTypes, IsFoundError, input_bytes}
 use Rattle.type_table_io.specs.Reports.{AppendsPrefix}
 
 -- the path of a change
@@ -55,110 +50,79 @@ abbrev pub is_of : List (List ℕ) → Change → Bool
 is_of [] change = true
 is_of (path ∷ paths) change = list_any (λ p. bytes_eq p (path_of change)) (path ∷ paths)
 
--- a type of the table has the path
-pub record HasPath (table path : List ℕ) : Type 0 where
-  pub types : List PortableType
-  pub encodes : EncodesTypes types table
-  pub some : ids_of path types ≢ []
+-- one of the two tables has a type with the path
+abbrev pub IsInEither : (types others : List PortableType) → (path : List ℕ) → Type 0
+IsInEither types others path = (ids_of path types ≢ []) ⊎ (ids_of path others ≢ [])
 
--- no type of the table has the path
-pub record LacksPath (table path : List ℕ) : Type 0 where
-  pub types : List PortableType
-  pub encodes : EncodesTypes types table
-  pub none : ids_of path types ≡ []
-
--- one of the two tables has the path
-abbrev pub IsInEither : (old new path : List ℕ) → Type 0
-IsInEither old new path = HasPath old path ⊎ HasPath new path
-
--- the changes between the two tables, by whether docs count
-abbrev pub AreChangesBy : Docs → (old new : List ℕ) → List Change → Type 0
-AreChangesBy docs.LeftOut old new changes = AreTableChanges old new changes
-AreChangesBy docs.Compared old new changes = AreTableChangesWithDocs old new changes
-
--- the table as it is compared, by whether docs count: without docs, or as it is
-abbrev pub IsComparedAs : Docs → (table compared : List ℕ) → Type 0
-IsComparedAs docs.LeftOut table compared = IsStripped table compared
-IsComparedAs docs.Compared table compared = compared ≡ table
-
--- these bytes are the table as it is compared, and encode these types
-pub record IsSide (docs : Docs) (table bytes : List ℕ) (types : List PortableType) : Type 0 where
-  pub compared : IsComparedAs docs table bytes
-  pub encodes : EncodesTypes types bytes
-
--- these are the types by their paths, and the index, of the table as it is compared
-pub record IsSideOf (docs : Docs) (table : List ℕ) (side : Side) : Type 0 where
-  pub types : List PortableType
-  pub compared : IsComparedAs docs table side.named.bytes.now
-  pub named :
-      IsNamedTable types side.named.bytes.now side.named.paths
-      (map (λ row. row.items) side.named.ids.items)
-  pub indexed : IsIndexed side.named.bytes.now side.indexed
-
--- a side after types were compared by it: the same types by their paths, and an index of what it
--- was an index of
-pub record KeepsSide (before after : Side) : Type 0 where
-  pub named : after.named ≡ before.named
-  pub indexed : (input : List ℕ) → IsIndexed input before.indexed → IsIndexed input after.indexed
+-- the types as they are compared, by whether docs count: without docs, or as they are
+abbrev pub compared : Docs → List PortableType → List PortableType
+compared docs.LeftOut types = map entry_without_docs types
+compared docs.Compared types = types
 
 -- one of two tables is not pruned to its ids: an id is reached that is no index
-abbrev pub IsNotPruned : (old old_ids new new_ids : List ℕ) → Type 0
-IsNotPruned old old_ids new new_ids =
-    (id : ℕ) × (HasDangling old old_ids id ⊎ HasDangling new new_ids id)
+abbrev pub IsNotPruned : (types : List PortableType) → (ids : List ℕ)
+    → (others : List PortableType) → (other_ids : List ℕ) → Type 0
+IsNotPruned types ids others other_ids =
+    (id : ℕ) × (DanglesFrom types ids id ⊎ DanglesFrom others other_ids id)
 
 -- why the path has changed between the two tables: what they declare otherwise first, from the
 -- types with the path on; none, where that is nothing, or where one is not pruned to these types
-pub record IsReason (docs : Docs) (old new path : List ℕ) (reason : Option (List ℕ))
-    : Type 0 where
-  pub bytes : List ℕ
-  pub others : List ℕ
-  pub types : List PortableType
-  pub other_types : List PortableType
-  pub side : IsSide docs old bytes types
-  pub other_side : IsSide docs new others other_types
-  pub tells :
-      TellsDeclaredChange bytes (ids_of path types) others (ids_of path other_types) reason
-      ⊎ (IsNotPruned bytes (ids_of path types) others (ids_of path other_types)
-      × (reason ≡ None))
+abbrev pub IsReason : (types others : List PortableType) → (path : List ℕ)
+    → Option (List ℕ) → Type 0
+IsReason types others path reason =
+    TellsDeclaredChange types (ids_of path types) others (ids_of path others) reason
+    ⊎ (IsNotPruned types (ids_of path types) others (ids_of path others) × (reason ≡ None))
 
 -- why a path has changed; of one that is removed or added there is no reason
-abbrev pub HasReason : Docs → (old new : List ℕ) → Change → Option (List ℕ) → Type 0
-HasReason docs old new (Removed path) reason = reason ≡ None
-HasReason docs old new (Added path) reason = reason ≡ None
-HasReason docs old new (Changed path) reason = IsReason docs old new path reason
+abbrev pub HasReason : (types others : List PortableType) → Change → Option (List ℕ) → Type 0
+HasReason types others (Removed path) reason = reason ≡ None
+HasReason types others (Added path) reason = reason ≡ None
+HasReason types others (Changed path) reason = IsReason types others path reason
 
 -- the line of the change, with its reason, was added at the end
-abbrev pub AppendsChange : Docs → (old new : List ℕ) → Change → (before after : List ℕ) → Type 0
-AppendsChange docs old new change before after =
-    (reason : Option (List ℕ)) × HasReason docs old new change reason
+abbrev pub AppendsChange : (types others : List PortableType) → Change → (before after : List ℕ)
+    → Type 0
+AppendsChange types others change before after =
+    (reason : Option (List ℕ)) × HasReason types others change reason
     × (after ≡ before ++ change_line change reason)
 
 -- these are the changes, each with its reason
-pub record AreReasoned (docs : Docs) (old new : List ℕ) (changes : List Change)
+pub record AreReasoned (types others : List PortableType) (changes : List Change)
     (told : List ToldChange) : Type 0 where
   pub of : map (λ one. one.0) told ≡ changes
-  pub reasons : All (λ one. HasReason docs old new one.0 one.1) told
+  pub reasons : All (λ one. HasReason types others one.0 one.1) told
 
 -- these are the changes, each with its reason, and the output is their lines
-pub record AreLinesOf (docs : Docs) (old new : List ℕ) (changes : List Change)
+pub record AreLinesOf (types others : List PortableType) (changes : List Change)
     (output : List ℕ) : Type 0 where
   pub told : List ToldChange
-  pub reasoned : AreReasoned docs old new changes told
+  pub reasoned : AreReasoned types others changes told
   pub lines : output ≡ flat_map told_line told
+
+-- one or the other table has each of the paths, and the output is the lines of the changes of these
+-- paths between them, in order, each with its reason
+pub record AreLinesBetween (paths : List (List ℕ)) (types others : List PortableType)
+    (output : List ℕ) : Type 0 where
+  pub known : All (IsInEither types others) paths
+  pub changes : List Change
+  pub changed : AreChanges types others changes
+  pub lines : AreLinesOf types others (filter (is_of paths) changes) output
 
 -- the bytes have tables, of which one or the other has each path of the comparison, and these are
 -- the changes of its paths between them, in order, each with its reason
 pub record AreTold (comparison : Comparison) (bytes others : List ℕ) (told : List ToldChange)
     : Type 0 where
-  pub old : List ℕ
-  pub new : List ℕ
-  pub has_old : HasTable bytes old
-  pub has_new : HasTable others new
+  pub old : List PortableType
+  pub new : List PortableType
+  pub has_old : HasTypes bytes old
+  pub has_new : HasTypes others new
   pub known : All (IsInEither old new) comparison.paths.now
   pub changes : List Change
-  pub changed : AreChangesBy comparison.docs old new changes
+  pub changed :
+      AreChanges (compared comparison.docs old) (compared comparison.docs new) changes
   pub chosen :
-      AreReasoned comparison.docs old new (filter (is_of comparison.paths.now) changes) told
+      AreReasoned (compared comparison.docs old) (compared comparison.docs new)
+      (filter (is_of comparison.paths.now) changes) told
 
 -- so it is, and the output is the lines of these changes
 pub record AreLines (comparison : Comparison) (bytes others output : List ℕ) : Type 0 where
@@ -167,43 +131,56 @@ pub record AreLines (comparison : Comparison) (bytes others output : List ℕ) :
   pub lines : output ≡ flat_map told_line told
 
 -- the first path that neither table has is this one
-pub record HasUnknownPath (paths : List (List ℕ)) (old new path : List ℕ) : Type 0 where
+pub record HasUnknownPath (paths : List (List ℕ)) (types others : List PortableType)
+    (path : List ℕ) : Type 0 where
   pub before : List (List ℕ)
   pub after : List (List ℕ)
   pub parts : paths ≡ before ++ path ∷ after
-  pub known : All (IsInEither old new) before
-  pub not_old : LacksPath old path
-  pub not_new : LacksPath new path
+  pub known : All (IsInEither types others) before
+  pub not_old : ids_of path types ≡ []
+  pub not_new : ids_of path others ≡ []
 
 -- why a path is refused; an allocation may fail
-abbrev pub IsPathError : (paths : List (List ℕ)) → (old new : List ℕ) → ReaderError → Type 0
-IsPathError paths old new (errors.NoSuchPath path) = HasUnknownPath paths old new path
-IsPathError paths old new errors.Memory = Unit {0}
-IsPathError paths old new error = ⊥
+abbrev pub IsPathError : (paths : List (List ℕ)) → (types others : List PortableType)
+    → ReaderError → Type 0
+IsPathError paths types others (errors.NoSuchPath path) = HasUnknownPath paths types others path
+IsPathError paths types others errors.Memory = Unit {0}
+IsPathError paths types others error = ⊥
 
--- why a table is not compared: it refers to an id that is no index; or an allocation failed
-abbrev pub IsReferenceError : (table : List ℕ) → ReaderError → Type 0
-IsReferenceError table (errors.Dangling id) = HasDanglingReference table id
-IsReferenceError table errors.Memory = Unit {0}
-IsReferenceError table error = ⊥
+-- why two tables are not compared: one refers to an id that is no index; or an allocation failed
+abbrev pub IsReferenceError : (types others : List PortableType) → ReaderError → Type 0
+IsReferenceError types others (errors.Dangling id) = IsDangling types id ⊎ IsDangling others id
+IsReferenceError types others errors.Memory = Unit {0}
+IsReferenceError types others error = ⊥
+
+-- why the changes of the paths between two tables are not told: a path or a reference leads
+-- nowhere; or an allocation failed
+abbrev pub IsTablesError : (paths : List (List ℕ)) → (types others : List PortableType)
+    → ReaderError → Type 0
+IsTablesError paths types others (errors.NoSuchPath path) =
+    HasUnknownPath paths types others path
+IsTablesError paths types others (errors.Dangling id) =
+    All (IsInEither types others) paths × (IsDangling types id ⊎ IsDangling others id)
+IsTablesError paths types others errors.Memory = Unit {0}
+IsTablesError paths types others error = ⊥
 
 -- the bytes have tables, of which neither has the path, which is the first such
 pub record HavePathError (paths : List (List ℕ)) (bytes others path : List ℕ) : Type 0 where
-  pub old : List ℕ
-  pub new : List ℕ
-  pub has_old : HasTable bytes old
-  pub has_new : HasTable others new
+  pub old : List PortableType
+  pub new : List PortableType
+  pub has_old : HasTypes bytes old
+  pub has_new : HasTypes others new
   pub unknown : HasUnknownPath paths old new path
 
 -- the bytes have tables, of which one or the other has each path, and one of them refers to this
 -- id, which is no index of it
 pub record HaveDangling (paths : List (List ℕ)) (bytes others : List ℕ) (id : ℕ) : Type 0 where
-  pub old : List ℕ
-  pub new : List ℕ
-  pub has_old : HasTable bytes old
-  pub has_new : HasTable others new
+  pub old : List PortableType
+  pub new : List PortableType
+  pub has_old : HasTypes bytes old
+  pub has_new : HasTypes others new
   pub known : All (IsInEither old new) paths
-  pub dangling : HasDanglingReference old id ⊎ HasDanglingReference new id
+  pub dangling : IsDangling old id ⊎ IsDangling new id
 
 -- why the changes of the paths between the tables of the bytes are not told: no table is found in
 -- the old ones; or one is, and none in the new ones; or a path or a reference leads nowhere; or an

@@ -30,6 +30,12 @@ pub record HasTable (bytes table : List ℕ) : Type 0 where
   pub source : Source
   pub found : IsTableOf bytes source table
 
+-- the types of the table of bytes
+pub record HasTypes (bytes : List ℕ) (types : List PortableType) : Type 0 where
+  pub table : List ℕ
+  pub has : HasTable bytes table
+  pub encodes : EncodesTypes types table
+
 -- what bytes that have a table are, in words
 abbrev pub source_text : Source → List ℕ
 source_text sources.Table = codes "a table"

@@ -1,9 +1,10 @@
 //! Pruned tables.
-ghost use Rattle.std.specs.Prelude.{◌≡◌, ◌⊎◌, IfOk, IfErr, List, ℕ};
+ghost use Rattle.std.specs.Prelude.{◌≡◌, IfOk, IfErr, List, ℕ};
 ghost use Rattle.std.specs.List.{flat_map};
 ghost use Rattle.scale_info_describe.specs.TypeNames.{Appends};
-ghost use Rattle.scale_info_diff.specs.TableChanges.{IsChangesError};
+ghost use Rattle.scale_info_diff.specs.TableChanges.{IsCompareError};
 ghost use Rattle.scale_info_prune.specs.Prunes.{IsPruneError};
+ghost use Rattle.scale_info_types.specs.declared.ty.PortableType.{PortableType};
 ghost use Rattle.type_reader_run.specs.Differences.{IsReferenceError};
 ghost use Rattle.type_reader_run.specs.Outputs.{IsPruned, bytes_of, id_line};
 ghost use Rattle.type_reader_run.specs.Refusals.{IsReachingError};
@@ -42,8 +43,8 @@ fn lines_of(alloc: Global, new_ids: &BTreeMap<u32, u32>) -> Result<Vec<u8>, Allo
 pub fn error_of(error: PruneError) -> ReaderError
     ensures pruning { (table ids : List ℕ) → IsPruneError table ids error
         → IsReachingError table ids result }
-    ensures comparing { (old new : List ℕ) → IsChangesError old new error
-        → IsReferenceError old result ⊎ IsReferenceError new result }
+    ensures comparing { (types others : List PortableType) → IsCompareError types others error
+        → IsReferenceError types others result }
 {
     match error {
         PruneError::Dangling(id) => ReaderError::Dangling(id),

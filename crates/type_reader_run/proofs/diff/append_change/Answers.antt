@@ -6,9 +6,9 @@ pub returns-in_ok-reason-in-Changed-clause-ok : goal.returns-in_ok-reason-in-Cha
 returns-in_ok-reason-in-Changed-clause-ok c =
     rw c.in-Changed.is
     (on_ok_weaker c.append_reasoned.result
-    (λ appended docs table other x y. (
+    (λ appended. (
       option_map string_bytes c.in_ok-reason-in-Changed.reason,
-      c.in_ok-reason-in-Changed.ensures.ok docs table other x y,
+      c.in_ok-reason-in-Changed.ensures.ok,
       appended,
     ))
     c.append_reasoned.ensures)
