@@ -91,12 +91,12 @@ pub fn found<T>(made: Option<Result<T, Fail>>) -> Result<T, Fail> {
     }
 }
 
-/// Makes a call for the type that stands beside the name, and what is said last for another name.
+/// Makes a call for the type that stands beside the name; the call itself, where none has this name.
 macro_rules! of_name {
-    ($call:expr, $name:expr; $($text:literal => $ty:ty),*; $other:expr) => {
+    ($call:expr, $name:expr; $($text:literal => $ty:ty),*) => {
         match $name {
-            $($text => Some($call.of::<$ty>()),)*
-            _ => $other,
+            $($text => Ok($call.of::<$ty>()),)*
+            _ => Err($call),
         }
     };
 }
@@ -104,75 +104,79 @@ macro_rules! of_name {
 /// Makes a call for the type with a description that has this name; None if there is none.
 pub fn for_type<V: Described>(call: V, name: &str) -> Option<V::Returned> {
     for_primitive(call, name)
+        .or_else(|call| for_value(call, name))
+        .or_else(|call| for_list(call, name))
+        .or_else(|call| for_array(call, name))
+        .or_else(|call| for_pointer(call, name))
+        .or_else(|call| for_generic(call, name))
+        .or_else(|call| for_phantom(call, name))
+        .or_else(|call| for_tuple(call, name))
+        .or_else(|call| for_short_tuple(call, name))
+        .or_else(|call| for_long_tuple(call, name))
+        .ok()
 }
 
 /// Makes a call for a built-in type.
-fn for_primitive<V: Described>(call: V, name: &str) -> Option<V::Returned> {
+fn for_primitive<V: Described>(call: V, name: &str) -> Result<V::Returned, V> {
     of_name!(call, name;
         "bool" => bool, "char" => char, "u8" => u8, "u16" => u16, "u32" => u32, "u64" => u64,
-        "u128" => u128, "i8" => i8, "i16" => i16, "i32" => i32, "i64" => i64, "i128" => i128;
-        for_value(call, name)
+        "u128" => u128, "i8" => i8, "i16" => i16, "i32" => i32, "i64" => i64, "i128" => i128
     )
 }
 
 /// Makes a call for a number that is not zero, or a length of time.
-fn for_value<V: Described>(call: V, name: &str) -> Option<V::Returned> {
+fn for_value<V: Described>(call: V, name: &str) -> Result<V::Returned, V> {
     of_name!(call, name;
         "NonZeroU8" => NonZeroU8, "NonZeroU16" => NonZeroU16, "NonZeroU32" => NonZeroU32,
         "NonZeroU64" => NonZeroU64, "NonZeroU128" => NonZeroU128, "NonZeroI8" => NonZeroI8,
         "NonZeroI16" => NonZeroI16, "NonZeroI32" => NonZeroI32, "NonZeroI64" => NonZeroI64,
-        "NonZeroI128" => NonZeroI128, "Duration" => Duration;
-        for_list(call, name)
+        "NonZeroI128" => NonZeroI128, "Duration" => Duration
     )
 }
 
 /// Makes a call for a text, a list or an array.
-fn for_list<V: Described>(call: V, name: &str) -> Option<V::Returned> {
+fn for_list<V: Described>(call: V, name: &str) -> Result<V::Returned, V> {
     of_name!(call, name;
         "StrType" => StrType, "String" => String, "&str" => &str, "SliceOf<u8>" => SliceOf<u8>,
         "SliceOf<bool>" => SliceOf<bool>, "&[u8]" => &[u8], "Vec<u8>" => Vec<u8>,
         "Vec<u32>" => Vec<u32>, "Vec<Box<u8>>" => Vec<Box<u8>>, "VecDeque<u8>" => VecDeque<u8>,
-        "VecDeque<String>" => VecDeque<String>;
-        for_array(call, name)
+        "VecDeque<String>" => VecDeque<String>
     )
 }
 
 /// Makes a call for an array or a compact integer.
-fn for_array<V: Described>(call: V, name: &str) -> Option<V::Returned> {
+fn for_array<V: Described>(call: V, name: &str) -> Result<V::Returned, V> {
     of_name!(call, name;
         "[u8; 4]" => [u8; 4], "[u8; 32]" => [u8; 32], "[u32; 16]" => [u32; 16],
         "[[i32; 5]; 5]" => [[i32; 5]; 5], "[u8; 4294967295]" => [u8; 4294967295],
         "[u8; 4294967296]" => TooLong, "Compact<u8>" => Compact<u8>, "Compact<u32>" => Compact<u32>,
-        "Compact<i32>" => Compact<i32>;
-        for_pointer(call, name)
+        "Compact<i32>" => Compact<i32>
     )
 }
 
 /// Makes a call for a pointer, or the program's tree.
-fn for_pointer<V: Described>(call: V, name: &str) -> Option<V::Returned> {
+fn for_pointer<V: Described>(call: V, name: &str) -> Result<V::Returned, V> {
     of_name!(call, name;
         "Box<u8>" => Box<u8>, "Box<char>" => Box<char>, "Box<Box<u8>>" => Boxes, "Rc<u8>" => Rc<u8>,
         "&u8" => &u8, "&mut u8" => &mut u8, "Cow<'static, u128>" => Cow<'static, u128>,
-        "Tree" => Tree, "Box<Tree>" => Box<Tree>;
-        for_generic(call, name)
+        "Tree" => Tree, "Box<Tree>" => Box<Tree>
     )
 }
 
 /// Makes a call for a standard type with arguments.
-fn for_generic<V: Described>(call: V, name: &str) -> Option<V::Returned> {
+fn for_generic<V: Described>(call: V, name: &str) -> Result<V::Returned, V> {
     of_name!(call, name;
         "Option<u8>" => Option<u8>, "Option<u128>" => Option<u128>,
         "Option<Vec<u32>>" => Option<Vec<u32>>, "Option<Box<u8>>" => Option<Box<u8>>,
         "Option<(u32, bool)>" => Option<Pair>, "Result<bool, String>" => Result<bool, String>,
         "Range<u8>" => Range<u8>, "RangeInclusive<u8>" => RangeInclusive<u8>,
         "BTreeMap<String, u32>" => BTreeMap<String, u32>, "BTreeSet<String>" => BTreeSet<String>,
-        "BTreeSet<Box<u8>>" => BTreeSet<Box<u8>>, "BinaryHeap<String>" => BinaryHeap<String>;
-        for_phantom(call, name)
+        "BTreeSet<Box<u8>>" => BTreeSet<Box<u8>>, "BinaryHeap<String>" => BinaryHeap<String>
     )
 }
 
 /// Makes a call for `PhantomData`, or a type with a part of it.
-fn for_phantom<V: Described>(call: V, name: &str) -> Option<V::Returned> {
+fn for_phantom<V: Described>(call: V, name: &str) -> Result<V::Returned, V> {
     of_name!(call, name;
         "PhantomData<i32>" => PhantomData<i32>,
         "Option<PhantomData<u8>>" => Option<PhantomData<u8>>,
@@ -180,34 +184,31 @@ fn for_phantom<V: Described>(call: V, name: &str) -> Option<V::Returned> {
         "Range<PhantomData<u8>>" => Range<PhantomData<u8>>, "(u64, PhantomData<u8>)" => Marked,
         "(u64, Box<PhantomData<()>>)" => (u64, Box<PhantomData<()>>),
         "(u64, Box<PhantomData<u8>>)" => (u64, Box<PhantomData<u8>>),
-        "(PhantomData<u8>,)" => (PhantomData<u8>,);
-        for_tuple(call, name)
+        "(PhantomData<u8>,)" => (PhantomData<u8>,)
     )
 }
 
 /// Makes a call for a tuple.
-fn for_tuple<V: Described>(call: V, name: &str) -> Option<V::Returned> {
+fn for_tuple<V: Described>(call: V, name: &str) -> Result<V::Returned, V> {
     of_name!(call, name;
         "(u32, bool)" => Pair, "(u32, [u8; 32], bool)" => Triple,
-        "((i8, i16), (u32, u64))" => ((i8, i16), (u32, u64)), "(bool,)" => (bool,), "Many" => Many;
-        for_short_tuple(call, name)
+        "((i8, i16), (u32, u64))" => ((i8, i16), (u32, u64)), "(bool,)" => (bool,), "Many" => Many
     )
 }
 
 /// Makes a call for a tuple of so many members, none to ten.
-fn for_short_tuple<V: Described>(call: V, name: &str) -> Option<V::Returned> {
+fn for_short_tuple<V: Described>(call: V, name: &str) -> Result<V::Returned, V> {
     of_name!(call, name;
         "tuple of 0" => (), "tuple of 1" => (A,), "tuple of 2" => (A, B), "tuple of 3" => (A, B, C),
         "tuple of 4" => (A, B, C, D), "tuple of 5" => (A, B, C, D, E),
         "tuple of 6" => (A, B, C, D, E, F), "tuple of 7" => (A, B, C, D, E, F, G),
         "tuple of 8" => (A, B, C, D, E, F, G, H), "tuple of 9" => (A, B, C, D, E, F, G, H, I),
-        "tuple of 10" => (A, B, C, D, E, F, G, H, I, J);
-        for_long_tuple(call, name)
+        "tuple of 10" => (A, B, C, D, E, F, G, H, I, J)
     )
 }
 
 /// Makes a call for a tuple of so many members, eleven to twenty.
-fn for_long_tuple<V: Described>(call: V, name: &str) -> Option<V::Returned> {
+fn for_long_tuple<V: Described>(call: V, name: &str) -> Result<V::Returned, V> {
     of_name!(call, name;
         "tuple of 11" => (A, B, C, D, E, F, G, H, I, J, K),
         "tuple of 12" => (A, B, C, D, E, F, G, H, I, J, K, L),
@@ -218,8 +219,7 @@ fn for_long_tuple<V: Described>(call: V, name: &str) -> Option<V::Returned> {
         "tuple of 17" => (A, B, C, D, E, F, G, H, I, J, K, L, M, N, O, P, Q),
         "tuple of 18" => (A, B, C, D, E, F, G, H, I, J, K, L, M, N, O, P, Q, R),
         "tuple of 19" => (A, B, C, D, E, F, G, H, I, J, K, L, M, N, O, P, Q, R, S),
-        "tuple of 20" => Twenty;
-        None
+        "tuple of 20" => Twenty
     )
 }
 
@@ -239,22 +239,28 @@ impl<V: Known> Described for ByIdentity<V> {
 
 /// Makes a call for the type with an identity that has this name; None if there is none.
 pub fn for_known_type<V: Known>(call: V, name: &str) -> Option<V::Returned> {
+    match for_own(call, name).or_else(|call| for_composite(call, name)) {
+        Ok(made) => Some(made),
+        Err(call) => for_type(ByIdentity { call }, name),
+    }
+}
+
+/// Makes a call for a type of the program's own that is not generic.
+fn for_own<V: Known>(call: V, name: &str) -> Result<V::Returned, V> {
     of_name!(call, name;
         "Recursive" => Recursive, "Bits" => Bits, "Mapping" => Mapping, "Missing" => Missing,
         "Referring" => Referring, "Wide" => Wide, "EnumOfItself" => EnumOfItself,
         "References" => References, "Documented" => Documented, "Fielded" => Fielded,
-        "Choice" => Choice, "U256" => U256, "I256" => I256;
-        for_composite(call, name)
+        "Choice" => Choice, "U256" => U256, "I256" => I256
     )
 }
 
 /// Makes a call for a composite or a generic type of the program's own.
-fn for_composite<V: Known>(call: V, name: &str) -> Option<V::Returned> {
+fn for_composite<V: Known>(call: V, name: &str) -> Result<V::Returned, V> {
     of_name!(call, name;
         "A" => OwnA, "B" => OwnB, "C" => OwnC, "D" => OwnD, "P" => OwnP,
         "Phantom<u8>" => Phantom<u8>, "Box<Phantom<()>>" => Box<Phantom<Nothing>>,
         "Box<Phantom<u8>>" => Box<Phantom<u8>>, "Phantom<Phantom<()>>" => Phantom<Phantom<Nothing>>,
-        "MyStruct<bool>" => MyStruct<bool>, "Box<MyStruct<bool>>" => Box<MyStruct<bool>>;
-        for_type(ByIdentity { call }, name)
+        "MyStruct<bool>" => MyStruct<bool>, "Box<MyStruct<bool>>" => Box<MyStruct<bool>>
     )
 }
