@@ -14,7 +14,7 @@ use scale_info::{
     TypeId,
 };
 use std::alloc::{AllocError, Global};
-use std::fmt::Display;
+use std::fmt::{Debug, Display};
 use std::test::Fail;
 use test_common::lists::{list_of, with};
 use test_common::parts::text;
@@ -22,111 +22,9 @@ use test_memory_common::answers::printed;
 use test_memory_common::marked;
 use test_memory_common::outcomes::Outcome;
 
-/// Writes a value.
-fn text_of<T: Display + Drop>(rt: &HostRuntime, value: T) -> Result<Outcome, Fail> {
-    let text = marked!(rt; format!(in rt.alloc(); "{value}"));
-    Outcome::of(printed(rt.alloc(), text))
-}
-
 /// The identity that errors name.
 fn named(alloc: Global) -> TypeId {
     TypeId::new("demo::A", Vec::new(alloc), Vec::new(alloc))
-}
-
-/// Writes the error of this name.
-pub fn error(rt: &HostRuntime, name: &str) -> Result<Outcome, Fail> {
-    match name {
-        "PathError::InvalidIdentifier" => {
-            text_of(rt, PathError::InvalidIdentifier { segment: 1 })
-        }
-        "PathError::MissingSegments" => text_of(rt, PathError::MissingSegments),
-        "PathError::Memory" => text_of(rt, PathError::Memory),
-        "InternError::Full" => text_of(rt, InternError::Full),
-        "InternError::Memory" => text_of(rt, InternError::Memory),
-        "EncodeError::TooLong" => text_of(rt, EncodeError::TooLong),
-        "EncodeError::Memory" => text_of(rt, EncodeError::Memory),
-        "DecodeError::Malformed" => text_of(rt, DecodeError::Malformed),
-        "DecodeError::Memory" => text_of(rt, DecodeError::Memory),
-        "JsonError::Shape" => text_of(rt, JsonError::Shape),
-        "JsonError::Memory" => text_of(rt, JsonError::Memory),
-        _ => error_of_types(rt, name),
-    }
-}
-
-/// Writes the error of this name, one of calls over types and values.
-fn error_of_types(rt: &HostRuntime, name: &str) -> Result<Outcome, Fail> {
-    match name {
-        "InfoError::TooLong" => text_of(rt, InfoError::TooLong),
-        "InfoError::Memory" => text_of(rt, InfoError::Memory),
-        "CatalogueError::Conflict" => text_of(rt, CatalogueError::Conflict),
-        "CatalogueError::TooLong" => text_of(rt, CatalogueError::TooLong),
-        "CatalogueError::Memory" => text_of(rt, CatalogueError::Memory),
-        "RegisterError::Undescribed" => {
-            text_of(rt, RegisterError::Undescribed(named(rt.alloc())))
-        }
-        "RegisterError::Full" => text_of(rt, RegisterError::Full),
-        "RegisterError::Memory" => text_of(rt, RegisterError::Memory),
-        "ValueError::NoSuchType" => text_of(rt, ValueError::NoSuchType),
-        "ValueError::Unsupported" => text_of(rt, ValueError::Unsupported),
-        "ValueError::TooDeep" => text_of(rt, ValueError::TooDeep),
-        "ValueError::Malformed" => text_of(rt, ValueError::Malformed),
-        "ValueError::Memory" => text_of(rt, ValueError::Memory),
-        _ => error_of_tables(rt, name),
-    }
-}
-
-/// Writes the error of this name, one of calls over tables.
-fn error_of_tables(rt: &HostRuntime, name: &str) -> Result<Outcome, Fail> {
-    match name {
-        "RetainError::Dangling" => text_of(rt, RetainError::Dangling { id: 7 }),
-        "RetainError::TooManyTypes" => text_of(rt, RetainError::TooManyTypes),
-        "RetainError::Memory" => text_of(rt, RetainError::Memory),
-        "PruneError::Malformed" => text_of(rt, PruneError::Malformed),
-        "PruneError::Trailing" => text_of(rt, PruneError::Trailing),
-        "PruneError::NoSuchType" => text_of(rt, PruneError::NoSuchType(7)),
-        "PruneError::Dangling" => text_of(rt, PruneError::Dangling(7)),
-        "PruneError::Memory" => text_of(rt, PruneError::Memory),
-        "ExportError::Undescribed" => text_of(rt, ExportError::Undescribed(named(rt.alloc()))),
-        "ExportError::Full" => text_of(rt, ExportError::Full),
-        "ExportError::TooLong" => text_of(rt, ExportError::TooLong),
-        "ExportError::Memory" => text_of(rt, ExportError::Memory),
-        _ => error_of_texts(rt, name),
-    }
-}
-
-/// Writes the error of this name, one of calls over graphs, JSON texts and metadata.
-fn error_of_texts(rt: &HostRuntime, name: &str) -> Result<Outcome, Fail> {
-    match name {
-        "GraphError::Dangling" => text_of(rt, GraphError::Dangling { id: 7 }),
-        "GraphError::TooManyTypes" => text_of(rt, GraphError::TooManyTypes),
-        "GraphError::Memory" => text_of(rt, GraphError::Memory),
-        "JsonTextError::Syntax" => text_of(rt, JsonTextError::Syntax),
-        "JsonTextError::Shape" => text_of(rt, JsonTextError::Shape),
-        "JsonTextError::Memory" => text_of(rt, JsonTextError::Memory),
-        "MetadataError::Version" => text_of(rt, MetadataError::Version(13)),
-        "MetadataError::Malformed" => text_of(rt, MetadataError::Malformed),
-        "MetadataError::Trailing" => text_of(rt, MetadataError::Trailing),
-        _ => error_of_value_texts(rt, name),
-    }
-}
-
-/// Writes the error of this name, one of calls over values as JSON, or of their encoding.
-fn error_of_value_texts(rt: &HostRuntime, name: &str) -> Result<Outcome, Fail> {
-    match name {
-        "ValueTextError::Value" => text_of(rt, ValueTextError::Value(ValueError::Malformed)),
-        "ValueTextError::Trailing" => text_of(rt, ValueTextError::Trailing),
-        "ValueJsonError::NoSuchType" => text_of(rt, ValueJsonError::NoSuchType),
-        "ValueJsonError::Unsupported" => text_of(rt, ValueJsonError::Unsupported),
-        "ValueJsonError::TooDeep" => text_of(rt, ValueJsonError::TooDeep),
-        "ValueJsonError::Mismatch" => text_of(rt, ValueJsonError::Mismatch),
-        "ValueJsonError::Memory" => text_of(rt, ValueJsonError::Memory),
-        "EncodeValueError::NoSuchType" => text_of(rt, EncodeValueError::NoSuchType),
-        "EncodeValueError::Unsupported" => text_of(rt, EncodeValueError::Unsupported),
-        "EncodeValueError::TooDeep" => text_of(rt, EncodeValueError::TooDeep),
-        "EncodeValueError::Mismatch" => text_of(rt, mismatch(rt.alloc())?),
-        "EncodeValueError::Memory" => text_of(rt, EncodeValueError::Memory),
-        _ => error_of_visits(rt, name),
-    }
 }
 
 /// The error that names the path of a part.
@@ -137,31 +35,103 @@ fn mismatch(alloc: Global) -> Result<EncodeValueError, AllocError> {
     Ok(EncodeValueError::Mismatch(ValuePath { steps }))
 }
 
-/// Writes the error of this name, one of visits.
-fn error_of_visits(rt: &HostRuntime, name: &str) -> Result<Outcome, Fail> {
-    match name {
-        "Failure::NoSuchType" => text_of(rt, Failure::NoSuchType),
-        "Failure::Unsupported" => text_of(rt, Failure::Unsupported),
-        "Failure::TooDeep" => text_of(rt, Failure::TooDeep),
-        "Failure::Malformed" => text_of(rt, Failure::Malformed),
-        "VisitError::Failed" => text_of(rt, VisitError::<JsonError>::Failed(Failure::TooDeep)),
-        "VisitError::Stopped" => text_of(rt, VisitError::Stopped(JsonError::Shape)),
-        "WithinError::Failed" => text_of(rt, WithinError::<JsonError>::Failed(Failure::TooDeep)),
-        "WithinError::TooLarge" => text_of(rt, WithinError::<JsonError>::TooLarge),
-        "WithinError::Stopped" => text_of(rt, WithinError::Stopped(JsonError::Shape)),
-        _ => error_of_conversions(rt, name),
-    }
+/// Whether an error is of the variant of this name, with which its `Debug` begins.
+fn is_variant<T: Debug>(alloc: Global, error: &T, variant: &str) -> Result<bool, AllocError> {
+    let text = format!(in alloc; "{error:?}")?;
+    Ok(text.as_str().split([' ', '(']).next() == Some(variant))
 }
 
-/// Writes the error of this name, one of values of a program's own types.
-fn error_of_conversions(rt: &HostRuntime, name: &str) -> Result<Outcome, Fail> {
-    match name {
-        "ConvertError::Mismatch" => text_of(rt, ConvertError::Mismatch),
-        "ConvertError::Memory" => text_of(rt, ConvertError::Memory),
-        "DecodeAsError::Decode" => text_of(rt, DecodeAsError::Decode(ValueError::Malformed)),
-        "DecodeAsError::Mismatch" => text_of(rt, DecodeAsError::Mismatch),
-        "EncodeAsError::Encode" => text_of(rt, EncodeAsError::Encode(mismatch(rt.alloc())?)),
-        "EncodeAsError::Mismatch" => text_of(rt, EncodeAsError::Mismatch),
-        _ => Err(Fail::new("no error has this name")),
+/// Writes the one of these errors that is of the variant of this name.
+fn one_of<T: Debug + Display>(
+    rt: &HostRuntime,
+    variant: &str,
+    errors: &[T],
+) -> Result<Outcome, Fail> {
+    for error in errors {
+        if is_variant(rt.alloc(), error, variant)? {
+            let text = marked!(rt; format!(in rt.alloc(); "{error}"));
+            return Outcome::of(printed(rt.alloc(), text));
+        }
     }
+    Err(Fail::new("no variant has this name"))
+}
+
+/// Writes the one of the errors beside the name of their enum that is of a variant.
+macro_rules! of_enum {
+    ($rt:expr, $name:expr, $variant:expr; $($text:literal => [$($error:expr),*]),*) => {
+        match $name {
+            $($text => one_of($rt, $variant, &[$($error),*]),)*
+            _ => Err(Fail::new("no error has this name")),
+        }
+    };
+}
+
+/// Writes the error of this name: an enum, and its variant.
+pub fn error(rt: &HostRuntime, name: &str) -> Result<Outcome, Fail> {
+    let alloc = rt.alloc();
+    let (error, variant) = name.split_once("::").unwrap_or((name, ""));
+    of_enum!(rt, error, variant;
+        "PathError" => [
+            PathError::InvalidIdentifier { segment: 1 }, PathError::MissingSegments,
+            PathError::Memory
+        ],
+        "InternError" => [InternError::Full, InternError::Memory],
+        "EncodeError" => [EncodeError::TooLong, EncodeError::Memory],
+        "DecodeError" => [DecodeError::Malformed, DecodeError::Memory],
+        "JsonError" => [JsonError::Shape, JsonError::Memory],
+        "InfoError" => [InfoError::TooLong, InfoError::Memory],
+        "CatalogueError" => [
+            CatalogueError::Conflict, CatalogueError::TooLong, CatalogueError::Memory
+        ],
+        "RegisterError" => [
+            RegisterError::Undescribed(named(alloc)), RegisterError::Full, RegisterError::Memory
+        ],
+        "ValueError" => [
+            ValueError::NoSuchType, ValueError::Unsupported, ValueError::TooDeep,
+            ValueError::Malformed, ValueError::Memory
+        ],
+        "RetainError" => [
+            RetainError::Dangling { id: 7 }, RetainError::TooManyTypes, RetainError::Memory
+        ],
+        "PruneError" => [
+            PruneError::Malformed, PruneError::Trailing, PruneError::NoSuchType(7),
+            PruneError::Dangling(7), PruneError::Memory
+        ],
+        "ExportError" => [
+            ExportError::Undescribed(named(alloc)), ExportError::Full, ExportError::TooLong,
+            ExportError::Memory
+        ],
+        "GraphError" => [
+            GraphError::Dangling { id: 7 }, GraphError::TooManyTypes, GraphError::Memory
+        ],
+        "JsonTextError" => [JsonTextError::Syntax, JsonTextError::Shape, JsonTextError::Memory],
+        "MetadataError" => [
+            MetadataError::Version(13), MetadataError::Malformed, MetadataError::Trailing
+        ],
+        "ValueTextError" => [
+            ValueTextError::Value(ValueError::Malformed), ValueTextError::Trailing
+        ],
+        "ValueJsonError" => [
+            ValueJsonError::NoSuchType, ValueJsonError::Unsupported, ValueJsonError::TooDeep,
+            ValueJsonError::Mismatch, ValueJsonError::Memory
+        ],
+        "EncodeValueError" => [
+            EncodeValueError::NoSuchType, EncodeValueError::Unsupported, EncodeValueError::TooDeep,
+            mismatch(alloc)?, EncodeValueError::Memory
+        ],
+        "Failure" => [
+            Failure::NoSuchType, Failure::Unsupported, Failure::TooDeep, Failure::Malformed
+        ],
+        "VisitError" => [
+            VisitError::<JsonError>::Failed(Failure::TooDeep),
+            VisitError::Stopped(JsonError::Shape)
+        ],
+        "WithinError" => [
+            WithinError::<JsonError>::Failed(Failure::TooDeep), WithinError::<JsonError>::TooLarge,
+            WithinError::Stopped(JsonError::Shape)
+        ],
+        "ConvertError" => [ConvertError::Mismatch, ConvertError::Memory],
+        "DecodeAsError" => [DecodeAsError::Decode(ValueError::Malformed), DecodeAsError::Mismatch],
+        "EncodeAsError" => [EncodeAsError::Encode(mismatch(alloc)?), EncodeAsError::Mismatch]
+    )
 }
