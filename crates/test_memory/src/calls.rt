@@ -2,21 +2,18 @@
 //! the rest of the line.
 //!
 //! Each function has the calls of one kind, and leaves other names to the next one.
-use crate::{built, loads, passes, people, runs, typed, value_texts, values, views};
+use crate::{metadata, passes, people, runs, typed, value_texts, values, views};
 use scale_info::meta_type::Catalogue;
 use std::test::Fail;
-use test_memory_build::{
-    constructors, descriptions, fields, lists as built_lists, paths, structs, variants,
-};
+use test_memory_build::{constructors, descriptions, fields, macros, paths, variants};
 use test_memory_common::outcomes::Outcome;
 use test_memory_common::types::catalogue;
-use test_memory_lent::{changes, each, events, graphs, lent_types, within};
-use test_memory_parts::{copies, interners as texts, lists, looks as parts, moves, orders};
+use test_memory_lent::{changes, lent, visits};
+use test_memory_parts::{copies, interners, lists, looks, moves, orders};
 use test_memory_tables::{
-    builders, bytes, conversions, discoveries, exports, interners, json, looks, prunings,
-    registrations as registries,
+    builders, conversions, discoveries, exports, json, prunings, registries, tables, walks,
 };
-use test_memory_types::{catalogues, conversions as kinds, errors, identities, registrations};
+use test_memory_types::{catalogues, errors, identities, registrations};
 
 /// Makes the call of a line: one of builders, or another.
 pub fn call(rt: &HostRuntime, line: &str) -> Result<Outcome, Fail> {
@@ -25,18 +22,18 @@ pub fn call(rt: &HostRuntime, line: &str) -> Result<Outcome, Fail> {
         "field portable unnamed" => fields::portable_unnamed(rt),
         "variant with a field" => variants::variant(rt),
         "variant unit" => variants::variant_unit(rt),
-        "list tuple_meta_type!" => built_lists::types(rt),
-        "list named_type_params!" => built_lists::named_parameters(rt),
-        "list type_params!" => built_lists::parameters(rt),
-        "list with_type" => built_lists::one_type(rt),
-        "list with_type_param" => built_lists::one_parameter(rt),
+        "list tuple_meta_type!" => macros::types(rt),
+        "list named_type_params!" => macros::named_parameters(rt),
+        "list type_params!" => macros::parameters(rt),
+        "list with_type" => macros::one_type(rt),
+        "list with_type_param" => macros::one_parameter(rt),
         "build_empty fields" => fields::empty(rt),
         "build_empty field" => fields::moved(rt),
         "build_empty variant" => variants::moved(rt),
         "build_empty composite" => descriptions::composite(rt),
         "build_empty variants" => descriptions::variants(rt),
-        "build_empty portable composite" => descriptions::portable(rt),
-        "build_empty tuple" => descriptions::unit(rt),
+        "build_empty portable composite" => descriptions::portable_composite(rt),
+        "build_empty tuple" => descriptions::unit_tuple(rt),
         _ => call_of_moves(rt, line),
     }
 }
@@ -67,9 +64,9 @@ fn call_of_builders(rt: &HostRuntime, name: &str, input: &str) -> Result<Outcome
     match name {
         "field" => fields::field(rt, input),
         "TypeBuilder::docs" => descriptions::docs(rt),
-        "build_struct" => structs::generic(rt, input),
-        "build_enum" => structs::enumeration(rt, input),
-        "build_portable" => structs::portable(rt, input),
+        "build_struct" => descriptions::generic_struct(rt, input),
+        "build_enum" => descriptions::enumeration(rt, input),
+        "build_portable" => descriptions::portable_struct(rt, input),
         "Path::new" => paths::new(rt, input),
         "Path::new_with_replace" => paths::new_with_replace(rt, input),
         "Path::from_segments" => paths::from_segments(rt, input),
@@ -115,12 +112,12 @@ fn call_of_copies(rt: &HostRuntime, name: &str, input: &str) -> Result<Outcome, 
 /// Makes the call of this name: one on an interner or a list, or another.
 fn call_of_lists(rt: &HostRuntime, name: &str, input: &str) -> Result<Outcome, Fail> {
     match name {
-        "intern_or_get" | "intern_or_get_known" => texts::intern_or_get(rt, input),
-        "intern_copy" | "intern_copy_known" => texts::intern_copy(rt, input),
-        "intern" => texts::intern(rt, input),
-        "look_at_interner" => texts::look(rt, input),
-        "compare_interners" => texts::compare(rt, input),
-        "truncate_interner" => texts::truncate(rt, input),
+        "intern_or_get" | "intern_or_get_known" => interners::intern_or_get(rt, input),
+        "intern_copy" | "intern_copy_known" => interners::intern_copy(rt, input),
+        "intern" => interners::intern(rt, input),
+        "look_at_interner" => interners::look(rt, input),
+        "compare_interners" => interners::compare(rt, input),
+        "truncate_interner" => interners::truncate(rt, input),
         "Items::push" => lists::push(rt, input),
         "Items::push_towards" => lists::push_towards(rt, input),
         "Items::with_capacity" => lists::with_capacity(rt),
@@ -133,12 +130,12 @@ fn call_of_lists(rt: &HostRuntime, name: &str, input: &str) -> Result<Outcome, F
 /// Makes the call of this name: one on parts of descriptions that does not allocate, or another.
 fn call_of_parts(rt: &HostRuntime, name: &str, input: &str) -> Result<Outcome, Fail> {
     match name {
-        "look_at_description" => parts::description(rt, input),
-        "compare_descriptions" => parts::compare(rt, input),
-        "compare_types" => parts::types(rt, input),
-        "is_rust_identifier" => parts::identifier(rt, input),
-        "look_at_definition" => parts::definition(rt, input),
-        "look_at" => parts::part(rt, input),
+        "look_at_description" => looks::description(rt, input),
+        "compare_descriptions" => looks::compare(rt, input),
+        "compare_types" => looks::types(rt, input),
+        "is_rust_identifier" => looks::identifier(rt, input),
+        "look_at_definition" => looks::definition(rt, input),
+        "look_at" => looks::part(rt, input),
         "order" => orders::order(rt, input),
         _ => call_of_types(rt, name, input),
     }
@@ -181,7 +178,7 @@ fn call_of_registrations(rt: &HostRuntime, name: &str, input: &str) -> Result<Ou
         "from_finished" => registries::from_finished(rt, input),
         "into_types" => registries::into_types(rt, input),
         "export" => exports::export_types(rt, input),
-        "look_at_registry" => looks::registry(rt, input),
+        "look_at_registry" => registries::look(rt, input),
         _ => call_of_conversions(rt, name, input),
     }
 }
@@ -189,7 +186,7 @@ fn call_of_registrations(rt: &HostRuntime, name: &str, input: &str) -> Result<Ou
 /// Makes the call of this name: one that puts ids in the place of types, or another.
 fn call_of_conversions(rt: &HostRuntime, name: &str, input: &str) -> Result<Outcome, Fail> {
     match name {
-        "leave" => kinds::value(rt, input),
+        "leave" => registrations::convert_value(rt, input),
         "map_into_portable" => registries::map_into_portable(rt, input),
         "into_portable" => conversions::part(rt, catalogue(rt.alloc()), input),
         "into_portable_undescribed" => {
@@ -205,11 +202,11 @@ fn call_of_conversions(rt: &HostRuntime, name: &str, input: &str) -> Result<Outc
 /// Makes the call of this name: one on bytes and JSON, or another.
 fn call_of_bytes(rt: &HostRuntime, name: &str, input: &str) -> Result<Outcome, Fail> {
     match name {
-        "decode" => bytes::decode(rt, input),
-        "encode" => bytes::encode(rt, input),
-        "try_clone_table" => bytes::try_clone(rt, input),
-        "try_clone_entries" => bytes::try_clone_entries(rt, input),
-        "decode_compact" => bytes::decode_compact(rt, input),
+        "decode" => tables::decode(rt, input),
+        "encode" => tables::encode(rt, input),
+        "try_clone_table" => tables::try_clone(rt, input),
+        "try_clone_entries" => tables::try_clone_entries(rt, input),
+        "decode_compact" => tables::decode_compact(rt, input),
         "to_json" => json::tree_of(rt, input),
         "from_json" => json::table_from(rt, input),
         "from_json_text" => json::table_from_text(rt, input),
@@ -225,15 +222,15 @@ fn call_of_walks(rt: &HostRuntime, name: &str, input: &str) -> Result<Outcome, F
         "retain" => prunings::retain(rt, input),
         "prune" => prunings::prune_bytes(rt, input),
         "append_pruned" => prunings::append_pruned_bytes(rt, input),
-        "number" => prunings::number_table(rt, input),
-        "number_recursive" => prunings::number_table_recursively(rt, input),
-        "Refs::of" => prunings::refs_of(rt, input),
-        "Refs::prepend_of" => prunings::prepend(rt, input),
-        "Refs::next" => looks::next_refs(rt, input),
-        "look_at_builder" => each::look_at_builder(rt, input),
-        "look_at_table" => each::look_at_table(rt, input),
-        "compare_tables" => looks::compare(rt, input),
-        "order_descriptions" => looks::order(rt, input),
+        "number" => walks::number_table(rt, input),
+        "number_recursive" => walks::number_table_recursively(rt, input),
+        "Refs::of" => walks::refs_of(rt, input),
+        "Refs::prepend_of" => walks::prepend(rt, input),
+        "Refs::next" => walks::next_refs(rt, input),
+        "look_at_builder" => lent::look_at_builder(rt, input),
+        "look_at_table" => lent::look_at_table(rt, input),
+        "compare_tables" => tables::compare(rt, input),
+        "order_descriptions" => tables::order(rt, input),
         _ => call_of_values(rt, name, input),
     }
 }
@@ -246,14 +243,14 @@ fn call_of_values(rt: &HostRuntime, name: &str, input: &str) -> Result<Outcome, 
         "Lent::to_dyn" => values::copy_lent(rt, input),
         "encode_value" => values::encode(rt, input),
         "skip_value" => values::skip(rt, input),
-        "visit_events" => events::visit(rt, input),
-        "visit_value_within" => within::visit(rt, input),
+        "visit_events" => visits::events(rt, input),
+        "visit_value_within" => visits::within(rt, input),
         "append_value_json" => value_texts::append(rt, input),
         "value_json" => value_texts::text(rt, input),
         "has_own_names" => value_texts::own_names(rt, input),
         "value::from_json" => value_texts::take(rt, input),
-        "LoadedTypes::load" => loads::load(rt, input),
-        "decode_lent_loaded" => loads::decode(rt, input),
+        "LoadedTypes::load" => views::load(rt, input),
+        "decode_lent_loaded" => views::decode_lent_loaded(rt, input),
         "decode_as" | "encode_as" => typed::call(rt, name, input),
         _ => call_of_people(rt, name, input),
     }
@@ -266,11 +263,11 @@ fn call_of_people(rt: &HostRuntime, name: &str, input: &str) -> Result<Outcome, 
         "append_description" => people::append_type(rt, input),
         "name_of" => people::name_type(rt, input),
         "find_by_path" | "find_containing" => people::find(rt, name, input),
-        "bytes_of_text" => people::read_digits(rt, input),
-        "table_of" => people::find_table(rt, input),
-        "append_without_docs" => people::strip(rt, input),
-        "same_types" => people::compare(rt, input),
-        "append_graph" => graphs::append(rt, input),
+        "bytes_of_text" => metadata::read_digits(rt, input),
+        "table_of" => metadata::find_table(rt, input),
+        "append_without_docs" => metadata::strip(rt, input),
+        "same_types" => prunings::compare(rt, input),
+        "append_graph" => people::draw(rt, input),
         "changes"
         | "changes_with_docs"
         | "first_difference"
@@ -287,11 +284,11 @@ fn call_of_passes(rt: &HostRuntime, name: &str, input: &str) -> Result<Outcome, 
         "pass" => passes::pass(rt, input),
         "index_entries" => passes::index(rt, input),
         "run" => runs::run(rt, input),
-        "decode_type" => lent_types::decode_description(rt, input),
-        "owned_type" => lent_types::copy(rt, input),
+        "decode_type" => lent::decode_description(rt, input),
+        "owned_type" => lent::own_description(rt, input),
         _ => match name.split_once("::") {
             Some(("PortableRegistryBuilder", name)) => builders::call(rt, name, input),
-            Some(("Dyn", name)) => built::build(rt, name, input),
+            Some(("Dyn", name)) => values::build(rt, name, input),
             Some(("TableView", name)) => call_of_views(rt, name, input),
             _ => Err(Fail::new("no call has this name")),
         },

@@ -3,9 +3,8 @@
 //! Each line of the standard input is a call and its input.
 #![tactic(auto)]
 
-mod built;
 mod calls;
-mod loads;
+mod metadata;
 mod passes;
 mod people;
 mod runs;

@@ -15,7 +15,7 @@ use test_memory_common::answers::{done, failed};
 use test_memory_common::inputs::bytes_of;
 use test_memory_common::marked;
 use test_memory_common::outcomes::Outcome;
-use test_memory_tables::bytes::with_rest;
+use test_memory_tables::tables::with_rest;
 
 /// The new numbers of the references 0, 1 and 2; a reference 3 stays.
 const NUMBERS: [u32; 3] = [7, 6, 300];

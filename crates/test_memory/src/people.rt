@@ -1,15 +1,15 @@
-//! Types for people, the tables of metadata, and tables without docs.
+//! Types for people: their declarations and names, the types of a path, and graphs.
+use scale_info::PortableRegistry;
 use scale_info::describe::{append_description, describe, find_by_path, find_containing, name_of};
-use scale_info::metadata::{bytes_of_text, table_of as table_in};
-use scale_info::{PortableRegistry, append_without_docs, same_types};
+use scale_info::graph::append_graph;
 use std::alloc::Global;
 use std::test::Fail;
 use test_common::held::Held;
 use test_common::rows::{numbers, parted};
 use test_memory_common::answers::shown;
-use test_memory_common::inputs::{bytes_of, table_of};
+use test_memory_common::inputs::table_of;
+use test_memory_common::marked;
 use test_memory_common::outcomes::Outcome;
-use test_memory_common::{appended, marked};
 
 /// The words before the semicolon of a row, and the table after it.
 fn read(alloc: Global, row: &str) -> Result<(&str, Held<PortableRegistry>), Fail> {
@@ -54,32 +54,14 @@ pub fn find(rt: &HostRuntime, name: &str, row: &str) -> Result<Outcome, Fail> {
     Outcome::of(shown(rt.alloc(), returned))
 }
 
-/// The bytes that a text writes.
-pub fn read_digits(rt: &HostRuntime, row: &str) -> Result<Outcome, Fail> {
-    let returned = marked!(rt; bytes_of_text(rt.alloc(), row.as_bytes()));
-    Outcome::of(shown(rt.alloc(), returned))
-}
-
-/// Finds the table of metadata.
-pub fn find_table(rt: &HostRuntime, row: &str) -> Result<Outcome, Fail> {
-    let input = bytes_of(rt.alloc(), row)?;
-    let returned = marked!(rt; table_in(&input));
-    Outcome::of(shown(rt.alloc(), returned))
-}
-
-/// Appends a table without docs to one byte.
-pub fn strip(rt: &HostRuntime, row: &str) -> Result<Outcome, Fail> {
-    let input = bytes_of(rt.alloc(), row)?;
-    appended!(rt; out => append_without_docs(&input, &mut out))
-}
-
-/// Whether types of two tables are the same. A row has ids and a table, and others.
-pub fn compare(rt: &HostRuntime, row: &str) -> Result<Outcome, Fail> {
-    let (ids, row) = parted(row, ';')?;
-    let (table, row) = parted(row, ';')?;
-    let (others, other) = parted(row, ';')?;
-    let (ids, others) = (numbers(rt.alloc(), ids)?, numbers(rt.alloc(), others)?);
-    let (table, other) = (bytes_of(rt.alloc(), table)?, bytes_of(rt.alloc(), other)?);
-    let returned = marked!(rt; same_types(rt.alloc(), &table, &ids, &other, &others));
-    Outcome::of(shown(rt.alloc(), returned))
+/// Appends the graph of what ids reach to a text: before the semicolon stand the ids.
+pub fn draw(rt: &HostRuntime, row: &str) -> Result<Outcome, Fail> {
+    let (ids, table) = parted(row, ';')?;
+    let ids = numbers(rt.alloc(), ids)?;
+    let table = Held(table_of(rt.alloc(), table.trim())?);
+    let mut out = String::from_str(rt.alloc(), "// ")?;
+    let before = format!(in rt.alloc(); "{out:?}");
+    let returned = marked!(rt; append_graph(rt.alloc(), &table.0, &ids, &mut out));
+    let after = format!(in rt.alloc(); "{out:?}");
+    Outcome::lending(before, after, shown(rt.alloc(), returned))
 }

@@ -8,7 +8,7 @@ use test_memory_common::answers::{done, failed};
 use test_memory_common::inputs::table_of;
 use test_memory_common::outcomes::Outcome;
 use test_memory_common::{appended, marked};
-use test_memory_tables::bytes::with_rest;
+use test_memory_tables::tables::with_rest;
 
 /// Decodes the value of a row: its encoding by the type of the table, and what is left.
 fn decoded<T: DecodeAs + EncodeAs>(rt: &HostRuntime, row: &str) -> Result<Outcome, Fail> {

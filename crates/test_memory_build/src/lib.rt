@@ -5,7 +5,6 @@
 pub mod constructors;
 pub mod descriptions;
 pub mod fields;
-pub mod lists;
+pub mod macros;
 pub mod paths;
-pub mod structs;
 pub mod variants;

@@ -1,5 +1,5 @@
 //! Values that hold types, converted.
-use crate::registrations::into_portable;
+use crate::registries::into_portable;
 use scale_info::meta_type::{Catalogue, CatalogueError};
 use scale_info::{
     IntoPortable, Scale, TypeDefArray, TypeDefBitSequence, TypeDefCompact, TypeDefComposite,

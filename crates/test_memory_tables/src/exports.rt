@@ -1,5 +1,5 @@
 //! Types that are written for what the chosen ones reach.
-use crate::registrations::three;
+use crate::registries::three;
 use scale_info::export::{Exported, export};
 use scale_info::impls::meta_type;
 use scale_info::meta_type::{Catalogue, CatalogueError, HasIdentity, Identified};

@@ -2,13 +2,11 @@
 #![tactic(auto)]
 
 pub mod builders;
-pub mod bytes;
 pub mod conversions;
 pub mod discoveries;
 pub mod exports;
-pub mod interners;
 pub mod json;
-pub mod looks;
 pub mod prunings;
-pub mod registrations;
 pub mod registries;
+pub mod tables;
+pub mod walks;

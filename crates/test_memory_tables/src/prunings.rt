@@ -1,14 +1,13 @@
-//! Walks over tables, and what is kept of them.
-use scale_info::walk::{Numbering, Refs, number, number_recursive};
-use scale_info::{PortableRegistry, RetainError, append_pruned, prune};
-use std::alloc::{AllocError, Global};
+//! What is kept of tables, and the same types in two of them.
+use scale_info::{PortableRegistry, append_pruned, prune, same_types};
+use std::alloc::Global;
 use std::test::Fail;
 use test_common::held::Held;
 use test_common::rows::{numbers, parted};
-use test_memory_common::answers::{digits, done, failed, shown};
+use test_memory_common::answers::{digits, shown};
 use test_memory_common::inputs::{bytes_of, is_malformed, table_of};
 use test_memory_common::outcomes::Outcome;
-use test_memory_common::{answered, appended, marked};
+use test_memory_common::{appended, marked};
 
 /// Calls of `prune` that are refused: a row is a name, a colon, the ids, a semicolon and the name
 /// of the bytes.
@@ -21,7 +20,7 @@ a dangling id: 1; reference outside the table
 /// The name of bytes, and the ids that they are pruned to: those before a colon, those of the row
 /// of this name, or 0 for bytes that begin with no table, or else every second index of the table
 /// of this name.
-fn given<'a>(alloc: Global, row: &'a str) -> Result<(&'a str, Vec<u32>), Fail> {
+pub fn given<'a>(alloc: Global, row: &'a str) -> Result<(&'a str, Vec<u32>), Fail> {
     if let Some((ids, name)) = row.split_once(':') {
         return Ok((name.trim(), numbers(alloc, ids)?));
     }
@@ -84,76 +83,13 @@ pub fn append_pruned_bytes(rt: &HostRuntime, row: &str) -> Result<Outcome, Fail>
     appended!(rt; out => append_pruned(rt.alloc(), &bytes, &ids, &mut out))
 }
 
-/// The outcome of a walk.
-pub fn walked(alloc: Global, returned: Result<Numbering, RetainError>) -> Result<Outcome, Fail> {
-    let answer = match returned {
-        Ok(found) => {
-            let (order, steps) = (found.order, found.steps);
-            done(format!(in alloc; "{order:?} in {steps} steps"))
-        }
-        Err(error) => failed(alloc, &error),
-    };
-    Outcome::of(answer)
-}
-
-/// Numbers what the given ids reach.
-pub fn number_table(rt: &HostRuntime, row: &str) -> Result<Outcome, Fail> {
-    let (name, ids) = given(rt.alloc(), row)?;
-    let table = Held(table_of(rt.alloc(), name)?);
-    let returned = marked!(rt; number(rt.alloc(), table.0.types(), &ids));
-    walked(rt.alloc(), returned)
-}
-
-/// Numbers what the given ids reach, by a recursion.
-pub fn number_table_recursively(rt: &HostRuntime, row: &str) -> Result<Outcome, Fail> {
-    let (name, ids) = given(rt.alloc(), row)?;
-    let table = Held(table_of(rt.alloc(), name)?);
-    let returned = marked!(rt; number_recursive(rt.alloc(), table.0.types(), &ids));
-    walked(rt.alloc(), returned)
-}
-
-/// The references of the first description.
-fn all_of(alloc: Global, mut refs: Refs) -> Result<Vec<u32>, AllocError> {
-    let mut ids = Vec::new(alloc);
-    for _ in 0..64 {
-        let mut steps = 0;
-        match refs.next(&mut steps) {
-            Some(id) => ids.push(id)?,
-            None => break,
-        }
-    }
-    Ok(ids)
-}
-
-/// The references of the first description, as a text.
-fn listed(alloc: Global, refs: Refs) -> Result<String, AllocError> {
-    let ids = all_of(alloc, refs)?;
-    format!(in alloc; "{ids:?}")
-}
-
-/// Lists the references of the entry at index 0.
-pub fn refs_of(rt: &HostRuntime, row: &str) -> Result<Outcome, Fail> {
-    let table = Held(table_of(rt.alloc(), row)?);
-    let Some(ty) = table.0.resolve(0) else {
-        return Err(Fail::new("the table is empty"));
-    };
-    answered!(
-        rt;
-        Refs::of(rt.alloc(), ty);
-        refs => done(listed(rt.alloc(), refs))
-    )
-}
-
-/// Puts the references of the entry at index 0 before one that is left.
-pub fn prepend(rt: &HostRuntime, row: &str) -> Result<Outcome, Fail> {
-    let table = Held(table_of(rt.alloc(), row)?);
-    let Some(ty) = table.0.resolve(0) else {
-        return Err(Fail::new("the table is empty"));
-    };
-    let mut refs = Refs::new(rt.alloc());
-    refs.prepend(&[9])?;
-    let returned = marked!(rt; refs.prepend_of(rt.alloc(), ty));
-    let before = String::from_str(rt.alloc(), "[9]");
-    let after = listed(rt.alloc(), refs);
-    Outcome::lending(before, after, shown(rt.alloc(), returned))
+/// Whether types of two tables are the same. A row has ids and a table, and others.
+pub fn compare(rt: &HostRuntime, row: &str) -> Result<Outcome, Fail> {
+    let (ids, row) = parted(row, ';')?;
+    let (table, row) = parted(row, ';')?;
+    let (others, other) = parted(row, ';')?;
+    let (ids, others) = (numbers(rt.alloc(), ids)?, numbers(rt.alloc(), others)?);
+    let (table, other) = (bytes_of(rt.alloc(), table)?, bytes_of(rt.alloc(), other)?);
+    let returned = marked!(rt; same_types(rt.alloc(), &table, &ids, &other, &others));
+    Outcome::of(shown(rt.alloc(), returned))
 }

@@ -1,12 +1,19 @@
-//! Registries, and what they show.
+//! Registries: types that are registered, values that are converted, and what is made of them.
 use scale_info::meta_type::Catalogue;
 use scale_info::registry::RegisterError;
-use scale_info::{Items, MetaType, Registry};
+use scale_info::{
+    Field, IntoPortable, Items, MetaType, PortableRegistry, Registry, Scale, tuple_meta_type,
+};
 use std::alloc::{AllocError, Global};
 use std::test::Fail;
 use test_common::held::Held;
-use test_memory_common::answers::digits;
-use test_memory_common::types::{catalogue, type_named};
+use test_common::lists::{list_of, with};
+use test_memory_common::answers::{digits, done, encoded};
+use test_memory_common::marked;
+use test_memory_common::marks::{begin, end};
+use test_memory_common::outcomes::Outcome;
+use test_memory_common::own::Missing;
+use test_memory_common::types::{catalogue, documented_field, type_named, unnamed_field};
 
 /// The registry of `u8` and of the type of this name.
 pub fn registry_of(alloc: Global, known: &Catalogue, name: &str) -> Result<Registry, Fail> {
@@ -67,4 +74,130 @@ pub fn listed<T, E>(returned: Result<Vec<T>, E>) -> Result<Items<T>, E> {
         Ok(all) => Ok(Items::from(all)),
         Err(error) => Err(error),
     }
+}
+
+/// The catalogue of all types, and the registry of `u8` under it.
+fn begun(alloc: Global) -> Result<(Held<Catalogue>, Held<Registry>), Fail> {
+    let known = Held(catalogue(alloc)?);
+    let registry = Held(registry_of_u8(alloc, &known.0)?);
+    Ok((known, registry))
+}
+
+/// Makes a call between the marks on the registry of `u8` under the catalogue of all types, and
+/// shows the encoding of what it returned.
+macro_rules! registered {
+    ($rt:expr; $registry:ident, $known:ident => $call:expr $(, $list:ident)?) => {{
+        let ($known, mut $registry) = begun($rt.alloc())?;
+        let before = state($rt.alloc(), &$registry.0, &$known.0);
+        let returned = marked!($rt; $call);
+        let after = state($rt.alloc(), &$registry.0, &$known.0);
+        Outcome::lending(before, after, encoded($rt.alloc(), $($list)?(returned)))
+    }};
+}
+
+/// Registers a type.
+pub fn register_type(rt: &HostRuntime, name: &str) -> Result<Outcome, Fail> {
+    let ty = Held(type_named(rt.alloc(), name)?);
+    registered!(rt; registry, known => registry.0.register_type(&ty.0, &known.0))
+}
+
+/// Registers a type that the registry has, under a catalogue without descriptions.
+pub fn register_known_type(rt: &HostRuntime, name: &str) -> Result<Outcome, Fail> {
+    let ty = Held(type_named(rt.alloc(), name)?);
+    let mut registry = Held(described_registry_of(rt.alloc(), name)?);
+    let nothing = Held(Catalogue::new(rt.alloc()));
+    let before = descriptions(rt.alloc(), &registry.0);
+    let returned = marked!(rt; registry.0.register_type(&ty.0, &nothing.0));
+    let after = descriptions(rt.alloc(), &registry.0);
+    Outcome::lending(before, after, encoded(rt.alloc(), returned))
+}
+
+/// `bool`, the type of this name, and `String`.
+pub fn three(alloc: Global, name: &str) -> Result<Vec<MetaType>, Fail> {
+    let named = Held(type_named(alloc, name)?);
+    let two = with(tuple_meta_type!(alloc; bool), Ok(named.into_inner()));
+    Ok(with(two, MetaType::new::<String>(alloc))?)
+}
+
+/// Registers three types.
+pub fn register_types(rt: &HostRuntime, name: &str) -> Result<Outcome, Fail> {
+    let types = Held(three(rt.alloc(), name)?);
+    registered!(
+        rt;
+        registry, known => registry.0.register_types(types.into_inner(), &known.0), listed
+    )
+}
+
+/// Registers three types that stay where they are.
+pub fn register_all(rt: &HostRuntime, name: &str) -> Result<Outcome, Fail> {
+    let types = Held(three(rt.alloc(), name)?);
+    registered!(rt; registry, known => registry.0.register_all(&types.0, &known.0), listed)
+}
+
+/// Two fields, of which the second is one of a type that is not described where the name says so.
+fn two_fields(alloc: Global, name: &str) -> Result<Vec<Field>, AllocError> {
+    let first = list_of(alloc, documented_field(alloc)?);
+    match name {
+        "two fields" => with(first, documented_field(alloc)),
+        _ => with(first, unnamed_field::<Missing>(alloc)),
+    }
+}
+
+/// Converts two fields.
+pub fn map_into_portable(rt: &HostRuntime, name: &str) -> Result<Outcome, Fail> {
+    let fields = Held(two_fields(rt.alloc(), name)?);
+    registered!(
+        rt;
+        registry, known => registry.0.map_into_portable(fields.into_inner(), &known.0), listed
+    )
+}
+
+/// Converts a value by a catalogue.
+pub fn into_portable<T: IntoPortable + Drop>(
+    rt: &HostRuntime,
+    known: &Catalogue,
+    value: T,
+) -> Result<Outcome, Fail>
+where
+    T::Output: Scale,
+{
+    registered!(rt; registry, described => value.into_portable(rt.alloc(), &mut registry.0, known))
+}
+
+/// Makes the table of a registry.
+pub fn from_registry(rt: &HostRuntime, name: &str) -> Result<Outcome, Fail> {
+    let registry = Held(described_registry_of(rt.alloc(), name)?);
+    let returned = marked!(rt; PortableRegistry::from_registry(rt.alloc(), &registry.0));
+    Outcome::of(encoded(rt.alloc(), returned))
+}
+
+/// Makes the table of a registry that is finished.
+pub fn from_finished(rt: &HostRuntime, name: &str) -> Result<Outcome, Fail> {
+    let registry = Held(described_registry_of(rt.alloc(), name)?);
+    let returned = marked!(rt; PortableRegistry::from_finished(rt.alloc(), registry.into_inner()));
+    Outcome::of(encoded(rt.alloc(), returned))
+}
+
+/// Takes the descriptions out of a registry.
+pub fn into_types(rt: &HostRuntime, name: &str) -> Result<Outcome, Fail> {
+    let registry = Held(described_registry_of(rt.alloc(), name)?);
+    let types = marked!(rt; Items::from(registry.into_inner().into_types()));
+    Outcome::of(done(digits(rt.alloc(), &types)))
+}
+
+/// Goes over the descriptions of a registry, which are shown with their ids, and compares it with
+/// another.
+pub fn look(rt: &HostRuntime, name: &str) -> Result<Outcome, Fail> {
+    let known = Held(catalogue(rt.alloc())?);
+    let registry = Held(registry_of(rt.alloc(), &known.0, name)?);
+    let other = Held(registry_of_u8(rt.alloc(), &known.0)?);
+    begin(rt);
+    let same = registry.0 == other.0;
+    let mut count = 0u32;
+    for _ in registry.0.types() {
+        count = count.saturating_add(1);
+    }
+    end(rt);
+    let types = numbered(rt.alloc(), &registry.0)?;
+    Outcome::of(done(format!(in rt.alloc(); "{count} {same}{types}")))
 }

@@ -3,7 +3,6 @@
 #![tactic(auto)]
 
 pub mod catalogues;
-pub mod conversions;
 pub mod errors;
 pub mod identities;
 pub mod nested;

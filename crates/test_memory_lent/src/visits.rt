@@ -1,7 +1,9 @@
-//! Values that are shown to a visitor up to a limit.
-use crate::events::Words;
+//! Values that are shown to a visitor, whole or up to a limit.
 use scale_info::form::PortableForm;
-use scale_info::visit::{EventVisitor, ValueEvent, ValueVisitor, WithinError, visit_value_within};
+use scale_info::visit::{
+    EventVisitor, ValueEvent, ValueVisitor, VisitError, WithinError, visit_events,
+    visit_value_within,
+};
 use scale_info::{Field, Variant};
 use std::alloc::{AllocError, Global};
 use std::fmt::Debug;
@@ -12,6 +14,90 @@ use test_memory_common::answers::{Answer, done, failed};
 use test_memory_common::inputs::table_of;
 use test_memory_common::marked;
 use test_memory_common::outcomes::Outcome;
+
+/// Writes a word for each event.
+#[derive(Drop)]
+struct Words {
+    alloc: Global,
+    text: String,
+}
+
+impl Words {
+    /// No words yet.
+    fn new(alloc: Global) -> Words {
+        let text = String::new(alloc);
+        Words { alloc, text }
+    }
+
+    /// The words so far.
+    fn text(&self) -> &str {
+        self.text.as_str()
+    }
+}
+
+/// The name of a field, or a mark that it has none.
+fn name_of(field: &Field<PortableForm>) -> &str {
+    match &field.name {
+        Some(name) => name.as_str(),
+        None => "_",
+    }
+}
+
+/// The word of an event.
+fn word(alloc: Global, event: ValueEvent<'_>) -> Result<String, AllocError> {
+    match event {
+        ValueEvent::Truth(value) => format!(in alloc; "{value}"),
+        ValueEvent::Unsigned(value) => format!(in alloc; "{value}"),
+        ValueEvent::Signed(value) => format!(in alloc; "{value}"),
+        ValueEvent::Text(value) => format!(in alloc; "{value:?}"),
+        ValueEvent::Bytes(all) => format!(in alloc; "{all:?}"),
+        ValueEvent::BeginList(count) => format!(in alloc; "list({count}"),
+        ValueEvent::BeginRecord(fields) => format!(in alloc; "record({}", fields.len()),
+        ValueEvent::BeginVariant { variant, .. } => {
+            format!(in alloc; "{}({}", variant.name.as_str(), variant.index)
+        }
+        ValueEvent::Field { field, .. } => format!(in alloc; "{}:", name_of(field)),
+        _ => String::from_str(alloc, ")"),
+    }
+}
+
+impl EventVisitor for Words {
+    type Error = AllocError;
+
+    ghost taken = { λ event old new. Unit {0} };
+
+    ghost refused = { λ event old e new. Unit {0} };
+
+    fn event(&mut self, event: ValueEvent<'_>) -> Result<(), AllocError> {
+        let word = word(self.alloc, event)?;
+        self.text.push_str(word.as_str())?;
+        self.text.push_str(" ")
+    }
+}
+
+/// The outcome of a visit: a word for each event, and what is left.
+fn visited(
+    alloc: Global,
+    returned: Result<&[u8], VisitError<AllocError>>,
+    text: &str,
+) -> Result<Answer, AllocError> {
+    match returned {
+        Ok(rest) => done(format!(in alloc; "{text}then {rest:?}")),
+        Err(VisitError::Failed(why)) => failed(alloc, &why),
+        Err(VisitError::Stopped(error)) => failed(alloc, &error),
+    }
+}
+
+/// Shows a visitor the value of a row.
+pub fn events(rt: &HostRuntime, row: &str) -> Result<Outcome, Fail> {
+    let alloc = rt.alloc();
+    let (id, table, input) = parts_of(row)?;
+    let (id, input): (u32, Vec<u8>) = (id.parse()?, row_bytes(alloc, input)?);
+    let table = Held(table_of(alloc, table)?);
+    let mut words = Words::new(alloc);
+    let returned = marked!(rt; visit_events(&table.0, id, &input, &mut words));
+    Outcome::of(visited(alloc, returned, words.text()))
+}
 
 /// Why the visitor stops.
 #[derive(Debug, Drop)]
@@ -118,8 +204,8 @@ fn ended<E: Debug>(alloc: Global, text: &str, why: &E) -> Result<Answer, AllocEr
     Ok(Answer::Failed(format!(in alloc; "{text}then {why:?}")?))
 }
 
-/// The outcome of a visit: a word for each event, and what is left, or why it ended.
-fn answer(
+/// The outcome of a visit up to a limit: a word for each event, and what is left, or why it ended.
+fn visited_within(
     alloc: Global,
     returned: Result<&[u8], WithinError<Stop>>,
     text: &str,
@@ -144,7 +230,7 @@ fn bounds_of(ids: &str) -> Result<(u32, u64, u64), Fail> {
 }
 
 /// Shows a visitor the value of a row up to a limit.
-pub fn visit(rt: &HostRuntime, row: &str) -> Result<Outcome, Fail> {
+pub fn within(rt: &HostRuntime, row: &str) -> Result<Outcome, Fail> {
     let alloc = rt.alloc();
     let (ids, table, input) = parts_of(row)?;
     let (id, limit, left) = bounds_of(ids)?;
@@ -152,5 +238,5 @@ pub fn visit(rt: &HostRuntime, row: &str) -> Result<Outcome, Fail> {
     let words = Words::new(alloc);
     let mut first = FirstWords { words, left };
     let returned = marked!(rt; visit_value_within(&table.0, id, limit, &input, &mut first));
-    Outcome::of(answer(alloc, returned, first.words.text()))
+    Outcome::of(visited_within(alloc, returned, first.words.text()))
 }

@@ -1,4 +1,4 @@
-//! Tables as bytes, and their copies.
+//! Tables: as bytes, their copies, what they have, and how they compare.
 use scale_info::impls::Compact;
 use scale_info::{DecodeError, PortableRegistry, Scale, TryClone};
 use std::alloc::{AllocError, Global};
@@ -6,6 +6,7 @@ use std::test::Fail;
 use test_common::held::Held;
 use test_memory_common::answers::{Answer, digits, done, encoded, failed};
 use test_memory_common::inputs::{bytes_of, table_of};
+use test_memory_common::marks::{begin, end};
 use test_memory_common::outcomes::Outcome;
 use test_memory_common::{appended, marked};
 
@@ -65,4 +66,42 @@ pub fn try_clone_entries(rt: &HostRuntime, row: &str) -> Result<Outcome, Fail> {
     let table = Held(table_of(rt.alloc(), row)?);
     let returned = marked!(rt; table.0.types.try_clone(rt.alloc()));
     Outcome::of(encoded(rt.alloc(), returned))
+}
+
+/// Asks a table for what it has.
+pub fn look(rt: &HostRuntime, row: &str) -> Result<Outcome, Fail> {
+    let table = Held(table_of(rt.alloc(), row)?);
+    begin(rt);
+    let (len, is_empty, is_closed) = (table.0.len(), table.0.is_empty(), table.0.is_closed());
+    let (first, types) = (table.0.resolve(0).is_some(), table.0.types().len());
+    let mut entries = 0u32;
+    for _ in table.0.entries() {
+        entries = entries.saturating_add(1);
+    }
+    end(rt);
+    Outcome::of(done(format!(in rt.alloc();
+        "{len} {is_empty} {is_closed} {first} {entries} {types}"
+    )))
+}
+
+/// Compares a table with an equal one, and with the empty one.
+pub fn compare(rt: &HostRuntime, row: &str) -> Result<Outcome, Fail> {
+    let left = Held(table_of(rt.alloc(), row)?);
+    let right = Held(table_of(rt.alloc(), row)?);
+    let empty = Held(table_of(rt.alloc(), "empty")?);
+    begin(rt);
+    let (same, other) = (left.0 == right.0, left.0 == empty.0);
+    end(rt);
+    Outcome::of(done(format!(in rt.alloc(); "{same} {other}")))
+}
+
+/// How the first descriptions of two tables compare.
+pub fn order(rt: &HostRuntime, row: &str) -> Result<Outcome, Fail> {
+    let left = Held(table_of(rt.alloc(), row)?);
+    let right = Held(table_of(rt.alloc(), "docs of a type, a variant and a field")?);
+    let (Some(left), Some(right)) = (left.0.resolve(0), right.0.resolve(1)) else {
+        return Err(Fail::new("the table is empty"));
+    };
+    let order = marked!(rt; left.cmp(right));
+    Outcome::of(done(format!(in rt.alloc(); "{order:?}")))
 }
