@@ -15,6 +15,7 @@ NAMED_FIELD = Field("n", 3, "N", ["d", ""])
 TWO_FIELDS = [Field(None, 1), Field(None, 2)]
 ONE_VARIANT = Variant("V", TWO_FIELDS, 255, ["v"])
 SEQUENCE = Description([], [], Definition("sequence", types=[2]))
+DESCRIBED = Description(["p"], [], SEQUENCE.definition, ["d"])
 DEFINITIONS = {
     "composite": Definition("composite", fields=[Field(None, 1)]),
     "enum": Definition("variant", variants=[Variant("V", [], 0), Variant("W", [], 1)]),
@@ -129,37 +130,6 @@ def unit(path, kind="composite", params=(), docs=()):
     return converted(lambda: Description(path, list(params), Definition(kind), list(docs)), DESCRIPTION.write)
 
 
-def empty_built(row):
-    """What is built of nothing or little."""
-    return {
-        "fields": done("00 00 00"),
-        "field": written(FIELD, Field("n", 7, "N")),
-        "variant": written(list_of(FIELD), [Field(None, 3)]),
-        "composite": unit(DEMO_PATH, params=PARAMETERS),
-        "variants": unit(DEMO_PATH, "variant"),
-        "portable composite": unit(["hello", "Planet"]),
-        "tuple": definition_converted(Definition("tuple")),
-    }[row]
-
-
-def moved(row):
-    """What is moved into a part or a list."""
-    described = Description(["p"], [], SEQUENCE.definition, ["d"])
-    return {
-        "field": written(FIELD, Field("n", 3, None, ["d"])),
-        "variant": written(VARIANT, Variant("V", TWO_FIELDS, 7, ["v"])),
-        "parameter": written(PARAMETER, Parameter("T", 7)),
-        "entry": written(ENTRY, Entry(9, SEQUENCE)),
-        "definitions": written(DEFINITION, *SIX),
-        "definitions of lists": written(DEFINITION, *OF_LISTS),
-        "description": done(f"{PARAMETER.write(Parameter('T', 7)).hex()} {DESCRIPTION.write(described).hex()}"),
-        "lists": done("[7, 8] a text"),
-        "identity": done(debug(term("array", nums=[4]))),
-        "empty parts": done("true 0 None"),
-        "empty collections": done("0 0 0 0"),
-    }[row]
-
-
 def types_text(*names):
     """Types, each after a blank."""
     return done("".join(f" {id_text(known(type_named(it)))}" for it in names))
@@ -170,22 +140,9 @@ def parameters_text(**names):
     return done(params_text([Parameter(name, known(type_named(it))) for name, it in names.items()]))
 
 
-def list_made(row):
-    """A list of types or of parameters."""
-    three = {"T": "u8", "U": "u32", "V": "Vec<u32>"}
-    return {
-        "tuple_meta_type!": types_text("i32", "[u8; 32]", "String", "Vec<u32>"),
-        "named_type_params!": parameters_text(**three),
-        "type_params!": parameters_text(**three),
-        "with_type": types_text("u32", "Vec<u32>"),
-        "with_type_param": parameters_text(T="u8", U="Vec<u32>"),
-    }[row]
-
-
-def variant_added(row):
+def enum_of(variant):
     """The enum of a builder with one variant."""
-    some_variant = Variant("Some", [Field(None, known(type_named("Vec<u32>")))], 1)
-    return definition_converted(Definition("variant", variants=[Variant("None", [], 0) if row == "unit" else some_variant]))
+    return definition_converted(Definition("variant", variants=[variant]))
 
 
 def struct_built(row):
@@ -229,22 +186,45 @@ def form_copied(row):
 
 
 CALLS = {
-    "look_at": part_asked,
-    "look_at_definition": lambda row: done(definition_asked(DEFINITIONS[row])),
-    "look_at_description": lambda row: done(head_asked(description_named(row))),
-    "try_clone_portable": portable_copied,
-    "try_clone_meta": meta_copied,
-    "build_empty": empty_built,
-    "move_into": moved,
-    "list": list_made,
-    "variant": variant_added,
-    "build_struct": struct_built,
-    "build_enum": enum_built,
-    "Items::push": pushed,
-    "Items::try_clone": list_copied,
-    "Form::copy": form_copied,
-    "TypeBuilder::docs": lambda _: unit(DEMO_PATH, docs=["a struct", ""]),
-    "Type::new_portable": lambda _: written(DESCRIPTION, Description(["p", "q"], [Parameter("T", 7)], SEQUENCE.definition, ["d", "e"])),
-    "TypeDefComposite::new": lambda _: definition_converted(Definition("composite", fields=[DOCUMENTED_FIELD])),
-    "TypeDefVariant::new": lambda _: definition_converted(Definition("variant", variants=[DOCUMENTED_VARIANT])),
+    "looks.part": part_asked,
+    "looks.definition": lambda row: done(definition_asked(DEFINITIONS[row])),
+    "looks.description": lambda row: done(head_asked(description_named(row))),
+    "copies.portable_part": portable_copied,
+    "copies.meta_part": meta_copied,
+    "fields.empty": lambda _: done("00 00 00"),
+    "fields.portable_named": lambda _: written(list_of(FIELD), [Field("data", 3)]),
+    "fields.portable_unnamed": lambda _: written(list_of(FIELD), [Field(None, 3)]),
+    "fields.moved": lambda _: written(FIELD, Field("n", 7, "N")),
+    "variants.moved": lambda _: written(list_of(FIELD), [Field(None, 3)]),
+    "variants.variant": lambda _: enum_of(Variant("Some", [Field(None, known(type_named("Vec<u32>")))], 1)),
+    "variants.variant_unit": lambda _: enum_of(Variant("None", [], 0)),
+    "descriptions.composite": lambda _: unit(DEMO_PATH, params=PARAMETERS),
+    "descriptions.variants": lambda _: unit(DEMO_PATH, "variant"),
+    "descriptions.portable_composite": lambda _: unit(["hello", "Planet"]),
+    "descriptions.unit_tuple": lambda _: definition_converted(Definition("tuple")),
+    "moves.field": lambda _: written(FIELD, Field("n", 3, None, ["d"])),
+    "moves.variant": lambda _: written(VARIANT, Variant("V", TWO_FIELDS, 7, ["v"])),
+    "moves.parameter": lambda _: written(PARAMETER, Parameter("T", 7)),
+    "moves.entry": lambda _: written(ENTRY, Entry(9, SEQUENCE)),
+    "moves.definitions": lambda _: written(DEFINITION, *SIX),
+    "moves.definitions_of_lists": lambda _: written(DEFINITION, *OF_LISTS),
+    "moves.description": lambda _: done(f"{PARAMETER.write(Parameter('T', 7)).hex()} {DESCRIPTION.write(DESCRIBED).hex()}"),
+    "moves.lists": lambda _: done("[7, 8] a text"),
+    "moves.identity": lambda _: done(debug(term("array", nums=[4]))),
+    "moves.empty_parts": lambda _: done("true 0 None"),
+    "moves.empty_collections": lambda _: done("0 0 0 0"),
+    "macros.tuple_meta_type!": lambda _: types_text("i32", "[u8; 32]", "String", "Vec<u32>"),
+    "macros.named_type_params!": lambda _: parameters_text(T="u8", U="u32", V="Vec<u32>"),
+    "macros.type_params!": lambda _: parameters_text(T="u8", U="u32", V="Vec<u32>"),
+    "macros.with_type": lambda _: types_text("u32", "Vec<u32>"),
+    "macros.with_type_param": lambda _: parameters_text(T="u8", U="Vec<u32>"),
+    "descriptions.generic_struct": struct_built,
+    "descriptions.enum": enum_built,
+    "lists.push": pushed,
+    "copies.Items": list_copied,
+    "copies.Form": form_copied,
+    "descriptions.docs": lambda _: unit(DEMO_PATH, docs=["a struct", ""]),
+    "constructors.Type::new_portable": lambda _: written(DESCRIPTION, Description(["p", "q"], [Parameter("T", 7)], SEQUENCE.definition, ["d", "e"])),
+    "constructors.TypeDefComposite::new": lambda _: definition_converted(Definition("composite", fields=[DOCUMENTED_FIELD])),
+    "constructors.TypeDefVariant::new": lambda _: definition_converted(Definition("variant", variants=[DOCUMENTED_VARIANT])),
 }

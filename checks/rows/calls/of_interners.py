@@ -72,13 +72,14 @@ def numbers_truncated(row):
 
 
 CALLS = {
-    "intern": lambda row: done(all_interned([], bracketed(row))[1]),
+    "interners.intern": lambda row: done(all_interned([], bracketed(row))[1]),
     **dict.fromkeys(
-        ("intern_or_get", "intern_or_get_known", "intern_copy", "intern_copy_known"), lambda row: one_interned(row, FOUR, shown),
+        ("interners.intern_or_get", "interners.intern_or_get_known", "interners.intern_copy", "interners.intern_copy_known"),
+        lambda row: one_interned(row, FOUR, shown),
     ),
-    "intern_or_get_after": lambda row: one_interned(row, first_numbers(int(row)), counted),
-    "look_at_interner": lambda row: looked_up(row, FOUR, FOUR),
-    "compare_interners": compared,
-    "truncate_interner": truncated,
-    "truncate_numbers": numbers_truncated,
+    "interners.intern_or_get_after": lambda row: one_interned(row, first_numbers(int(row)), counted),
+    "interners.look": lambda row: looked_up(row, FOUR, FOUR),
+    "interners.compare": compared,
+    "interners.truncate": truncated,
+    "interners.truncate_numbers": numbers_truncated,
 }

@@ -131,12 +131,12 @@ def value_built(row, built):
 
 
 BUILT = {
-    "Dyn::record": ("record", [("start", ("unsigned", 3)), ("end", ("unsigned", 5))]),
-    "Dyn::unnamed": ("record", [(None, ("unsigned", 1))]),
-    "Dyn::variant": ("variant", "B", 3, [("x", ("bool", True))]),
-    "Dyn::unnamed_variant": ("variant", "Some", 1, [(None, ("list", [("unsigned", 5), ("bool", True)]))]),
-    "Dyn::text": ("text", "hi"),
-    "Dyn::bytes": ("list", [("unsigned", 1), ("unsigned", 2), ("unsigned", 3)]),
+    "values.record": ("record", [("start", ("unsigned", 3)), ("end", ("unsigned", 5))]),
+    "values.unnamed": ("record", [(None, ("unsigned", 1))]),
+    "values.variant": ("variant", "B", 3, [("x", ("bool", True))]),
+    "values.unnamed_variant": ("variant", "Some", 1, [(None, ("list", [("unsigned", 5), ("bool", True)]))]),
+    "values.text": ("text", "hi"),
+    "values.bytes": ("list", [("unsigned", 1), ("unsigned", 2), ("unsigned", 3)]),
 }
 
 
@@ -263,28 +263,28 @@ def error_text(row):
 
 
 CALLS = {
-    "Path::new": path_replaced,
-    "Path::new_with_replace": path_replaced,
-    "Path::from_segments": lambda row: path_made(lambda: paths.of_segments(bracketed(row))),
-    "Path::from_segments_unchecked": lambda row: done(PATH.write(bracketed(row)).hex()),
-    "Path::ident": lambda row: done(some((bracketed(row) or [None])[-1], text)),
-    "is_rust_identifier": lambda row: done(truth(paths.is_identifier(row))),
-    "compare_tables": tables_compared,
-    "order_descriptions": first_ordered,
-    "order": all_ordered,
-    "compare_descriptions": descriptions_compared,
-    "try_clone_description": lambda row: copied(row, DESCRIPTION, lambda ty: ty),
-    "try_clone_definition": lambda row: copied(row, DEFINITION, lambda ty: ty.definition),
-    "Type::try_clone": lambda row: converted(lambda: description_named(row), DESCRIPTION.write),
-    "TypeDef::try_clone": lambda row: converted(
+    "paths.new": path_replaced,
+    "paths.new_with_replace": path_replaced,
+    "paths.from_segments": lambda row: path_made(lambda: paths.of_segments(bracketed(row))),
+    "paths.from_segments_unchecked": lambda row: done(PATH.write(bracketed(row)).hex()),
+    "paths.ident": lambda row: done(some((bracketed(row) or [None])[-1], text)),
+    "looks.is_rust_identifier": lambda row: done(truth(paths.is_identifier(row))),
+    "tables.compare": tables_compared,
+    "tables.order": first_ordered,
+    "orders.compare": all_ordered,
+    "looks.compare_descriptions": descriptions_compared,
+    "copies.description": lambda row: copied(row, DESCRIPTION, lambda ty: ty),
+    "copies.definition": lambda row: copied(row, DEFINITION, lambda ty: ty.definition),
+    "copies.Type": lambda row: converted(lambda: description_named(row), DESCRIPTION.write),
+    "copies.TypeDef": lambda row: converted(
         lambda: Description([], [], description_named(row).definition), lambda ty: DEFINITION.write(ty.definition),
     ),
     **{call: lambda row, built=built: value_built(row, built) for call, built in BUILT.items()},
-    "decode_as": decoded_as,
-    "encode_as": program_value_encoded,
-    "build_portable": portable_built,
-    "TypeDefComposite::new_portable": lambda row: definition_made("composite", row),
-    "TypeDefVariant::new_portable": lambda row: definition_made("variant", row),
-    "TypeDefTuple::new_portable": lambda row: definition_made("tuple", row),
-    "error": error_text,
+    "typed.decode_as": decoded_as,
+    "typed.encode_as": program_value_encoded,
+    "descriptions.portable_struct": portable_built,
+    "constructors.TypeDefComposite::new_portable": lambda row: definition_made("composite", row),
+    "constructors.TypeDefVariant::new_portable": lambda row: definition_made("variant", row),
+    "constructors.TypeDefTuple::new_portable": lambda row: definition_made("tuple", row),
+    "errors.display": error_text,
 }

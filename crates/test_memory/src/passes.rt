@@ -108,14 +108,14 @@ fn visited_as_part(rt: &HostRuntime, kind: &str, input: &[u8]) -> Result<Outcome
 }
 
 /// Has the passes visit a value. A row is its type, a semicolon and a name, a colon and the bytes.
-pub fn pass(rt: &HostRuntime, row: &str) -> Result<Outcome, Fail> {
+fn pass(rt: &HostRuntime, row: &str) -> Result<Outcome, Fail> {
     let (name, input) = parted(row, ':')?;
     let (kind, _) = parted(name, ';')?;
     visited_as(rt, kind, &bytes_of(rt.alloc(), input)?)
 }
 
 /// Indexes entries. A row is their number, a colon and the bytes.
-pub fn index(rt: &HostRuntime, row: &str) -> Result<Outcome, Fail> {
+fn index(rt: &HostRuntime, row: &str) -> Result<Outcome, Fail> {
     let (count, input) = parted(row, ':')?;
     let count: u32 = count.parse()?;
     let input = bytes_of(rt.alloc(), input)?;
@@ -130,4 +130,13 @@ pub fn index(rt: &HostRuntime, row: &str) -> Result<Outcome, Fail> {
         Err(error) => failed(rt.alloc(), &error),
     };
     Outcome::of(answer)
+}
+
+/// Makes the call of this name, which passes over bytes.
+pub fn call(rt: &HostRuntime, name: &str, input: &str) -> Result<Outcome, Fail> {
+    match name {
+        "pass" => pass(rt, input),
+        "index_entries" => index(rt, input),
+        _ => Err(Fail::new("no call has this name")),
+    }
 }

@@ -18,7 +18,7 @@ fn read(alloc: Global, row: &str) -> Result<(&str, Held<PortableRegistry>), Fail
 }
 
 /// Writes a type.
-pub fn describe_type(rt: &HostRuntime, row: &str) -> Result<Outcome, Fail> {
+fn describe_type(rt: &HostRuntime, row: &str) -> Result<Outcome, Fail> {
     let (id, table) = read(rt.alloc(), row)?;
     let id: u32 = id.parse()?;
     let returned = marked!(rt; describe(rt.alloc(), &table.0, id));
@@ -26,7 +26,7 @@ pub fn describe_type(rt: &HostRuntime, row: &str) -> Result<Outcome, Fail> {
 }
 
 /// Writes the name of a type.
-pub fn name_type(rt: &HostRuntime, row: &str) -> Result<Outcome, Fail> {
+fn name_type(rt: &HostRuntime, row: &str) -> Result<Outcome, Fail> {
     let (id, table) = read(rt.alloc(), row)?;
     let id: u32 = id.parse()?;
     let returned = marked!(rt; name_of(rt.alloc(), &table.0, id));
@@ -34,7 +34,7 @@ pub fn name_type(rt: &HostRuntime, row: &str) -> Result<Outcome, Fail> {
 }
 
 /// Appends a type to a text.
-pub fn append_type(rt: &HostRuntime, row: &str) -> Result<Outcome, Fail> {
+fn append_type(rt: &HostRuntime, row: &str) -> Result<Outcome, Fail> {
     let (id, table) = read(rt.alloc(), row)?;
     let id: u32 = id.parse()?;
     let mut out = String::from_str(rt.alloc(), "// ")?;
@@ -45,7 +45,7 @@ pub fn append_type(rt: &HostRuntime, row: &str) -> Result<Outcome, Fail> {
 }
 
 /// Finds types by a path, or by a part of one.
-pub fn find(rt: &HostRuntime, name: &str, row: &str) -> Result<Outcome, Fail> {
+fn find(rt: &HostRuntime, name: &str, row: &str) -> Result<Outcome, Fail> {
     let (path, table) = read(rt.alloc(), row)?;
     let returned = match name {
         "find_by_path" => marked!(rt; find_by_path(rt.alloc(), &table.0, path)),
@@ -55,7 +55,7 @@ pub fn find(rt: &HostRuntime, name: &str, row: &str) -> Result<Outcome, Fail> {
 }
 
 /// Appends the graph of what ids reach to a text: before the semicolon stand the ids.
-pub fn draw(rt: &HostRuntime, row: &str) -> Result<Outcome, Fail> {
+fn draw(rt: &HostRuntime, row: &str) -> Result<Outcome, Fail> {
     let (ids, table) = parted(row, ';')?;
     let ids = numbers(rt.alloc(), ids)?;
     let table = Held(table_of(rt.alloc(), table.trim())?);
@@ -64,4 +64,16 @@ pub fn draw(rt: &HostRuntime, row: &str) -> Result<Outcome, Fail> {
     let returned = marked!(rt; append_graph(rt.alloc(), &table.0, &ids, &mut out));
     let after = format!(in rt.alloc(); "{out:?}");
     Outcome::lending(before, after, shown(rt.alloc(), returned))
+}
+
+/// Makes the call of this name, which writes or finds types.
+pub fn call(rt: &HostRuntime, name: &str, input: &str) -> Result<Outcome, Fail> {
+    match name {
+        "describe" => describe_type(rt, input),
+        "append_description" => append_type(rt, input),
+        "name_of" => name_type(rt, input),
+        "find_by_path" | "find_containing" => find(rt, name, input),
+        "append_graph" => draw(rt, input),
+        _ => Err(Fail::new("no call has this name")),
+    }
 }

@@ -66,12 +66,20 @@ fn run_over(rt: &HostRuntime, words: &str, mut reader: HaltingReader) -> Result<
 
 /// Runs the program. A row is the arguments, a `<` and the input; without the last two the reader
 /// fails when it is asked.
-pub fn run(rt: &HostRuntime, row: &str) -> Result<Outcome, Fail> {
+fn run(rt: &HostRuntime, row: &str) -> Result<Outcome, Fail> {
     match row.split_once('<') {
         Some((words, input)) => {
             let bytes = bytes_of(rt.alloc(), input)?;
             run_over(rt, words, HaltingReader::ending(&bytes, 1))
         }
         None => run_over(rt, row, HaltingReader::failing(&[])),
+    }
+}
+
+/// Makes the call of this name, which runs a program.
+pub fn call(rt: &HostRuntime, name: &str, input: &str) -> Result<Outcome, Fail> {
+    match name {
+        "type_table" => run(rt, input),
+        _ => Err(Fail::new("no call has this name")),
     }
 }

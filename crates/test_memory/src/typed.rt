@@ -44,12 +44,13 @@ fn called<T: DecodeAs + EncodeAs>(
 ) -> Result<Outcome, Fail> {
     match name {
         "decode_as" => decoded::<T>(rt, row),
-        _ => encoded::<T>(rt, row),
+        "encode_as" => encoded::<T>(rt, row),
+        _ => Err(Fail::new("no call has this name")),
     }
 }
 
 /// Makes the call of this name. A row is a type of the program, a semicolon, and then as for
-/// `decode_value` and `encode_value`.
+/// `values.decode` and `values.encode`.
 pub fn call(rt: &HostRuntime, name: &str, row: &str) -> Result<Outcome, Fail> {
     let (kind, row) = parted(row, ';')?;
     match kind {

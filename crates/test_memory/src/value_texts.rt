@@ -15,7 +15,7 @@ use test_memory_common::{answered, marked};
 use test_memory_tables::json::appended;
 
 /// Appends the text of the value of a row to one byte.
-pub fn append(rt: &HostRuntime, row: &str) -> Result<Outcome, Fail> {
+fn append(rt: &HostRuntime, row: &str) -> Result<Outcome, Fail> {
     let given = Given::read(rt.alloc(), row)?;
     let (table, id, input) = (&given.table.0, given.id, given.input.as_slice());
     let mut out = output(rt.alloc())?;
@@ -26,7 +26,7 @@ pub fn append(rt: &HostRuntime, row: &str) -> Result<Outcome, Fail> {
 }
 
 /// The text of the bytes of a row as one value.
-pub fn text(rt: &HostRuntime, row: &str) -> Result<Outcome, Fail> {
+fn text(rt: &HostRuntime, row: &str) -> Result<Outcome, Fail> {
     let given = Given::read(rt.alloc(), row)?;
     let table = &given.table.0;
     let returned = marked!(rt; value_json(rt.alloc(), table, given.id, &given.input));
@@ -38,7 +38,7 @@ pub fn text(rt: &HostRuntime, row: &str) -> Result<Outcome, Fail> {
 }
 
 /// Whether each name comes once in the value of a row.
-pub fn own_names(rt: &HostRuntime, row: &str) -> Result<Outcome, Fail> {
+fn own_names(rt: &HostRuntime, row: &str) -> Result<Outcome, Fail> {
     let given = Given::read(rt.alloc(), row)?;
     let (value, _) = decode_value(rt.alloc(), &given.table.0, given.id, &given.input)?;
     let value = Held(value);
@@ -61,7 +61,7 @@ fn digits(
 }
 
 /// Takes a value from the tree of a text, which a row has in the place of an input.
-pub fn take(rt: &HostRuntime, row: &str) -> Result<Outcome, Fail> {
+fn take(rt: &HostRuntime, row: &str) -> Result<Outcome, Fail> {
     let (id, table, text) = parts_of(row)?;
     let id: u32 = id.parse()?;
     let table = Held(table_of(rt.alloc(), table)?);
@@ -71,4 +71,15 @@ pub fn take(rt: &HostRuntime, row: &str) -> Result<Outcome, Fail> {
         from_json(rt.alloc(), &table.0, id, &tree.0);
         value => done(digits(rt.alloc(), &table.0, id, &value))
     )
+}
+
+/// Makes the call of this name on a value as JSON.
+pub fn call(rt: &HostRuntime, name: &str, input: &str) -> Result<Outcome, Fail> {
+    match name {
+        "append_value_json" => append(rt, input),
+        "value_json" => text(rt, input),
+        "has_own_names" => own_names(rt, input),
+        "from_json" => take(rt, input),
+        _ => Err(Fail::new("no call has this name")),
+    }
 }

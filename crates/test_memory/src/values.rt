@@ -60,7 +60,7 @@ fn printed(alloc: Global, given: &Given, value: &Dyn) -> Result<Answer, Fail> {
 }
 
 /// Decodes the value of a row.
-pub fn decode(rt: &HostRuntime, row: &str) -> Result<Outcome, Fail> {
+fn decode(rt: &HostRuntime, row: &str) -> Result<Outcome, Fail> {
     let given = Given::read(rt.alloc(), row)?;
     let table = &given.table.0;
     let returned = marked!(rt; decode_value(rt.alloc(), table, given.id, &given.input));
@@ -92,7 +92,7 @@ pub fn lent_outcome(
 }
 
 /// Decodes the value of a row as one that borrows.
-pub fn decode_and_lend(rt: &HostRuntime, row: &str) -> Result<Outcome, Fail> {
+fn decode_and_lend(rt: &HostRuntime, row: &str) -> Result<Outcome, Fail> {
     let given = Given::read(rt.alloc(), row)?;
     let table = &given.table.0;
     let returned = marked!(rt; decode_lent(rt.alloc(), table, given.id, &given.input));
@@ -100,7 +100,7 @@ pub fn decode_and_lend(rt: &HostRuntime, row: &str) -> Result<Outcome, Fail> {
 }
 
 /// Copies the value of a row that borrows: whether the copy is the value that is decoded.
-pub fn copy_lent(rt: &HostRuntime, row: &str) -> Result<Outcome, Fail> {
+fn copy_lent(rt: &HostRuntime, row: &str) -> Result<Outcome, Fail> {
     let given = Given::read(rt.alloc(), row)?;
     let (lent, _) = decode_lent(rt.alloc(), &given.table.0, given.id, &given.input)?;
     Outcome::of(match marked!(rt; lent.to_dyn(rt.alloc())) {
@@ -120,7 +120,7 @@ pub fn ids_of(ids: &str) -> Result<(u32, u32), Fail> {
 }
 
 /// Appends the encoding of the value of a row to one byte.
-pub fn encode(rt: &HostRuntime, row: &str) -> Result<Outcome, Fail> {
+fn encode(rt: &HostRuntime, row: &str) -> Result<Outcome, Fail> {
     let (ids, table, input) = parts_of(row)?;
     let (id, other) = ids_of(ids)?;
     let table = Held(table_of(rt.alloc(), table)?);
@@ -130,7 +130,7 @@ pub fn encode(rt: &HostRuntime, row: &str) -> Result<Outcome, Fail> {
 }
 
 /// Goes past the value of a row: what is left.
-pub fn skip(rt: &HostRuntime, row: &str) -> Result<Outcome, Fail> {
+fn skip(rt: &HostRuntime, row: &str) -> Result<Outcome, Fail> {
     let given = Given::read(rt.alloc(), row)?;
     let returned = marked!(rt; skip_value(&given.table.0, given.id, &given.input));
     Outcome::of(shown(rt.alloc(), returned))
@@ -164,23 +164,33 @@ fn unnamed_variant(rt: &HostRuntime) -> Result<Built, Fail> {
     Ok(marked!(rt; Dyn::unnamed_variant("Some", 1, values)))
 }
 
-/// Builds the value of this name: whether it is the one that is decoded of the row.
-pub fn build(rt: &HostRuntime, name: &str, row: &str) -> Result<Outcome, Fail> {
-    let given = Given::read(rt.alloc(), row)?;
-    let returned = match name {
-        "record" => record(rt)?,
-        "unnamed" => unnamed(rt)?,
-        "variant" => variant(rt)?,
-        "unnamed_variant" => unnamed_variant(rt)?,
-        "text" => marked!(rt; Dyn::text(rt.alloc(), "hi")),
-        "bytes" => marked!(rt; Dyn::bytes(rt.alloc(), &[1, 2, 3])),
-        _ => return Err(Fail::new("no value has this name")),
-    };
-    Outcome::of(match returned {
+/// Whether a value that was built is the one that is decoded of the row.
+fn built(rt: &HostRuntime, row: &str, returned: Built) -> Result<Outcome, Fail> {
+    match returned {
         Ok(value) => {
-            let is_same = given.is_decoded(rt.alloc(), &value)?;
-            done(format!(in rt.alloc(); "{is_same}"))
+            let value = Held(value);
+            let given = Given::read(rt.alloc(), row)?;
+            let is_same = given.is_decoded(rt.alloc(), &value.0)?;
+            Outcome::of(done(format!(in rt.alloc(); "{is_same}")))
         }
-        Err(error) => failed(rt.alloc(), &error),
-    })
+        Err(error) => Outcome::of(failed(rt.alloc(), &error)),
+    }
+}
+
+/// Makes the call of this name on a value, or builds one.
+pub fn call(rt: &HostRuntime, name: &str, input: &str) -> Result<Outcome, Fail> {
+    match name {
+        "decode" => decode(rt, input),
+        "decode_lent" => decode_and_lend(rt, input),
+        "to_dyn" => copy_lent(rt, input),
+        "encode" => encode(rt, input),
+        "skip" => skip(rt, input),
+        "record" => built(rt, input, record(rt)?),
+        "unnamed" => built(rt, input, unnamed(rt)?),
+        "variant" => built(rt, input, variant(rt)?),
+        "unnamed_variant" => built(rt, input, unnamed_variant(rt)?),
+        "text" => built(rt, input, marked!(rt; Dyn::text(rt.alloc(), "hi"))),
+        "bytes" => built(rt, input, marked!(rt; Dyn::bytes(rt.alloc(), &[1, 2, 3]))),
+        _ => Err(Fail::new("no call has this name")),
+    }
 }

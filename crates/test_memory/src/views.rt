@@ -20,7 +20,7 @@ use test_memory_tables::tables::with_rest;
 use test_memory_tables::walks::walked;
 
 /// Makes the view of a table, and leaves out what comes after it.
-pub fn new(rt: &HostRuntime, row: &str) -> Result<Outcome, Fail> {
+fn new(rt: &HostRuntime, row: &str) -> Result<Outcome, Fail> {
     let bytes = bytes_of(rt.alloc(), row)?;
     answered!(
         rt;
@@ -30,7 +30,7 @@ pub fn new(rt: &HostRuntime, row: &str) -> Result<Outcome, Fail> {
 }
 
 /// Makes the view of a table, and returns what comes after it.
-pub fn decode(rt: &HostRuntime, row: &str) -> Result<Outcome, Fail> {
+fn decode(rt: &HostRuntime, row: &str) -> Result<Outcome, Fail> {
     let bytes = bytes_of(rt.alloc(), row)?;
     answered!(
         rt;
@@ -40,7 +40,7 @@ pub fn decode(rt: &HostRuntime, row: &str) -> Result<Outcome, Fail> {
 }
 
 /// Makes the table of a view.
-pub fn to_owned(rt: &HostRuntime, row: &str) -> Result<Outcome, Fail> {
+fn to_owned(rt: &HostRuntime, row: &str) -> Result<Outcome, Fail> {
     let bytes = bytes_of(rt.alloc(), row)?;
     let view = TableView::new(rt.alloc(), &bytes)?;
     let returned = marked!(rt; view.try_to_owned(rt.alloc()));
@@ -60,7 +60,7 @@ fn found<T: Scale>(
 }
 
 /// Reads the description at an index.
-pub fn resolve(rt: &HostRuntime, row: &str) -> Result<Outcome, Fail> {
+fn resolve(rt: &HostRuntime, row: &str) -> Result<Outcome, Fail> {
     let (index, bytes) = indexed(rt.alloc(), row)?;
     let view = TableView::new(rt.alloc(), &bytes)?;
     let returned = marked!(rt; view.resolve(rt.alloc(), index));
@@ -68,7 +68,7 @@ pub fn resolve(rt: &HostRuntime, row: &str) -> Result<Outcome, Fail> {
 }
 
 /// Reads the entry at an index.
-pub fn entry(rt: &HostRuntime, row: &str) -> Result<Outcome, Fail> {
+fn entry(rt: &HostRuntime, row: &str) -> Result<Outcome, Fail> {
     let (index, bytes) = indexed(rt.alloc(), row)?;
     let view = TableView::new(rt.alloc(), &bytes)?;
     let returned = marked!(rt; view.entry(rt.alloc(), index as usize));
@@ -76,7 +76,7 @@ pub fn entry(rt: &HostRuntime, row: &str) -> Result<Outcome, Fail> {
 }
 
 /// Gathers the references of the entry at an index.
-pub fn references(rt: &HostRuntime, row: &str) -> Result<Outcome, Fail> {
+fn references(rt: &HostRuntime, row: &str) -> Result<Outcome, Fail> {
     let (index, bytes) = indexed(rt.alloc(), row)?;
     let view = TableView::new(rt.alloc(), &bytes)?;
     let returned = marked!(rt; view.references(rt.alloc(), index));
@@ -97,7 +97,7 @@ fn descriptions(
 }
 
 /// Lists the descriptions of a table.
-pub fn entries(rt: &HostRuntime, row: &str) -> Result<Outcome, Fail> {
+fn entries(rt: &HostRuntime, row: &str) -> Result<Outcome, Fail> {
     let bytes = bytes_of(rt.alloc(), row)?;
     let view = TableView::new(rt.alloc(), &bytes)?;
     let returned = marked!(rt; descriptions(rt.alloc(), &view));
@@ -105,13 +105,13 @@ pub fn entries(rt: &HostRuntime, row: &str) -> Result<Outcome, Fail> {
 }
 
 /// The ids and the bytes of a row, with a colon between them.
-pub fn ids_and_bytes(alloc: Global, row: &str) -> Result<(Vec<u32>, Vec<u8>), Fail> {
+fn ids_and_bytes(alloc: Global, row: &str) -> Result<(Vec<u32>, Vec<u8>), Fail> {
     let (ids, input) = parted(row, ':')?;
     Ok((numbers(alloc, ids)?, bytes_of(alloc, input.trim())?))
 }
 
 /// Numbers what entries reach: before the colon stand the roots.
-pub fn number(rt: &HostRuntime, row: &str) -> Result<Outcome, Fail> {
+fn number(rt: &HostRuntime, row: &str) -> Result<Outcome, Fail> {
     let (roots, bytes) = ids_and_bytes(rt.alloc(), row)?;
     let view = TableView::new(rt.alloc(), &bytes)?;
     let returned = marked!(rt; view.number(rt.alloc(), &roots));
@@ -128,7 +128,7 @@ fn words(alloc: Global, text: &str) -> Result<Vec<&str>, AllocError> {
 }
 
 /// Finds the first entry of a path, whose segments stand before the colon.
-pub fn find_by_path(rt: &HostRuntime, row: &str) -> Result<Outcome, Fail> {
+fn find_by_path(rt: &HostRuntime, row: &str) -> Result<Outcome, Fail> {
     let (path, input) = parted(row, ':')?;
     let (path, bytes) = (
         words(rt.alloc(), path)?,
@@ -140,7 +140,7 @@ pub fn find_by_path(rt: &HostRuntime, row: &str) -> Result<Outcome, Fail> {
 }
 
 /// Asks a view for what it has.
-pub fn look(rt: &HostRuntime, row: &str) -> Result<Outcome, Fail> {
+fn look(rt: &HostRuntime, row: &str) -> Result<Outcome, Fail> {
     let bytes = bytes_of(rt.alloc(), row)?;
     let view = TableView::new(rt.alloc(), &bytes)?;
     begin(rt);
@@ -165,7 +165,7 @@ fn definitions(alloc: Global, types: &LoadedTypes) -> Result<String, AllocError>
 }
 
 /// Loads what the types with these ids reach: before the colon stand the ids.
-pub fn load(rt: &HostRuntime, row: &str) -> Result<Outcome, Fail> {
+fn load(rt: &HostRuntime, row: &str) -> Result<Outcome, Fail> {
     let (ids, bytes) = ids_and_bytes(rt.alloc(), row)?;
     let view = TableView::new(rt.alloc(), &bytes)?;
     answered!(
@@ -183,7 +183,7 @@ fn ids_of(alloc: Global, ids: &str) -> Result<(u32, Vec<u32>), Fail> {
 }
 
 /// Decodes the value of a row as one that borrows, by types that are loaded.
-pub fn decode_lent_loaded(rt: &HostRuntime, row: &str) -> Result<Outcome, Fail> {
+fn decode_lent_loaded(rt: &HostRuntime, row: &str) -> Result<Outcome, Fail> {
     let alloc = rt.alloc();
     let (ids, table, input) = parts_of(row)?;
     let (id, loaded) = ids_of(alloc, ids)?;
@@ -194,4 +194,23 @@ pub fn decode_lent_loaded(rt: &HostRuntime, row: &str) -> Result<Outcome, Fail> 
     let given = Given { id, input, table };
     let returned = marked!(rt; decode_lent(alloc, &types.0, id, &given.input));
     lent_outcome(alloc, &given, returned)
+}
+
+/// Makes the call of this name on a view, or by what is loaded of one.
+pub fn call(rt: &HostRuntime, name: &str, input: &str) -> Result<Outcome, Fail> {
+    match name {
+        "new" => new(rt, input),
+        "decode" => decode(rt, input),
+        "try_to_owned" => to_owned(rt, input),
+        "resolve" => resolve(rt, input),
+        "entry" => entry(rt, input),
+        "entries" => entries(rt, input),
+        "references" => references(rt, input),
+        "number" => number(rt, input),
+        "find_by_path" => find_by_path(rt, input),
+        "look" => look(rt, input),
+        "load" => load(rt, input),
+        "decode_lent_loaded" => decode_lent_loaded(rt, input),
+        _ => Err(Fail::new("no call has this name")),
+    }
 }

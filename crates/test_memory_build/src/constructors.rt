@@ -19,7 +19,7 @@ use test_memory_common::types::{
 };
 
 /// Makes a description of the kind of this name.
-pub fn description(rt: &HostRuntime, name: &str) -> Result<Outcome, Fail> {
+fn description(rt: &HostRuntime, name: &str) -> Result<Outcome, Fail> {
     let alloc = rt.alloc();
     let docs = list_of(alloc, "d")?;
     let path = Held(demo_path(alloc)?);
@@ -31,7 +31,7 @@ pub fn description(rt: &HostRuntime, name: &str) -> Result<Outcome, Fail> {
 }
 
 /// Makes a portable description.
-pub fn portable_description(rt: &HostRuntime) -> Result<Outcome, Fail> {
+fn portable_description(rt: &HostRuntime) -> Result<Outcome, Fail> {
     let alloc = rt.alloc();
     let path = Held(parts::path(alloc, &["p", "q"])?);
     let params = Held(list_of(alloc, parts::parameter(alloc, "T", Some(7))?)?);
@@ -43,21 +43,21 @@ pub fn portable_description(rt: &HostRuntime) -> Result<Outcome, Fail> {
 }
 
 /// Makes the definition of a composite.
-pub fn composite(rt: &HostRuntime) -> Result<Outcome, Fail> {
+fn composite(rt: &HostRuntime) -> Result<Outcome, Fail> {
     let fields = list_of(rt.alloc(), documented_field(rt.alloc())?)?;
     let returned = marked!(rt; TypeDefComposite::new(rt.alloc(), fields));
     Outcome::of(registered(rt.alloc(), returned))
 }
 
 /// Makes the definition of an enum.
-pub fn variants(rt: &HostRuntime) -> Result<Outcome, Fail> {
+fn variants(rt: &HostRuntime) -> Result<Outcome, Fail> {
     let variants = list_of(rt.alloc(), documented_variant(rt.alloc())?)?;
     let returned = marked!(rt; TypeDefVariant::new(rt.alloc(), variants));
     Outcome::of(registered(rt.alloc(), returned))
 }
 
 /// Makes the definition of a composite of the types with these ids.
-pub fn portable_composite(rt: &HostRuntime, row: &str) -> Result<Outcome, Fail> {
+fn portable_composite(rt: &HostRuntime, row: &str) -> Result<Outcome, Fail> {
     let ids = numbers(rt.alloc(), row)?;
     let fields = parts::unnamed_fields(rt.alloc(), &ids)?;
     let returned = marked!(rt; TypeDefComposite::<PortableForm>::new(rt.alloc(), fields));
@@ -65,7 +65,7 @@ pub fn portable_composite(rt: &HostRuntime, row: &str) -> Result<Outcome, Fail> 
 }
 
 /// Makes the definition of an enum of one variant, with fields of the types with these ids.
-pub fn portable_variants(rt: &HostRuntime, row: &str) -> Result<Outcome, Fail> {
+fn portable_variants(rt: &HostRuntime, row: &str) -> Result<Outcome, Fail> {
     let ids = numbers(rt.alloc(), row)?;
     let variant = parts::variant(rt.alloc(), "V", &ids, 0, &[])?;
     let variants = list_of(rt.alloc(), variant)?;
@@ -74,14 +74,14 @@ pub fn portable_variants(rt: &HostRuntime, row: &str) -> Result<Outcome, Fail> {
 }
 
 /// Makes the definition of a tuple of types of the program, as a text.
-pub fn tuple(rt: &HostRuntime, names: &str) -> Result<Outcome, Fail> {
+fn tuple(rt: &HostRuntime, names: &str) -> Result<Outcome, Fail> {
     let members = types_named(rt.alloc(), names)?;
     let returned = marked!(rt; TypeDefTuple::new(rt.alloc(), members));
     shown(rt.alloc(), returned)
 }
 
 /// Makes the definition of a tuple of ids.
-pub fn portable_tuple(rt: &HostRuntime, row: &str) -> Result<Outcome, Fail> {
+fn portable_tuple(rt: &HostRuntime, row: &str) -> Result<Outcome, Fail> {
     let members = ids(rt.alloc(), &numbers(rt.alloc(), row)?)?;
     let returned = marked!(rt; TypeDefTuple::new_portable(rt.alloc(), members));
     Outcome::of(encoded(rt.alloc(), definition(returned)))
@@ -97,7 +97,7 @@ fn ids(alloc: Global, numbers: &[u32]) -> Result<Vec<UntrackedSymbol<TypeId>>, A
 }
 
 /// Makes the definition of a sequence of bits, as a text.
-pub fn bit_sequence(rt: &HostRuntime, name: &str) -> Result<Outcome, Fail> {
+fn bit_sequence(rt: &HostRuntime, name: &str) -> Result<Outcome, Fail> {
     let returned = marked!(rt; match name {
         "of plain types" => TypeDefBitSequence::new::<u8, u32>(rt.alloc()),
         "of a box" => TypeDefBitSequence::new::<Box<u8>, bool>(rt.alloc()),
@@ -122,4 +122,20 @@ fn shown<D: Into<TypeDef>>(
     returned: Result<D, AllocError>,
 ) -> Result<Outcome, Fail> {
     Outcome::of(printed(alloc, text_of(alloc, definition(returned))))
+}
+
+/// Makes the call of this name: a constructor.
+pub fn call(rt: &HostRuntime, name: &str, input: &str) -> Result<Outcome, Fail> {
+    match name {
+        "Type::new" => description(rt, input),
+        "Type::new_portable" => portable_description(rt),
+        "TypeDefComposite::new" => composite(rt),
+        "TypeDefComposite::new_portable" => portable_composite(rt, input),
+        "TypeDefVariant::new" => variants(rt),
+        "TypeDefVariant::new_portable" => portable_variants(rt, input),
+        "TypeDefTuple::new" => tuple(rt, input),
+        "TypeDefTuple::new_portable" => portable_tuple(rt, input),
+        "TypeDefBitSequence::new" => bit_sequence(rt, input),
+        _ => Err(Fail::new("no call has this name")),
+    }
 }

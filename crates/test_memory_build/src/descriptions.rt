@@ -26,7 +26,7 @@ fn done<T>(value: T) -> Result<T, AllocError> {
 }
 
 /// Gives a description docs.
-pub fn docs(rt: &HostRuntime) -> Result<Outcome, Fail> {
+fn docs(rt: &HostRuntime) -> Result<Outcome, Fail> {
     let path = Held(demo_path(rt.alloc())?);
     let builder = Type::builder(rt.alloc());
     let returned = marked!(rt; builder.docs(rt.alloc(), &["a struct", ""]));
@@ -39,7 +39,7 @@ pub fn docs(rt: &HostRuntime) -> Result<Outcome, Fail> {
 }
 
 /// Gives a description its path, its parameters and a composite.
-pub fn composite(rt: &HostRuntime) -> Result<Outcome, Fail> {
+fn composite(rt: &HostRuntime) -> Result<Outcome, Fail> {
     let (path, params) = (demo_path(rt.alloc())?, parameters(rt.alloc())?);
     begin(rt);
     let unit = Fields::unit::<MetaForm>(rt.alloc());
@@ -52,7 +52,7 @@ pub fn composite(rt: &HostRuntime) -> Result<Outcome, Fail> {
 }
 
 /// Gives a description a path and an enum.
-pub fn variants(rt: &HostRuntime) -> Result<Outcome, Fail> {
+fn variants(rt: &HostRuntime) -> Result<Outcome, Fail> {
     let path = demo_path(rt.alloc())?;
     let ty = marked!(rt; Type::builder(rt.alloc())
         .path(path)
@@ -61,7 +61,7 @@ pub fn variants(rt: &HostRuntime) -> Result<Outcome, Fail> {
 }
 
 /// Gives a portable description a path and a composite.
-pub fn portable_composite(rt: &HostRuntime) -> Result<Outcome, Fail> {
+fn portable_composite(rt: &HostRuntime) -> Result<Outcome, Fail> {
     let path = parts::path(rt.alloc(), &["hello", "Planet"])?;
     begin(rt);
     let unit = Fields::unit::<PortableForm>(rt.alloc());
@@ -73,7 +73,7 @@ pub fn portable_composite(rt: &HostRuntime) -> Result<Outcome, Fail> {
 }
 
 /// Makes the tuple without members.
-pub fn unit_tuple(rt: &HostRuntime) -> Result<Outcome, Fail> {
+fn unit_tuple(rt: &HostRuntime) -> Result<Outcome, Fail> {
     let def = marked!(rt; TypeDefTuple::unit(rt.alloc()));
     Outcome::of(registered(rt.alloc(), done(def)))
 }
@@ -126,7 +126,7 @@ impl Known for StructOf<'_> {
 }
 
 /// Builds the generic struct of the type of this name.
-pub fn generic_struct(rt: &HostRuntime, name: &str) -> Result<Outcome, Fail> {
+fn generic_struct(rt: &HostRuntime, name: &str) -> Result<Outcome, Fail> {
     found(for_known_type(StructOf { rt }, name))
 }
 
@@ -173,7 +173,7 @@ fn built_enum(alloc: Global, names: &str) -> Result<Type, AllocError> {
 }
 
 /// Builds an enum of the variants of these names.
-pub fn enumeration(rt: &HostRuntime, names: &str) -> Result<Outcome, Fail> {
+fn enumeration(rt: &HostRuntime, names: &str) -> Result<Outcome, Fail> {
     let returned = marked!(rt; text_of(rt.alloc(), built_enum(rt.alloc(), names)));
     Outcome::of(printed(rt.alloc(), returned))
 }
@@ -206,8 +206,23 @@ fn built_portable(alloc: Global, names: &[&str]) -> Result<Type<PortableForm>, A
 }
 
 /// Builds a struct of a table, of the texts between brackets.
-pub fn portable_struct(rt: &HostRuntime, row: &str) -> Result<Outcome, Fail> {
+fn portable_struct(rt: &HostRuntime, row: &str) -> Result<Outcome, Fail> {
     let names = bracketed(rt.alloc(), row)?;
     let returned = marked!(rt; built_portable(rt.alloc(), names.as_slice()));
     Outcome::of(encoded(rt.alloc(), returned))
+}
+
+/// Makes the call of this name, which builds a description.
+pub fn call(rt: &HostRuntime, name: &str, input: &str) -> Result<Outcome, Fail> {
+    match name {
+        "docs" => docs(rt),
+        "composite" => composite(rt),
+        "variants" => variants(rt),
+        "portable_composite" => portable_composite(rt),
+        "unit_tuple" => unit_tuple(rt),
+        "generic_struct" => generic_struct(rt, input),
+        "enum" => enumeration(rt, input),
+        "portable_struct" => portable_struct(rt, input),
+        _ => Err(Fail::new("no call has this name")),
+    }
 }

@@ -111,13 +111,13 @@ impl Known for FieldOf<'_> {
 }
 
 /// Adds or makes a field of a kind for the type after it.
-pub fn field(rt: &HostRuntime, input: &str) -> Result<Outcome, Fail> {
+fn field(rt: &HostRuntime, input: &str) -> Result<Outcome, Fail> {
     let (kind, name) = parted(input, ' ')?;
     found(for_known_type(FieldOf(rt, kind), name))
 }
 
 /// Adds a field with a name and an id.
-pub fn portable_named(rt: &HostRuntime) -> Result<Outcome, Fail> {
+fn portable_named(rt: &HostRuntime) -> Result<Outcome, Fail> {
     let fields = Fields::named::<PortableForm>(rt.alloc());
     let name = text(rt.alloc(), "data")?;
     let returned = marked!(rt; fields.field_portable(rt.alloc(), |f| Ok(f.name(name).ty(3))));
@@ -125,14 +125,14 @@ pub fn portable_named(rt: &HostRuntime) -> Result<Outcome, Fail> {
 }
 
 /// Adds a field with an id and without a name.
-pub fn portable_unnamed(rt: &HostRuntime) -> Result<Outcome, Fail> {
+fn portable_unnamed(rt: &HostRuntime) -> Result<Outcome, Fail> {
     let fields = Fields::unnamed::<PortableForm>(rt.alloc());
     let returned = marked!(rt; fields.field_portable(rt.alloc(), |f| Ok(f.ty(3))));
     Outcome::of(encoded(rt.alloc(), composite(returned)))
 }
 
 /// Gives a field its parts by moves alone.
-pub fn moved(rt: &HostRuntime) -> Result<Outcome, Fail> {
+fn moved(rt: &HostRuntime) -> Result<Outcome, Fail> {
     let (name, type_name) = (text(rt.alloc(), "n")?, text(rt.alloc(), "N")?);
     let field = marked!(rt; Field::<PortableForm>::builder()
         .type_name(type_name)
@@ -143,7 +143,7 @@ pub fn moved(rt: &HostRuntime) -> Result<Outcome, Fail> {
 }
 
 /// Begins lists of fields, and ends one.
-pub fn empty(rt: &HostRuntime) -> Result<Outcome, Fail> {
+fn empty(rt: &HostRuntime) -> Result<Outcome, Fail> {
     begin(rt);
     let named = Held(Fields::named::<PortableForm>(rt.alloc()).finalize());
     let unnamed = Held(Fields::unnamed::<PortableForm>(rt.alloc()).finalize());
@@ -155,4 +155,16 @@ pub fn empty(rt: &HostRuntime) -> Result<Outcome, Fail> {
     );
     let unit = digits(rt.alloc(), &unit.0)?;
     Outcome::of(done(format!(in rt.alloc(); "{named} {unnamed} {unit}")))
+}
+
+/// Makes the call of this name, which builds fields.
+pub fn call(rt: &HostRuntime, name: &str, input: &str) -> Result<Outcome, Fail> {
+    match name {
+        "field" => field(rt, input),
+        "portable_named" => portable_named(rt),
+        "portable_unnamed" => portable_unnamed(rt),
+        "moved" => moved(rt),
+        "empty" => empty(rt),
+        _ => Err(Fail::new("no call has this name")),
+    }
 }

@@ -18,13 +18,13 @@ fn shown<T: Show + Drop>(
 }
 
 /// Lists types.
-pub fn types(rt: &HostRuntime) -> Result<Outcome, Fail> {
+fn types(rt: &HostRuntime) -> Result<Outcome, Fail> {
     let returned = marked!(rt; tuple_meta_type!(rt.alloc(); i32, [u8; 32], String, Vec<u32>));
     shown(rt, returned)
 }
 
 /// Lists parameters with names.
-pub fn named_parameters(rt: &HostRuntime) -> Result<Outcome, Fail> {
+fn named_parameters(rt: &HostRuntime) -> Result<Outcome, Fail> {
     let returned = marked!(rt; named_type_params!(rt.alloc(); (T, u8), (U, u32), (V, Vec<u32>)));
     shown(rt, returned)
 }
@@ -38,20 +38,32 @@ fn parameters_of<T: HasIdentity, U: HasIdentity, V: HasIdentity>(
 }
 
 /// Lists the parameters `u8`, `u32` and `Vec<u32>`.
-pub fn parameters(rt: &HostRuntime) -> Result<Outcome, Fail> {
+fn parameters(rt: &HostRuntime) -> Result<Outcome, Fail> {
     parameters_of::<u8, u32, Vec<u32>>(rt)
 }
 
 /// Puts a type at the end of a list.
-pub fn one_type(rt: &HostRuntime) -> Result<Outcome, Fail> {
+fn one_type(rt: &HostRuntime) -> Result<Outcome, Fail> {
     let so_far = tuple_meta_type!(rt.alloc(); u32);
     let returned = marked!(rt; with_type::<Vec<u32>>(rt.alloc(), so_far));
     shown(rt, returned)
 }
 
 /// Puts a parameter at the end of a list.
-pub fn one_parameter(rt: &HostRuntime) -> Result<Outcome, Fail> {
+fn one_parameter(rt: &HostRuntime) -> Result<Outcome, Fail> {
     let so_far = named_type_params!(rt.alloc(); (T, u8));
     let returned = marked!(rt; with_type_param::<Vec<u32>>(rt.alloc(), so_far, "U"));
     shown(rt, returned)
+}
+
+/// Makes the call of this name, which lists types or parameters.
+pub fn call(rt: &HostRuntime, name: &str, _input: &str) -> Result<Outcome, Fail> {
+    match name {
+        "tuple_meta_type!" => types(rt),
+        "named_type_params!" => named_parameters(rt),
+        "type_params!" => parameters(rt),
+        "with_type" => one_type(rt),
+        "with_type_param" => one_parameter(rt),
+        _ => Err(Fail::new("no call has this name")),
+    }
 }

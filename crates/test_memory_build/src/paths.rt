@@ -45,7 +45,7 @@ fn answer(alloc: Global, returned: Result<Path, PathError>) -> Result<Answer, Al
 }
 
 /// Makes the path of a module and a name.
-pub fn new(rt: &HostRuntime, row: &str) -> Result<Outcome, Fail> {
+fn new(rt: &HostRuntime, row: &str) -> Result<Outcome, Fail> {
     let texts = all_of_program(rt.alloc(), row)?;
     let [module_path, ident] = texts.as_slice() else {
         return Err(Fail::new("a row has a module and a name"));
@@ -69,7 +69,7 @@ fn pairs(
 }
 
 /// Makes the path of a module and a name, with segments replaced by the pairs after them.
-pub fn new_with_replace(rt: &HostRuntime, row: &str) -> Result<Outcome, Fail> {
+fn new_with_replace(rt: &HostRuntime, row: &str) -> Result<Outcome, Fail> {
     let texts = all_of_program(rt.alloc(), row)?;
     let [module_path, ident, rest @ ..] = texts.as_slice() else {
         return Err(Fail::new("a row has a module and a name"));
@@ -81,14 +81,14 @@ pub fn new_with_replace(rt: &HostRuntime, row: &str) -> Result<Outcome, Fail> {
 }
 
 /// Makes a path of segments, each of which must be an identifier.
-pub fn from_segments(rt: &HostRuntime, row: &str) -> Result<Outcome, Fail> {
+fn from_segments(rt: &HostRuntime, row: &str) -> Result<Outcome, Fail> {
     let segments = all_of_program(rt.alloc(), row)?;
     let returned = marked!(rt; Path::from_segments(rt.alloc(), segments));
     Outcome::of(answer(rt.alloc(), returned))
 }
 
 /// Makes a path of segments that are not looked at.
-pub fn from_segments_unchecked(rt: &HostRuntime, row: &str) -> Result<Outcome, Fail> {
+fn from_segments_unchecked(rt: &HostRuntime, row: &str) -> Result<Outcome, Fail> {
     let segments = bracketed(rt.alloc(), row)?;
     let texts = parts::texts(rt.alloc(), segments.as_slice())?;
     let returned = marked!(rt; Path::from_segments_unchecked(rt.alloc(), texts));
@@ -96,9 +96,21 @@ pub fn from_segments_unchecked(rt: &HostRuntime, row: &str) -> Result<Outcome, F
 }
 
 /// Asks a portable path for its last segment.
-pub fn ident(rt: &HostRuntime, row: &str) -> Result<Outcome, Fail> {
+fn ident(rt: &HostRuntime, row: &str) -> Result<Outcome, Fail> {
     let segments = bracketed(rt.alloc(), row)?;
     let path = parts::path(rt.alloc(), segments.as_slice())?;
     let returned = marked!(rt; path.ident(rt.alloc()));
     Outcome::of(shown(rt.alloc(), returned))
+}
+
+/// Makes the call of this name, which makes a path or asks one.
+pub fn call(rt: &HostRuntime, name: &str, input: &str) -> Result<Outcome, Fail> {
+    match name {
+        "new" => new(rt, input),
+        "new_with_replace" => new_with_replace(rt, input),
+        "from_segments" => from_segments(rt, input),
+        "from_segments_unchecked" => from_segments_unchecked(rt, input),
+        "ident" => ident(rt, input),
+        _ => Err(Fail::new("no call has this name")),
+    }
 }

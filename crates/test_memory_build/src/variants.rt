@@ -18,7 +18,7 @@ fn enumeration(returned: Result<Variants, AllocError>) -> Result<TypeDefVariant,
 }
 
 /// Adds a variant with a field.
-pub fn variant(rt: &HostRuntime) -> Result<Outcome, Fail> {
+fn variant(rt: &HostRuntime) -> Result<Outcome, Fail> {
     let alloc = rt.alloc();
     let variants = Variants::new(alloc);
     let returned = marked!(rt; variants.variant(alloc, "Some", |v| {
@@ -32,14 +32,14 @@ pub fn variant(rt: &HostRuntime) -> Result<Outcome, Fail> {
 }
 
 /// Adds a variant without fields.
-pub fn variant_unit(rt: &HostRuntime) -> Result<Outcome, Fail> {
+fn variant_unit(rt: &HostRuntime) -> Result<Outcome, Fail> {
     let variants = Variants::new(rt.alloc());
     let returned = marked!(rt; variants.variant_unit(rt.alloc(), "None", 0));
     Outcome::of(registered(rt.alloc(), enumeration(returned)))
 }
 
 /// Gives a variant its index and its fields.
-pub fn moved(rt: &HostRuntime) -> Result<Outcome, Fail> {
+fn moved(rt: &HostRuntime) -> Result<Outcome, Fail> {
     let fields = Fields::unnamed::<PortableForm>(rt.alloc());
     let fields = fields.field_portable(rt.alloc(), |f| Ok(f.ty(3)))?;
     let builder = VariantBuilder::<PortableForm, IndexNotAssigned> {
@@ -52,4 +52,14 @@ pub fn moved(rt: &HostRuntime) -> Result<Outcome, Fail> {
         fields: built.fields,
     };
     Outcome::of(done(digits(rt.alloc(), &fields)))
+}
+
+/// Makes the call of this name, which builds a variant.
+pub fn call(rt: &HostRuntime, name: &str, _input: &str) -> Result<Outcome, Fail> {
+    match name {
+        "variant" => variant(rt),
+        "variant_unit" => variant_unit(rt),
+        "moved" => moved(rt),
+        _ => Err(Fail::new("no call has this name")),
+    }
 }

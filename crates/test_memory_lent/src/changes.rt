@@ -122,6 +122,7 @@ pub fn call(rt: &HostRuntime, name: &str, row: &str) -> Result<Outcome, Fail> {
     match name {
         "changes" | "changes_with_docs" => list(rt, name, row),
         "declared_change_of" => find_again(rt, row),
-        _ => find(rt, name, row),
+        "first_difference" | "first_declared_change" => find(rt, name, row),
+        _ => Err(Fail::new("no call has this name")),
     }
 }

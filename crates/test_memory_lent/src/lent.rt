@@ -60,7 +60,7 @@ fn find_variant(rt: &HostRuntime, row: &str) -> Result<Outcome, Fail> {
 
 /// Asks a table: after `each of` for its descriptions, after `variant` for an index, and else for
 /// what it has.
-pub fn look_at_table(rt: &HostRuntime, row: &str) -> Result<Outcome, Fail> {
+fn look_at_table(rt: &HostRuntime, row: &str) -> Result<Outcome, Fail> {
     if let Some(name) = row.strip_prefix("each of ") {
         return resolve_each(rt, name);
     }
@@ -85,7 +85,7 @@ fn get_each(rt: &HostRuntime, row: &str) -> Result<Outcome, Fail> {
 }
 
 /// Asks a builder: after `each of` for its descriptions, and else for what it has.
-pub fn look_at_builder(rt: &HostRuntime, row: &str) -> Result<Outcome, Fail> {
+fn look_at_builder(rt: &HostRuntime, row: &str) -> Result<Outcome, Fail> {
     match row.strip_prefix("each of ") {
         Some(name) => get_each(rt, name),
         None => builders::look(rt, row),
@@ -99,7 +99,7 @@ pub fn indexed(alloc: Global, row: &str) -> Result<(u32, Vec<u8>), Fail> {
 }
 
 /// Makes the description at an index that owns its strings.
-pub fn own_description(rt: &HostRuntime, row: &str) -> Result<Outcome, Fail> {
+fn own_description(rt: &HostRuntime, row: &str) -> Result<Outcome, Fail> {
     let (index, bytes) = indexed(rt.alloc(), row)?;
     let (table, _) = PortableRegistry::decode(rt.alloc(), &bytes)?;
     let Some(ty) = table.resolve(index) else {
@@ -135,8 +135,19 @@ fn decoded(
 }
 
 /// Decodes a description.
-pub fn decode_description(rt: &HostRuntime, row: &str) -> Result<Outcome, Fail> {
+fn decode_description(rt: &HostRuntime, row: &str) -> Result<Outcome, Fail> {
     let bytes = bytes_of(rt.alloc(), row)?;
     let returned = marked!(rt; decode_type(rt.alloc(), &bytes));
     Outcome::of(decoded(rt.alloc(), returned))
+}
+
+/// Makes the call of this name on a description that is lent.
+pub fn call(rt: &HostRuntime, name: &str, input: &str) -> Result<Outcome, Fail> {
+    match name {
+        "look_at_table" => look_at_table(rt, input),
+        "look_at_builder" => look_at_builder(rt, input),
+        "decode_type" => decode_description(rt, input),
+        "owned_type" => own_description(rt, input),
+        _ => Err(Fail::new("no call has this name")),
+    }
 }

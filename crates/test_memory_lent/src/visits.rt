@@ -89,7 +89,7 @@ fn visited(
 }
 
 /// Shows a visitor the value of a row.
-pub fn events(rt: &HostRuntime, row: &str) -> Result<Outcome, Fail> {
+fn events(rt: &HostRuntime, row: &str) -> Result<Outcome, Fail> {
     let alloc = rt.alloc();
     let (id, table, input) = parts_of(row)?;
     let (id, input): (u32, Vec<u8>) = (id.parse()?, row_bytes(alloc, input)?);
@@ -230,7 +230,7 @@ fn bounds_of(ids: &str) -> Result<(u32, u64, u64), Fail> {
 }
 
 /// Shows a visitor the value of a row up to a limit.
-pub fn within(rt: &HostRuntime, row: &str) -> Result<Outcome, Fail> {
+fn within(rt: &HostRuntime, row: &str) -> Result<Outcome, Fail> {
     let alloc = rt.alloc();
     let (ids, table, input) = parts_of(row)?;
     let (id, limit, left) = bounds_of(ids)?;
@@ -239,4 +239,13 @@ pub fn within(rt: &HostRuntime, row: &str) -> Result<Outcome, Fail> {
     let mut first = FirstWords { words, left };
     let returned = marked!(rt; visit_value_within(&table.0, id, limit, &input, &mut first));
     Outcome::of(visited_within(alloc, returned, first.words.text()))
+}
+
+/// Makes the call of this name, which shows a value.
+pub fn call(rt: &HostRuntime, name: &str, input: &str) -> Result<Outcome, Fail> {
+    match name {
+        "events" => events(rt, input),
+        "within" => within(rt, input),
+        _ => Err(Fail::new("no call has this name")),
+    }
 }

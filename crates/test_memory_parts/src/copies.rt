@@ -46,7 +46,7 @@ fn copy_shown<T: TryClone + Debug + Drop>(rt: &HostRuntime, value: &T) -> Result
 }
 
 /// Copies a portable part of a description.
-pub fn portable_part(rt: &HostRuntime, kind: &str) -> Result<Outcome, Fail> {
+fn portable_part(rt: &HostRuntime, kind: &str) -> Result<Outcome, Fail> {
     let alloc = rt.alloc();
     match kind {
         "field" => copy(rt, parts::field(alloc, Some("n"), 3, Some("N"), &["d", ""])),
@@ -62,7 +62,7 @@ pub fn portable_part(rt: &HostRuntime, kind: &str) -> Result<Outcome, Fail> {
 }
 
 /// Copies a part of a description in the form of the program.
-pub fn meta_part(rt: &HostRuntime, kind: &str) -> Result<Outcome, Fail> {
+fn meta_part(rt: &HostRuntime, kind: &str) -> Result<Outcome, Fail> {
     match kind {
         "field" => copy_meta(rt, documented_field(rt.alloc())?),
         "variant" => copy_meta(rt, documented_variant(rt.alloc())?),
@@ -73,29 +73,29 @@ pub fn meta_part(rt: &HostRuntime, kind: &str) -> Result<Outcome, Fail> {
 }
 
 /// Copies the type of this name.
-pub fn meta_type(rt: &HostRuntime, name: &str) -> Result<Outcome, Fail> {
+fn meta_type(rt: &HostRuntime, name: &str) -> Result<Outcome, Fail> {
     let ty = Held(type_named(rt.alloc(), name)?);
     let returned = marked!(rt; ty.0.try_clone(rt.alloc()));
     Outcome::of(printed(rt.alloc(), identity_of(rt.alloc(), returned)))
 }
 
 /// Copies the identity of the type of this name.
-pub fn identity(rt: &HostRuntime, name: &str) -> Result<Outcome, Fail> {
+fn identity(rt: &HostRuntime, name: &str) -> Result<Outcome, Fail> {
     copy_shown(rt, type_named(rt.alloc(), name)?.type_id())
 }
 
 /// Copies what the type of this name is described as.
-pub fn meta_description(rt: &HostRuntime, name: &str) -> Result<Outcome, Fail> {
+fn meta_description(rt: &HostRuntime, name: &str) -> Result<Outcome, Fail> {
     copy_meta(rt, description_named(rt.alloc(), name)?)
 }
 
 /// Copies the definition of the type of this name.
-pub fn meta_definition(rt: &HostRuntime, name: &str) -> Result<Outcome, Fail> {
+fn meta_definition(rt: &HostRuntime, name: &str) -> Result<Outcome, Fail> {
     copy_meta(rt, description_named(rt.alloc(), name)?.type_def)
 }
 
 /// Copies the description at index 0.
-pub fn description(rt: &HostRuntime, row: &str) -> Result<Outcome, Fail> {
+fn description(rt: &HostRuntime, row: &str) -> Result<Outcome, Fail> {
     let table = Held(table_of(rt.alloc(), row)?);
     match table.0.resolve(0) {
         Some(ty) => copy_of(rt, ty),
@@ -104,7 +104,7 @@ pub fn description(rt: &HostRuntime, row: &str) -> Result<Outcome, Fail> {
 }
 
 /// Copies the definition at index 0.
-pub fn definition(rt: &HostRuntime, row: &str) -> Result<Outcome, Fail> {
+fn definition(rt: &HostRuntime, row: &str) -> Result<Outcome, Fail> {
     let table = Held(table_of(rt.alloc(), row)?);
     match table.0.resolve(0) {
         Some(ty) => copy_of(rt, ty.type_def()),
@@ -113,7 +113,7 @@ pub fn definition(rt: &HostRuntime, row: &str) -> Result<Outcome, Fail> {
 }
 
 /// Copies a list.
-pub fn list(rt: &HostRuntime, kind: &str) -> Result<Outcome, Fail> {
+fn list(rt: &HostRuntime, kind: &str) -> Result<Outcome, Fail> {
     match kind {
         "numbers" => copy(rt, Ok(Items::from(vec![in rt.alloc(); 7u32, 8]?))),
         "texts" => copy(
@@ -126,7 +126,7 @@ pub fn list(rt: &HostRuntime, kind: &str) -> Result<Outcome, Fail> {
 }
 
 /// Copies a type or a text by its form.
-pub fn by_form(rt: &HostRuntime, kind: &str) -> Result<Outcome, Fail> {
+fn by_form(rt: &HostRuntime, kind: &str) -> Result<Outcome, Fail> {
     match kind {
         "type of the program" => type_of_program(rt),
         "portable type" => portable_type(rt),
@@ -161,4 +161,21 @@ fn portable_text(rt: &HostRuntime) -> Result<Outcome, Fail> {
     let text = parts::text(rt.alloc(), "a text")?;
     let returned = marked!(rt; PortableForm::copy_string(rt.alloc(), &text));
     Outcome::of(encoded(rt.alloc(), returned))
+}
+
+/// Makes the call of this name, which copies a value.
+pub fn call(rt: &HostRuntime, name: &str, input: &str) -> Result<Outcome, Fail> {
+    match name {
+        "portable_part" => portable_part(rt, input),
+        "meta_part" => meta_part(rt, input),
+        "MetaType" => meta_type(rt, input),
+        "TypeId" => identity(rt, input),
+        "Type" => meta_description(rt, input),
+        "TypeDef" => meta_definition(rt, input),
+        "description" => description(rt, input),
+        "definition" => definition(rt, input),
+        "Items" => list(rt, input),
+        "Form" => by_form(rt, input),
+        _ => Err(Fail::new("no call has this name")),
+    }
 }

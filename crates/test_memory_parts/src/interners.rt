@@ -52,7 +52,7 @@ fn numbered(
 }
 
 /// Interns a text after four.
-pub fn intern_or_get(rt: &HostRuntime, chars: &str) -> Result<Outcome, Fail> {
+fn intern_or_get(rt: &HostRuntime, chars: &str) -> Result<Outcome, Fail> {
     let mut texts = Held(interner(rt.alloc(), FOUR)?);
     let value = text(rt.alloc(), chars)?;
     let before = state(rt.alloc(), &texts.0);
@@ -62,7 +62,7 @@ pub fn intern_or_get(rt: &HostRuntime, chars: &str) -> Result<Outcome, Fail> {
 }
 
 /// Interns a text after four, which is lent.
-pub fn intern_copy(rt: &HostRuntime, chars: &str) -> Result<Outcome, Fail> {
+fn intern_copy(rt: &HostRuntime, chars: &str) -> Result<Outcome, Fail> {
     let mut texts = Held(interner(rt.alloc(), FOUR)?);
     let value = Held(text(rt.alloc(), chars)?);
     let before = state(rt.alloc(), &texts.0);
@@ -72,7 +72,7 @@ pub fn intern_copy(rt: &HostRuntime, chars: &str) -> Result<Outcome, Fail> {
 }
 
 /// Interns texts, each of which is new or has a number.
-pub fn intern(rt: &HostRuntime, row: &str) -> Result<Outcome, Fail> {
+fn intern(rt: &HostRuntime, row: &str) -> Result<Outcome, Fail> {
     let mut texts = Held(Interner::new(rt.alloc()));
     let returned = marked!(rt; intern_all(rt.alloc(), &mut texts.0, row));
     Outcome::of(printed(rt.alloc(), returned))
@@ -125,13 +125,13 @@ fn lookup_of(alloc: Global, chars: &str, row: &str, other: &str) -> Result<Looku
 }
 
 /// Looks a text up among four, and what its symbol stands for.
-pub fn look(rt: &HostRuntime, chars: &str) -> Result<Outcome, Fail> {
+fn look(rt: &HostRuntime, chars: &str) -> Result<Outcome, Fail> {
     ask(rt, lookup_of(rt.alloc(), chars, FOUR, FOUR))
 }
 
 /// Looks the first text up among all of them, and what its symbol stands for among others, which
 /// come after a slash.
-pub fn compare(rt: &HostRuntime, row: &str) -> Result<Outcome, Fail> {
+fn compare(rt: &HostRuntime, row: &str) -> Result<Outcome, Fail> {
     let (chars, lists) = parted(row, ':')?;
     let (row, other) = parted(lists, '/')?;
     ask(rt, lookup_of(rt.alloc(), chars, row, other))
@@ -157,7 +157,7 @@ fn truncated(
 }
 
 /// Keeps the texts before a slash, of all.
-pub fn truncate(rt: &HostRuntime, row: &str) -> Result<Outcome, Fail> {
+fn truncate(rt: &HostRuntime, row: &str) -> Result<Outcome, Fail> {
     let (left, gone) = parted(row, '/')?;
     let mut texts = Held(interner(rt.alloc(), row)?);
     let before = state(rt.alloc(), &texts.0);
@@ -195,7 +195,7 @@ fn state_of_numbers(alloc: Global, texts: &Interner<Text>) -> Result<String, All
 }
 
 /// Cuts the interner of the digits of so many numbers back to so many: two numbers in a text.
-pub fn truncate_numbers(rt: &HostRuntime, counts: &str) -> Result<Outcome, Fail> {
+fn truncate_numbers(rt: &HostRuntime, counts: &str) -> Result<Outcome, Fail> {
     let (count, kept) = counts.split_once(' ').unwrap_or((counts, "0"));
     let (count, kept): (usize, usize) = (count.parse()?, kept.parse()?);
     let mut texts = Held(first_numbers(rt.alloc(), count)?);
@@ -208,7 +208,7 @@ pub fn truncate_numbers(rt: &HostRuntime, counts: &str) -> Result<Outcome, Fail>
 }
 
 /// Interns one more number's digits after those of so many.
-pub fn intern_or_get_after(rt: &HostRuntime, count: &str) -> Result<Outcome, Fail> {
+fn intern_or_get_after(rt: &HostRuntime, count: &str) -> Result<Outcome, Fail> {
     let count: usize = count.parse()?;
     let mut texts = Held(first_numbers(rt.alloc(), count)?);
     let value = digits_of(rt.alloc(), count)?;
@@ -217,4 +217,19 @@ pub fn intern_or_get_after(rt: &HostRuntime, count: &str) -> Result<Outcome, Fai
     let after = state_of_numbers(rt.alloc(), &texts.0);
     let numbered = returned.map(|(is_new, symbol)| (is_new, symbol.id()));
     Outcome::lending(before, after, shown(rt.alloc(), numbered))
+}
+
+/// Makes the call of this name on an interner.
+pub fn call(rt: &HostRuntime, name: &str, input: &str) -> Result<Outcome, Fail> {
+    match name {
+        "intern" => intern(rt, input),
+        "intern_or_get" | "intern_or_get_known" => intern_or_get(rt, input),
+        "intern_copy" | "intern_copy_known" => intern_copy(rt, input),
+        "look" => look(rt, input),
+        "compare" => compare(rt, input),
+        "truncate" => truncate(rt, input),
+        "truncate_numbers" => truncate_numbers(rt, input),
+        "intern_or_get_after" => intern_or_get_after(rt, input),
+        _ => Err(Fail::new("no call has this name")),
+    }
 }

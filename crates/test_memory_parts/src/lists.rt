@@ -36,7 +36,7 @@ fn text_of(alloc: Global, items: Items<u32>) -> Result<String, AllocError> {
 }
 
 /// Pushes the numbers of a row.
-pub fn push(rt: &HostRuntime, row: &str) -> Result<Outcome, Fail> {
+fn push(rt: &HostRuntime, row: &str) -> Result<Outcome, Fail> {
     let numbers = numbers(rt.alloc(), row)?;
     answered!(
         rt;
@@ -88,7 +88,7 @@ fn grow<T: TryClone + Debug + Drop>(
 }
 
 /// Grows a list of numbers or of texts so often, towards a count that is announced.
-pub fn push_towards(rt: &HostRuntime, input: &str) -> Result<Outcome, Fail> {
+fn push_towards(rt: &HostRuntime, input: &str) -> Result<Outcome, Fail> {
     let (kind, row) = parted(input, ' ')?;
     match kind {
         "numbers" => grow(rt, 7u32, row),
@@ -104,7 +104,17 @@ fn with_room(alloc: Global) -> Result<Vec<u32>, AllocError> {
 }
 
 /// Makes a list with room for three.
-pub fn with_capacity(rt: &HostRuntime) -> Result<Outcome, Fail> {
+fn with_capacity(rt: &HostRuntime) -> Result<Outcome, Fail> {
     let returned = marked!(rt; with_room(rt.alloc()));
     Outcome::of(roomy(rt.alloc(), returned))
+}
+
+/// Makes the call of this name on a list.
+pub fn call(rt: &HostRuntime, name: &str, input: &str) -> Result<Outcome, Fail> {
+    match name {
+        "push" => push(rt, input),
+        "push_towards" => push_towards(rt, input),
+        "with_capacity" => with_capacity(rt),
+        _ => Err(Fail::new("no call has this name")),
+    }
 }

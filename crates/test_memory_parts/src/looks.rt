@@ -106,7 +106,7 @@ impl Asked for Text {
 }
 
 /// Asks the description of this name for its parts.
-pub fn description(rt: &HostRuntime, name: &str) -> Result<Outcome, Fail> {
+fn description(rt: &HostRuntime, name: &str) -> Result<Outcome, Fail> {
     ask(rt, description_named(rt.alloc(), name))
 }
 
@@ -128,7 +128,7 @@ fn made<T>(value: Result<T, AllocError>) -> Result<T, Fail> {
 
 /// Asks a part of this kind for its parts: the texts of a path, of a parameter and of a text come
 /// after the kind.
-pub fn part(rt: &HostRuntime, input: &str) -> Result<Outcome, Fail> {
+fn part(rt: &HostRuntime, input: &str) -> Result<Outcome, Fail> {
     let alloc = rt.alloc();
     let (kind, given) = input.split_once(' ').unwrap_or((input, ""));
     match kind {
@@ -173,7 +173,7 @@ fn definition_of(alloc: Global, name: &str) -> Result<TypeDef<PortableForm>, Fai
 }
 
 /// Asks the definition of this kind for its parts.
-pub fn definition(rt: &HostRuntime, kind: &str) -> Result<Outcome, Fail> {
+fn definition(rt: &HostRuntime, kind: &str) -> Result<Outcome, Fail> {
     ask(rt, definition_of(rt.alloc(), kind))
 }
 
@@ -187,7 +187,7 @@ fn described(alloc: Global, names: &[&str]) -> Result<Vec<Type>, Fail> {
 }
 
 /// Compares descriptions.
-pub fn compare(rt: &HostRuntime, name: &str) -> Result<Outcome, Fail> {
+fn compare(rt: &HostRuntime, name: &str) -> Result<Outcome, Fail> {
     let all = Held(described(rt.alloc(), &[name, name, "(u32, bool)"])?);
     let [left, right, other] = all.0.as_slice() else {
         return Err(Fail::new("three names have three descriptions"));
@@ -199,7 +199,7 @@ pub fn compare(rt: &HostRuntime, name: &str) -> Result<Outcome, Fail> {
 }
 
 /// Compares and hashes types.
-pub fn types(rt: &HostRuntime, name: &str) -> Result<Outcome, Fail> {
+fn types(rt: &HostRuntime, name: &str) -> Result<Outcome, Fail> {
     let (left, right) = (
         type_named(rt.alloc(), name)?,
         type_named(rt.alloc(), "u32")?,
@@ -215,7 +215,20 @@ pub fn types(rt: &HostRuntime, name: &str) -> Result<Outcome, Fail> {
 }
 
 /// Asks whether a text is an identifier.
-pub fn identifier(rt: &HostRuntime, text: &str) -> Result<Outcome, Fail> {
+fn identifier(rt: &HostRuntime, text: &str) -> Result<Outcome, Fail> {
     let is_identifier = marked!(rt; is_rust_identifier(text));
     Outcome::of(done(format!(in rt.alloc(); "{is_identifier}")))
+}
+
+/// Makes the call of this name, which does not allocate.
+pub fn call(rt: &HostRuntime, name: &str, input: &str) -> Result<Outcome, Fail> {
+    match name {
+        "part" => part(rt, input),
+        "definition" => definition(rt, input),
+        "description" => description(rt, input),
+        "compare_descriptions" => compare(rt, input),
+        "compare_types" => types(rt, input),
+        "is_rust_identifier" => identifier(rt, input),
+        _ => Err(Fail::new("no call has this name")),
+    }
 }

@@ -21,7 +21,7 @@ use test_memory_common::marks::{begin, end};
 use test_memory_common::outcomes::Outcome;
 
 /// Makes a field.
-pub fn field(rt: &HostRuntime) -> Result<Outcome, Fail> {
+fn field(rt: &HostRuntime) -> Result<Outcome, Fail> {
     let (name, docs) = (
         parts::text(rt.alloc(), "n")?,
         parts::texts(rt.alloc(), &["d"])?,
@@ -31,7 +31,7 @@ pub fn field(rt: &HostRuntime) -> Result<Outcome, Fail> {
 }
 
 /// Makes a variant.
-pub fn variant(rt: &HostRuntime) -> Result<Outcome, Fail> {
+fn variant(rt: &HostRuntime) -> Result<Outcome, Fail> {
     let (name, docs) = (
         parts::text(rt.alloc(), "V")?,
         parts::texts(rt.alloc(), &["v"])?,
@@ -42,14 +42,14 @@ pub fn variant(rt: &HostRuntime) -> Result<Outcome, Fail> {
 }
 
 /// Makes a parameter and an entry.
-pub fn parameter(rt: &HostRuntime) -> Result<Outcome, Fail> {
+fn parameter(rt: &HostRuntime) -> Result<Outcome, Fail> {
     let name = parts::text(rt.alloc(), "T")?;
     let made = marked!(rt; TypeParameter::new_portable(name, Some(parts::id(7))));
     Outcome::of(done(digits(rt.alloc(), &made)))
 }
 
 /// Makes an entry whose description has a definition alone.
-pub fn entry(rt: &HostRuntime) -> Result<Outcome, Fail> {
+fn entry(rt: &HostRuntime) -> Result<Outcome, Fail> {
     let made = marked!(rt; PortableType::new(9, Type::from_def(rt.alloc(), parts::sequence(2))));
     Outcome::of(done(digits(rt.alloc(), &made)))
 }
@@ -79,13 +79,13 @@ fn all_digits(alloc: Global, definitions: &[TypeDef<PortableForm>]) -> Result<St
 }
 
 /// Makes definitions.
-pub fn definitions(rt: &HostRuntime) -> Result<Outcome, Fail> {
+fn definitions(rt: &HostRuntime) -> Result<Outcome, Fail> {
     let made = marked!(rt; six_definitions());
     Outcome::of(done(all_digits(rt.alloc(), &made)))
 }
 
 /// Makes the definitions that hold lists.
-pub fn definitions_of_lists(rt: &HostRuntime) -> Result<Outcome, Fail> {
+fn definitions_of_lists(rt: &HostRuntime) -> Result<Outcome, Fail> {
     let one = parts::variant(rt.alloc(), "W", &[1], 2, &[]);
     let variants = with(Ok(Vec::new(rt.alloc())), one);
     let lists = both(parts::unnamed_fields(rt.alloc(), &[1, 2]), variants);
@@ -100,7 +100,7 @@ pub fn definitions_of_lists(rt: &HostRuntime) -> Result<Outcome, Fail> {
 }
 
 /// Turns four parts into a description, and a pair into a parameter.
-pub fn description(rt: &HostRuntime) -> Result<Outcome, Fail> {
+fn description(rt: &HostRuntime) -> Result<Outcome, Fail> {
     let path = Held(parts::path(rt.alloc(), &["p"])?);
     let name = parts::text(rt.alloc(), "T")?;
     let docs = parts::texts(rt.alloc(), &["d"])?;
@@ -116,7 +116,7 @@ pub fn description(rt: &HostRuntime) -> Result<Outcome, Fail> {
 }
 
 /// Turns a list and a text into those of this library, and back.
-pub fn lists(rt: &HostRuntime) -> Result<Outcome, Fail> {
+fn lists(rt: &HostRuntime) -> Result<Outcome, Fail> {
     let (list, text) = (
         vec![in rt.alloc(); 7u32, 8]?,
         String::from_str(rt.alloc(), "a text")?,
@@ -129,14 +129,14 @@ pub fn lists(rt: &HostRuntime) -> Result<Outcome, Fail> {
 }
 
 /// Makes an identity.
-pub fn identity(rt: &HostRuntime) -> Result<Outcome, Fail> {
+fn identity(rt: &HostRuntime) -> Result<Outcome, Fail> {
     let nums = vec![in rt.alloc(); 4usize]?;
     let made = marked!(rt; TypeId::new("array", nums, Vec::new(rt.alloc())));
     Outcome::of(done(format!(in rt.alloc(); "{made:?}")))
 }
 
 /// Makes empty lists, an empty path and a list of references.
-pub fn empty_parts(rt: &HostRuntime) -> Result<Outcome, Fail> {
+fn empty_parts(rt: &HostRuntime) -> Result<Outcome, Fail> {
     begin(rt);
     let path = Path::<PortableForm>::empty(rt.alloc());
     let items = Items::<u32>::new(rt.alloc());
@@ -149,7 +149,7 @@ pub fn empty_parts(rt: &HostRuntime) -> Result<Outcome, Fail> {
 }
 
 /// Makes an empty registry, catalogue, interner and builder of a table.
-pub fn empty_collections(rt: &HostRuntime) -> Result<Outcome, Fail> {
+fn empty_collections(rt: &HostRuntime) -> Result<Outcome, Fail> {
     begin(rt);
     let registry = Held(Registry::new(rt.alloc()));
     let catalogue = Held(Catalogue::new(rt.alloc()));
@@ -159,4 +159,22 @@ pub fn empty_collections(rt: &HostRuntime) -> Result<Outcome, Fail> {
     let (types, described) = (registry.0.types().size_hint().0, catalogue.0.len());
     let (elements, next) = (interner.elements().len(), builder.0.next_type_id());
     Outcome::of(done(format!(in rt.alloc(); "{types} {described} {elements} {next}")))
+}
+
+/// Makes the call of this name, which moves what it is given.
+pub fn call(rt: &HostRuntime, name: &str, _input: &str) -> Result<Outcome, Fail> {
+    match name {
+        "field" => field(rt),
+        "variant" => variant(rt),
+        "parameter" => parameter(rt),
+        "entry" => entry(rt),
+        "definitions" => definitions(rt),
+        "definitions_of_lists" => definitions_of_lists(rt),
+        "description" => description(rt),
+        "lists" => lists(rt),
+        "identity" => identity(rt),
+        "empty_parts" => empty_parts(rt),
+        "empty_collections" => empty_collections(rt),
+        _ => Err(Fail::new("no call has this name")),
+    }
 }

@@ -93,7 +93,7 @@ fn identities(alloc: Global, row: &str) -> Result<Vec<TypeId>, Fail> {
 }
 
 /// Compares each value of this kind with all.
-pub fn order(rt: &HostRuntime, input: &str) -> Result<Outcome, Fail> {
+fn compare_all(rt: &HostRuntime, input: &str) -> Result<Outcome, Fail> {
     let alloc = rt.alloc();
     let (kind, row) = parted(input, ' ')?;
     match kind {
@@ -106,5 +106,13 @@ pub fn order(rt: &HostRuntime, input: &str) -> Result<Outcome, Fail> {
         "symbols" => compare(rt, values::<UntrackedSymbol<TypeId>>(alloc, row)),
         "compact_numbers" => compare(rt, values::<Compact<u32>>(alloc, row)),
         _ => compare(rt, identities(alloc, row)),
+    }
+}
+
+/// Makes the call of this name, which compares values.
+pub fn call(rt: &HostRuntime, name: &str, input: &str) -> Result<Outcome, Fail> {
+    match name {
+        "compare" => compare_all(rt, input),
+        _ => Err(Fail::new("no call has this name")),
     }
 }

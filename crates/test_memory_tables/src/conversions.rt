@@ -19,7 +19,7 @@ use test_memory_common::types::{
 type Known = Result<Catalogue, CatalogueError>;
 
 /// Converts a value of this kind, a part of a description, by a catalogue.
-pub fn part(rt: &HostRuntime, known: Known, kind: &str) -> Result<Outcome, Fail> {
+fn part(rt: &HostRuntime, known: Known, kind: &str) -> Result<Outcome, Fail> {
     let known = Held(known?);
     part_by(rt, &known.0, kind)
 }
@@ -77,16 +77,28 @@ where
 }
 
 /// Converts the type of this name.
-pub fn meta_type(rt: &HostRuntime, name: &str) -> Result<Outcome, Fail> {
+fn meta_type(rt: &HostRuntime, name: &str) -> Result<Outcome, Fail> {
     described(rt, type_named(rt.alloc(), name)?)
 }
 
 /// Converts the description of this name.
-pub fn description(rt: &HostRuntime, name: &str) -> Result<Outcome, Fail> {
+fn description(rt: &HostRuntime, name: &str) -> Result<Outcome, Fail> {
     described(rt, description_named(rt.alloc(), name)?)
 }
 
 /// Converts the definition of this name.
-pub fn definition(rt: &HostRuntime, name: &str) -> Result<Outcome, Fail> {
+fn definition(rt: &HostRuntime, name: &str) -> Result<Outcome, Fail> {
     described(rt, description_named(rt.alloc(), name)?.type_def)
+}
+
+/// Makes the call of this name, which converts a value.
+pub fn call(rt: &HostRuntime, name: &str, input: &str) -> Result<Outcome, Fail> {
+    match name {
+        "part" => part(rt, catalogue(rt.alloc()), input),
+        "part_undescribed" => part(rt, Ok(Catalogue::new(rt.alloc())), input),
+        "MetaType" => meta_type(rt, input),
+        "Type" => description(rt, input),
+        "TypeDef" => definition(rt, input),
+        _ => Err(Fail::new("no call has this name")),
+    }
 }

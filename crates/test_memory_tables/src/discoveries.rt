@@ -41,7 +41,7 @@ fn found(
 }
 
 /// Numbers a type and all that is reached from it.
-pub fn discover_type(rt: &HostRuntime, name: &str) -> Result<Outcome, Fail> {
+fn discover_type(rt: &HostRuntime, name: &str) -> Result<Outcome, Fail> {
     let known = Held(catalogue(rt.alloc())?);
     let ty = Held(type_named(rt.alloc(), name)?);
     let mut identities = Held(Interner::new(rt.alloc()));
@@ -55,4 +55,12 @@ pub fn discover_type(rt: &HostRuntime, name: &str) -> Result<Outcome, Fail> {
         &known.0,
     ));
     Outcome::of(found(rt.alloc(), returned, &identities.0, &cache.0))
+}
+
+/// Makes the call of this name, which discovers types.
+pub fn call(rt: &HostRuntime, name: &str, input: &str) -> Result<Outcome, Fail> {
+    match name {
+        "discover" => discover_type(rt, input),
+        _ => Err(Fail::new("no call has this name")),
+    }
 }

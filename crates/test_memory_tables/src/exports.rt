@@ -80,7 +80,7 @@ fn chosen(alloc: Global, row: &str) -> Result<(Vec<u32>, Vec<MetaType>), Fail> {
 
 /// Writes what the types reach that the filter chooses. It notes each id that it is asked, for
 /// which there is room.
-pub fn export_types(rt: &HostRuntime, row: &str) -> Result<Outcome, Fail> {
+fn export_types(rt: &HostRuntime, row: &str) -> Result<Outcome, Fail> {
     let mut known = Held(catalogue(rt.alloc())?);
     add_cycle(rt.alloc(), &mut known.0)?;
     let (ids, types) = chosen(rt.alloc(), row)?;
@@ -105,4 +105,12 @@ pub fn export_types(rt: &HostRuntime, row: &str) -> Result<Outcome, Fail> {
         Err(error) => failed(rt.alloc(), &error),
     };
     Outcome::asking(Outcome::lending(before, after, answer), asked)
+}
+
+/// Makes the call of this name, which writes types.
+pub fn call(rt: &HostRuntime, name: &str, input: &str) -> Result<Outcome, Fail> {
+    match name {
+        "export" => export_types(rt, input),
+        _ => Err(Fail::new("no call has this name")),
+    }
 }

@@ -11,7 +11,7 @@ use test_memory_common::outcomes::Outcome;
 use test_memory_common::{answered, marked};
 
 /// The tree of a table.
-pub fn tree_of(rt: &HostRuntime, row: &str) -> Result<Outcome, Fail> {
+fn tree_of(rt: &HostRuntime, row: &str) -> Result<Outcome, Fail> {
     let table = Held(table_of(rt.alloc(), row)?);
     answered!(
         rt;
@@ -29,7 +29,7 @@ fn tree(alloc: Global, row: &str) -> Result<Value, Fail> {
 }
 
 /// The table of a tree.
-pub fn table_from(rt: &HostRuntime, row: &str) -> Result<Outcome, Fail> {
+fn table_from(rt: &HostRuntime, row: &str) -> Result<Outcome, Fail> {
     let tree = Held(tree(rt.alloc(), row)?);
     let returned = marked!(rt; from_json(rt.alloc(), &tree.0));
     Outcome::of(encoded(rt.alloc(), returned))
@@ -47,7 +47,7 @@ fn text(alloc: Global, row: &str) -> Result<String, Fail> {
 }
 
 /// The table of a text.
-pub fn table_from_text(rt: &HostRuntime, row: &str) -> Result<Outcome, Fail> {
+fn table_from_text(rt: &HostRuntime, row: &str) -> Result<Outcome, Fail> {
     let text = text(rt.alloc(), row)?;
     let returned = marked!(rt; from_json_text(rt.alloc(), text.as_str()));
     Outcome::of(encoded(rt.alloc(), returned))
@@ -73,7 +73,7 @@ fn written<E: Debug + Drop>(alloc: Global, returned: Result<Vec<u8>, E>) -> Resu
 }
 
 /// The text of a table.
-pub fn text_of(rt: &HostRuntime, row: &str) -> Result<Outcome, Fail> {
+fn text_of(rt: &HostRuntime, row: &str) -> Result<Outcome, Fail> {
     let table = Held(table_of(rt.alloc(), row)?);
     let out = output(rt.alloc())?;
     let returned = marked!(rt; append_json(&table.0, out));
@@ -81,7 +81,7 @@ pub fn text_of(rt: &HostRuntime, row: &str) -> Result<Outcome, Fail> {
 }
 
 /// The text of a table from its bytes.
-pub fn text_of_bytes(rt: &HostRuntime, row: &str) -> Result<Outcome, Fail> {
+fn text_of_bytes(rt: &HostRuntime, row: &str) -> Result<Outcome, Fail> {
     let bytes = bytes_of(rt.alloc(), row)?;
     let out = output(rt.alloc())?;
     let returned = marked!(rt; append_json_of(rt.alloc(), &bytes, out));
@@ -90,4 +90,16 @@ pub fn text_of_bytes(rt: &HostRuntime, row: &str) -> Result<Outcome, Fail> {
         Err(error) => Err(error),
     };
     written(rt.alloc(), text)
+}
+
+/// Makes the call of this name on the JSON of a table.
+pub fn call(rt: &HostRuntime, name: &str, input: &str) -> Result<Outcome, Fail> {
+    match name {
+        "to_json" => tree_of(rt, input),
+        "from_json" => table_from(rt, input),
+        "from_json_text" => table_from_text(rt, input),
+        "append_json" => text_of(rt, input),
+        "append_json_of" => text_of_bytes(rt, input),
+        _ => Err(Fail::new("no call has this name")),
+    }
 }

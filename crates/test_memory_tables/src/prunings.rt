@@ -50,7 +50,7 @@ fn chosen(alloc: Global, table: &PortableRegistry) -> Result<Vec<u32>, Fail> {
 
 /// Keeps what the given ids reach, which are those that the filter chooses. It notes each id that
 /// it is asked, for which there is room.
-pub fn retain(rt: &HostRuntime, row: &str) -> Result<Outcome, Fail> {
+fn retain(rt: &HostRuntime, row: &str) -> Result<Outcome, Fail> {
     let (name, ids) = given(rt.alloc(), row)?;
     let mut table = Held(table_of(rt.alloc(), name)?);
     let before = digits(rt.alloc(), &table.0);
@@ -72,19 +72,19 @@ fn pruned(alloc: Global, row: &str) -> Result<(Vec<u8>, Vec<u32>), Fail> {
 }
 
 /// Appends the table of what the given ids reach, with the new ids.
-pub fn prune_bytes(rt: &HostRuntime, row: &str) -> Result<Outcome, Fail> {
+fn prune_bytes(rt: &HostRuntime, row: &str) -> Result<Outcome, Fail> {
     let (bytes, ids) = pruned(rt.alloc(), row)?;
     appended!(rt; out => prune(rt.alloc(), &bytes, &ids, &mut out))
 }
 
 /// Appends the table of what the given ids reach.
-pub fn append_pruned_bytes(rt: &HostRuntime, row: &str) -> Result<Outcome, Fail> {
+fn append_pruned_bytes(rt: &HostRuntime, row: &str) -> Result<Outcome, Fail> {
     let (bytes, ids) = pruned(rt.alloc(), row)?;
     appended!(rt; out => append_pruned(rt.alloc(), &bytes, &ids, &mut out))
 }
 
 /// Whether types of two tables are the same. A row has ids and a table, and others.
-pub fn compare(rt: &HostRuntime, row: &str) -> Result<Outcome, Fail> {
+fn compare(rt: &HostRuntime, row: &str) -> Result<Outcome, Fail> {
     let (ids, row) = parted(row, ';')?;
     let (table, row) = parted(row, ';')?;
     let (others, other) = parted(row, ';')?;
@@ -92,4 +92,15 @@ pub fn compare(rt: &HostRuntime, row: &str) -> Result<Outcome, Fail> {
     let (table, other) = (bytes_of(rt.alloc(), table)?, bytes_of(rt.alloc(), other)?);
     let returned = marked!(rt; same_types(rt.alloc(), &table, &ids, &other, &others));
     Outcome::of(shown(rt.alloc(), returned))
+}
+
+/// Makes the call of this name, which prunes or compares tables.
+pub fn call(rt: &HostRuntime, name: &str, input: &str) -> Result<Outcome, Fail> {
+    match name {
+        "retain" => retain(rt, input),
+        "prune" => prune_bytes(rt, input),
+        "append_pruned" => append_pruned_bytes(rt, input),
+        "same_types" => compare(rt, input),
+        _ => Err(Fail::new("no call has this name")),
+    }
 }

@@ -16,7 +16,7 @@ use test_memory_common::own::Missing;
 use test_memory_common::types::{catalogue, documented_field, type_named, unnamed_field};
 
 /// The registry of `u8` and of the type of this name.
-pub fn registry_of(alloc: Global, known: &Catalogue, name: &str) -> Result<Registry, Fail> {
+fn registry_of(alloc: Global, known: &Catalogue, name: &str) -> Result<Registry, Fail> {
     let mut registry = Held(registry_of_u8(alloc, known)?);
     let ty = Held(type_named(alloc, name)?);
     registry.0.register_type(&ty.0, known)?;
@@ -24,13 +24,13 @@ pub fn registry_of(alloc: Global, known: &Catalogue, name: &str) -> Result<Regis
 }
 
 /// The registry of `u8` and of the type of this name, under the catalogue of all types.
-pub fn described_registry_of(alloc: Global, name: &str) -> Result<Registry, Fail> {
+fn described_registry_of(alloc: Global, name: &str) -> Result<Registry, Fail> {
     let known = Held(catalogue(alloc)?);
     registry_of(alloc, &known.0, name)
 }
 
 /// The registry of `u8`.
-pub fn registry_of_u8(alloc: Global, known: &Catalogue) -> Result<Registry, RegisterError> {
+fn registry_of_u8(alloc: Global, known: &Catalogue) -> Result<Registry, RegisterError> {
     let mut registry = Held(Registry::new(alloc));
     let ty = Held(MetaType::new::<u8>(alloc)?);
     registry.0.register_type(&ty.0, known)?;
@@ -38,7 +38,7 @@ pub fn registry_of_u8(alloc: Global, known: &Catalogue) -> Result<Registry, Regi
 }
 
 /// The encodings of a registry's descriptions, in order.
-pub fn descriptions(alloc: Global, registry: &Registry) -> Result<String, AllocError> {
+fn descriptions(alloc: Global, registry: &Registry) -> Result<String, AllocError> {
     let mut text = String::new(alloc);
     for (_, ty) in registry.types() {
         text.push_str(digits(alloc, ty)?.as_str())?;
@@ -48,7 +48,7 @@ pub fn descriptions(alloc: Global, registry: &Registry) -> Result<String, AllocE
 }
 
 /// The encodings of a registry's descriptions, each after its id.
-pub fn numbered(alloc: Global, registry: &Registry) -> Result<String, AllocError> {
+fn numbered(alloc: Global, registry: &Registry) -> Result<String, AllocError> {
     let mut text = String::new(alloc);
     for (id, ty) in registry.types() {
         let (id, digits) = (id.id(), digits(alloc, ty)?);
@@ -58,7 +58,7 @@ pub fn numbered(alloc: Global, registry: &Registry) -> Result<String, AllocError
 }
 
 /// What shows a registry: its descriptions, and whether it equals one that is made anew.
-pub fn state(alloc: Global, registry: &Registry, known: &Catalogue) -> Result<String, AllocError> {
+fn state(alloc: Global, registry: &Registry, known: &Catalogue) -> Result<String, AllocError> {
     let is_anew = match registry_of_u8(alloc, known) {
         Ok(anew) => *registry == Held(anew).0,
         Err(_) => false,
@@ -69,7 +69,7 @@ pub fn state(alloc: Global, registry: &Registry, known: &Catalogue) -> Result<St
 }
 
 /// The values of a list, where there is one.
-pub fn listed<T, E>(returned: Result<Vec<T>, E>) -> Result<Items<T>, E> {
+fn listed<T, E>(returned: Result<Vec<T>, E>) -> Result<Items<T>, E> {
     match returned {
         Ok(all) => Ok(Items::from(all)),
         Err(error) => Err(error),
@@ -96,13 +96,13 @@ macro_rules! registered {
 }
 
 /// Registers a type.
-pub fn register_type(rt: &HostRuntime, name: &str) -> Result<Outcome, Fail> {
+fn register_type(rt: &HostRuntime, name: &str) -> Result<Outcome, Fail> {
     let ty = Held(type_named(rt.alloc(), name)?);
     registered!(rt; registry, known => registry.0.register_type(&ty.0, &known.0))
 }
 
 /// Registers a type that the registry has, under a catalogue without descriptions.
-pub fn register_known_type(rt: &HostRuntime, name: &str) -> Result<Outcome, Fail> {
+fn register_known_type(rt: &HostRuntime, name: &str) -> Result<Outcome, Fail> {
     let ty = Held(type_named(rt.alloc(), name)?);
     let mut registry = Held(described_registry_of(rt.alloc(), name)?);
     let nothing = Held(Catalogue::new(rt.alloc()));
@@ -120,7 +120,7 @@ pub fn three(alloc: Global, name: &str) -> Result<Vec<MetaType>, Fail> {
 }
 
 /// Registers three types.
-pub fn register_types(rt: &HostRuntime, name: &str) -> Result<Outcome, Fail> {
+fn register_types(rt: &HostRuntime, name: &str) -> Result<Outcome, Fail> {
     let types = Held(three(rt.alloc(), name)?);
     registered!(
         rt;
@@ -129,7 +129,7 @@ pub fn register_types(rt: &HostRuntime, name: &str) -> Result<Outcome, Fail> {
 }
 
 /// Registers three types that stay where they are.
-pub fn register_all(rt: &HostRuntime, name: &str) -> Result<Outcome, Fail> {
+fn register_all(rt: &HostRuntime, name: &str) -> Result<Outcome, Fail> {
     let types = Held(three(rt.alloc(), name)?);
     registered!(rt; registry, known => registry.0.register_all(&types.0, &known.0), listed)
 }
@@ -144,7 +144,7 @@ fn two_fields(alloc: Global, name: &str) -> Result<Vec<Field>, AllocError> {
 }
 
 /// Converts two fields.
-pub fn map_into_portable(rt: &HostRuntime, name: &str) -> Result<Outcome, Fail> {
+fn map_into_portable(rt: &HostRuntime, name: &str) -> Result<Outcome, Fail> {
     let fields = Held(two_fields(rt.alloc(), name)?);
     registered!(
         rt;
@@ -165,21 +165,21 @@ where
 }
 
 /// Makes the table of a registry.
-pub fn from_registry(rt: &HostRuntime, name: &str) -> Result<Outcome, Fail> {
+fn from_registry(rt: &HostRuntime, name: &str) -> Result<Outcome, Fail> {
     let registry = Held(described_registry_of(rt.alloc(), name)?);
     let returned = marked!(rt; PortableRegistry::from_registry(rt.alloc(), &registry.0));
     Outcome::of(encoded(rt.alloc(), returned))
 }
 
 /// Makes the table of a registry that is finished.
-pub fn from_finished(rt: &HostRuntime, name: &str) -> Result<Outcome, Fail> {
+fn from_finished(rt: &HostRuntime, name: &str) -> Result<Outcome, Fail> {
     let registry = Held(described_registry_of(rt.alloc(), name)?);
     let returned = marked!(rt; PortableRegistry::from_finished(rt.alloc(), registry.into_inner()));
     Outcome::of(encoded(rt.alloc(), returned))
 }
 
 /// Takes the descriptions out of a registry.
-pub fn into_types(rt: &HostRuntime, name: &str) -> Result<Outcome, Fail> {
+fn into_types(rt: &HostRuntime, name: &str) -> Result<Outcome, Fail> {
     let registry = Held(described_registry_of(rt.alloc(), name)?);
     let types = marked!(rt; Items::from(registry.into_inner().into_types()));
     Outcome::of(done(digits(rt.alloc(), &types)))
@@ -187,7 +187,7 @@ pub fn into_types(rt: &HostRuntime, name: &str) -> Result<Outcome, Fail> {
 
 /// Goes over the descriptions of a registry, which are shown with their ids, and compares it with
 /// another.
-pub fn look(rt: &HostRuntime, name: &str) -> Result<Outcome, Fail> {
+fn look(rt: &HostRuntime, name: &str) -> Result<Outcome, Fail> {
     let known = Held(catalogue(rt.alloc())?);
     let registry = Held(registry_of(rt.alloc(), &known.0, name)?);
     let other = Held(registry_of_u8(rt.alloc(), &known.0)?);
@@ -200,4 +200,20 @@ pub fn look(rt: &HostRuntime, name: &str) -> Result<Outcome, Fail> {
     end(rt);
     let types = numbered(rt.alloc(), &registry.0)?;
     Outcome::of(done(format!(in rt.alloc(); "{count} {same}{types}")))
+}
+
+/// Makes the call of this name on a registry.
+pub fn call(rt: &HostRuntime, name: &str, input: &str) -> Result<Outcome, Fail> {
+    match name {
+        "register_type" => register_type(rt, input),
+        "register_types" => register_types(rt, input),
+        "register_all" => register_all(rt, input),
+        "register_known_type" => register_known_type(rt, input),
+        "map_into_portable" => map_into_portable(rt, input),
+        "from_registry" => from_registry(rt, input),
+        "from_finished" => from_finished(rt, input),
+        "into_types" => into_types(rt, input),
+        "look" => look(rt, input),
+        _ => Err(Fail::new("no call has this name")),
+    }
 }

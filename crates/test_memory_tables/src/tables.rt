@@ -33,14 +33,14 @@ fn decoded(
 }
 
 /// Decodes a table.
-pub fn decode(rt: &HostRuntime, row: &str) -> Result<Outcome, Fail> {
+fn decode(rt: &HostRuntime, row: &str) -> Result<Outcome, Fail> {
     let bytes = bytes_of(rt.alloc(), row)?;
     let returned = marked!(rt; PortableRegistry::decode(rt.alloc(), &bytes));
     Outcome::of(decoded(rt.alloc(), returned))
 }
 
 /// Decodes a compact integer, and encodes it again.
-pub fn decode_compact(rt: &HostRuntime, row: &str) -> Result<Outcome, Fail> {
+fn decode_compact(rt: &HostRuntime, row: &str) -> Result<Outcome, Fail> {
     let bytes = bytes_of(rt.alloc(), row)?;
     let returned = marked!(rt; Compact::<u32>::decode_from(rt.alloc(), &bytes));
     let (number, rest) = returned?;
@@ -49,20 +49,20 @@ pub fn decode_compact(rt: &HostRuntime, row: &str) -> Result<Outcome, Fail> {
 }
 
 /// Encodes a table.
-pub fn encode(rt: &HostRuntime, row: &str) -> Result<Outcome, Fail> {
+fn encode(rt: &HostRuntime, row: &str) -> Result<Outcome, Fail> {
     let table = Held(table_of(rt.alloc(), row)?);
     appended!(rt; out => table.0.encode(&mut out))
 }
 
 /// Copies a table.
-pub fn try_clone(rt: &HostRuntime, row: &str) -> Result<Outcome, Fail> {
+fn try_clone(rt: &HostRuntime, row: &str) -> Result<Outcome, Fail> {
     let table = Held(table_of(rt.alloc(), row)?);
     let returned = marked!(rt; table.0.try_clone(rt.alloc()));
     Outcome::of(encoded(rt.alloc(), returned))
 }
 
 /// Copies each entry of a table.
-pub fn try_clone_entries(rt: &HostRuntime, row: &str) -> Result<Outcome, Fail> {
+fn try_clone_entries(rt: &HostRuntime, row: &str) -> Result<Outcome, Fail> {
     let table = Held(table_of(rt.alloc(), row)?);
     let returned = marked!(rt; table.0.types.try_clone(rt.alloc()));
     Outcome::of(encoded(rt.alloc(), returned))
@@ -85,7 +85,7 @@ pub fn look(rt: &HostRuntime, row: &str) -> Result<Outcome, Fail> {
 }
 
 /// Compares a table with an equal one, and with the empty one.
-pub fn compare(rt: &HostRuntime, row: &str) -> Result<Outcome, Fail> {
+fn compare(rt: &HostRuntime, row: &str) -> Result<Outcome, Fail> {
     let left = Held(table_of(rt.alloc(), row)?);
     let right = Held(table_of(rt.alloc(), row)?);
     let empty = Held(table_of(rt.alloc(), "empty")?);
@@ -96,7 +96,7 @@ pub fn compare(rt: &HostRuntime, row: &str) -> Result<Outcome, Fail> {
 }
 
 /// How the first descriptions of two tables compare.
-pub fn order(rt: &HostRuntime, row: &str) -> Result<Outcome, Fail> {
+fn order(rt: &HostRuntime, row: &str) -> Result<Outcome, Fail> {
     let left = Held(table_of(rt.alloc(), row)?);
     let right = Held(table_of(rt.alloc(), "docs of a type, a variant and a field")?);
     let (Some(left), Some(right)) = (left.0.resolve(0), right.0.resolve(1)) else {
@@ -104,4 +104,18 @@ pub fn order(rt: &HostRuntime, row: &str) -> Result<Outcome, Fail> {
     };
     let order = marked!(rt; left.cmp(right));
     Outcome::of(done(format!(in rt.alloc(); "{order:?}")))
+}
+
+/// Makes the call of this name on a table.
+pub fn call(rt: &HostRuntime, name: &str, input: &str) -> Result<Outcome, Fail> {
+    match name {
+        "decode" => decode(rt, input),
+        "encode" => encode(rt, input),
+        "try_clone" => try_clone(rt, input),
+        "try_clone_entries" => try_clone_entries(rt, input),
+        "compare" => compare(rt, input),
+        "order" => order(rt, input),
+        "decode_compact" => decode_compact(rt, input),
+        _ => Err(Fail::new("no call has this name")),
+    }
 }

@@ -23,7 +23,7 @@ pub fn walked(alloc: Global, returned: Result<Numbering, RetainError>) -> Result
 }
 
 /// Numbers what the given ids reach.
-pub fn number_table(rt: &HostRuntime, row: &str) -> Result<Outcome, Fail> {
+fn number_table(rt: &HostRuntime, row: &str) -> Result<Outcome, Fail> {
     let (name, ids) = given(rt.alloc(), row)?;
     let table = Held(table_of(rt.alloc(), name)?);
     let returned = marked!(rt; number(rt.alloc(), table.0.types(), &ids));
@@ -31,7 +31,7 @@ pub fn number_table(rt: &HostRuntime, row: &str) -> Result<Outcome, Fail> {
 }
 
 /// Numbers what the given ids reach, by a recursion.
-pub fn number_table_recursively(rt: &HostRuntime, row: &str) -> Result<Outcome, Fail> {
+fn number_table_recursively(rt: &HostRuntime, row: &str) -> Result<Outcome, Fail> {
     let (name, ids) = given(rt.alloc(), row)?;
     let table = Held(table_of(rt.alloc(), name)?);
     let returned = marked!(rt; number_recursive(rt.alloc(), table.0.types(), &ids));
@@ -58,7 +58,7 @@ fn listed(alloc: Global, refs: Refs) -> Result<String, AllocError> {
 }
 
 /// Lists the references of the entry at index 0.
-pub fn refs_of(rt: &HostRuntime, row: &str) -> Result<Outcome, Fail> {
+fn refs_of(rt: &HostRuntime, row: &str) -> Result<Outcome, Fail> {
     let table = Held(table_of(rt.alloc(), row)?);
     let Some(ty) = table.0.resolve(0) else {
         return Err(Fail::new("the table is empty"));
@@ -71,7 +71,7 @@ pub fn refs_of(rt: &HostRuntime, row: &str) -> Result<Outcome, Fail> {
 }
 
 /// Puts the references of the entry at index 0 before one that is left.
-pub fn prepend(rt: &HostRuntime, row: &str) -> Result<Outcome, Fail> {
+fn prepend(rt: &HostRuntime, row: &str) -> Result<Outcome, Fail> {
     let table = Held(table_of(rt.alloc(), row)?);
     let Some(ty) = table.0.resolve(0) else {
         return Err(Fail::new("the table is empty"));
@@ -85,7 +85,7 @@ pub fn prepend(rt: &HostRuntime, row: &str) -> Result<Outcome, Fail> {
 }
 
 /// Takes the first reference of the entry at index 0.
-pub fn next_refs(rt: &HostRuntime, row: &str) -> Result<Outcome, Fail> {
+fn next_refs(rt: &HostRuntime, row: &str) -> Result<Outcome, Fail> {
     let table = Held(table_of(rt.alloc(), row)?);
     let Some(ty) = table.0.resolve(0) else {
         return Err(Fail::new("the table is empty"));
@@ -94,4 +94,16 @@ pub fn next_refs(rt: &HostRuntime, row: &str) -> Result<Outcome, Fail> {
     let mut steps = 0;
     let first = marked!(rt; refs.next(&mut steps));
     Outcome::of(done(format!(in rt.alloc(); "{first:?} {steps}")))
+}
+
+/// Makes the call of this name, which walks over a table.
+pub fn call(rt: &HostRuntime, name: &str, input: &str) -> Result<Outcome, Fail> {
+    match name {
+        "number" => number_table(rt, input),
+        "number_recursive" => number_table_recursively(rt, input),
+        "Refs::of" => refs_of(rt, input),
+        "Refs::prepend_of" => prepend(rt, input),
+        "Refs::next" => next_refs(rt, input),
+        _ => Err(Fail::new("no call has this name")),
+    }
 }

@@ -7,6 +7,7 @@ use test_common::catalogues::add_own;
 use test_common::held::Held;
 use test_common::shown::Show;
 use test_memory_common::answers::{Answer, done, shown};
+use test_memory_common::by_name::{Described, for_type, found as found_type};
 use test_memory_common::marked;
 use test_memory_common::marks::{begin, end};
 use test_memory_common::outcomes::Outcome;
@@ -62,7 +63,7 @@ fn state(alloc: Global, known: &Catalogue, identity: &TypeId) -> Result<String, 
 }
 
 /// Adds a type to the fifteen and the types of these names.
-pub fn add<T: TypeInfo>(rt: &HostRuntime, before: &str) -> Result<Outcome, Fail> {
+fn add<T: TypeInfo>(rt: &HostRuntime, before: &str) -> Result<Outcome, Fail> {
     let mut known = Held(fifteen(rt.alloc())?);
     add_all(rt.alloc(), &mut known.0, before)?;
     let identity = T::Identity::type_id(rt.alloc())?;
@@ -72,8 +73,29 @@ pub fn add<T: TypeInfo>(rt: &HostRuntime, before: &str) -> Result<Outcome, Fail>
     Outcome::lending(before, after, shown(rt.alloc(), returned))
 }
 
+/// Adds the type of a name.
+#[derive(Drop)]
+struct AddAfter<'a> {
+    rt: &'a HostRuntime,
+    before: &'a str,
+}
+
+impl Described for AddAfter<'_> {
+    type Returned = Result<Outcome, Fail>;
+
+    fn of<T: TypeInfo>(self) -> Result<Outcome, Fail> {
+        add::<T>(self.rt, self.before)
+    }
+}
+
+/// Adds the last of the types of these names to the fifteen and the types before it.
+fn add_named(rt: &HostRuntime, names: &str) -> Result<Outcome, Fail> {
+    let (before, last) = names.rsplit_once(" | ").unwrap_or(("", names));
+    found_type(for_type(AddAfter { rt, before }, last))
+}
+
 /// Adds the pair of `u32` and `bool`, whose identity has the description of `u32`.
-pub fn add_described_otherwise(rt: &HostRuntime) -> Result<Outcome, Fail> {
+fn add_described_otherwise(rt: &HostRuntime) -> Result<Outcome, Fail> {
     let mut known = Held(fifteen(rt.alloc())?);
     let identity = Pair::type_id(rt.alloc())?;
     add_own(
@@ -105,18 +127,18 @@ fn add_to(rt: &HostRuntime, mut known: Catalogue, name: &str) -> Result<Outcome,
 }
 
 /// Adds the description of this name under a new identity.
-pub fn add_described(rt: &HostRuntime, name: &str) -> Result<Outcome, Fail> {
+fn add_described(rt: &HostRuntime, name: &str) -> Result<Outcome, Fail> {
     let known = Held(fifteen(rt.alloc())?);
     add_to(rt, known.into_inner(), name)
 }
 
 /// Adds the description of this name to an empty catalogue.
-pub fn add_first_described(rt: &HostRuntime, name: &str) -> Result<Outcome, Fail> {
+fn add_first_described(rt: &HostRuntime, name: &str) -> Result<Outcome, Fail> {
     add_to(rt, Catalogue::new(rt.alloc()), name)
 }
 
 /// Adds the description of this name under an identity that has the other one.
-pub fn add_described_after(rt: &HostRuntime, other: &str, name: &str) -> Result<Outcome, Fail> {
+fn add_described_after(rt: &HostRuntime, other: &str, name: &str) -> Result<Outcome, Fail> {
     let mut known = Held(fifteen(rt.alloc())?);
     let identity = Missing::type_id(rt.alloc())?;
     known
@@ -126,7 +148,7 @@ pub fn add_described_after(rt: &HostRuntime, other: &str, name: &str) -> Result<
 }
 
 /// Looks the type of this name up in the catalogue of all types.
-pub fn look(rt: &HostRuntime, name: &str) -> Result<Outcome, Fail> {
+fn look(rt: &HostRuntime, name: &str) -> Result<Outcome, Fail> {
     let ty = Held(type_named(rt.alloc(), name)?);
     let known = Held(catalogue(rt.alloc())?);
     begin(rt);
@@ -135,4 +157,18 @@ pub fn look(rt: &HostRuntime, name: &str) -> Result<Outcome, Fail> {
     end(rt);
     let found = found(rt.alloc(), &known.0, ty.0.type_id())?;
     Outcome::of(done(format!(in rt.alloc(); "({is_found}, {same}) {found}")))
+}
+
+/// Makes the call of this name on a catalogue.
+pub fn call(rt: &HostRuntime, name: &str, input: &str) -> Result<Outcome, Fail> {
+    match name {
+        "add" => add_named(rt, input),
+        "add_described" => add_described(rt, input),
+        "add_first_described" => add_first_described(rt, input),
+        "add_described_again" => add_described_after(rt, input, input),
+        "add_another_described" => add_described_after(rt, "u32", input),
+        "add_described_otherwise" => add_described_otherwise(rt),
+        "look" => look(rt, input),
+        _ => Err(Fail::new("no call has this name")),
+    }
 }

@@ -67,7 +67,7 @@ macro_rules! of_enum {
 }
 
 /// Writes the error of this name: an enum, and its variant.
-pub fn error(rt: &HostRuntime, name: &str) -> Result<Outcome, Fail> {
+fn display(rt: &HostRuntime, name: &str) -> Result<Outcome, Fail> {
     let alloc = rt.alloc();
     let (error, variant) = name.split_once("::").unwrap_or((name, ""));
     of_enum!(rt, error, variant;
@@ -134,4 +134,12 @@ pub fn error(rt: &HostRuntime, name: &str) -> Result<Outcome, Fail> {
         "DecodeAsError" => [DecodeAsError::Decode(ValueError::Malformed), DecodeAsError::Mismatch],
         "EncodeAsError" => [EncodeAsError::Encode(mismatch(alloc)?), EncodeAsError::Mismatch]
     )
+}
+
+/// Makes the call of this name, which writes an error.
+pub fn call(rt: &HostRuntime, name: &str, input: &str) -> Result<Outcome, Fail> {
+    match name {
+        "display" => display(rt, input),
+        _ => Err(Fail::new("no call has this name")),
+    }
 }

@@ -1,6 +1,5 @@
 //! Identities of standard types, what these types are described as, and calls for a type by its
 //! name.
-use crate::catalogues;
 use scale_info::impls::meta_type;
 use scale_info::meta_type::{HasIdentity, Identified};
 use scale_info::{MetaType, TypeDefSequence, TypeInfo};
@@ -54,7 +53,6 @@ fn sequence<T: HasIdentity>(rt: &HostRuntime) -> Result<Outcome, Fail> {
 struct CallOfType<'a> {
     rt: &'a HostRuntime,
     name: &'a str,
-    before: &'a str,
 }
 
 impl Described for CallOfType<'_> {
@@ -68,14 +66,12 @@ impl Described for CallOfType<'_> {
             "MetaType::new" => by_identity::<T>(self.rt),
             "meta_type" => by_function::<T>(self.rt),
             "TypeDefSequence::of" => sequence::<T>(self.rt),
-            _ => catalogues::add::<T>(self.rt, self.before),
+            _ => Err(Fail::new("no call has this name")),
         }
     }
 }
 
-/// Makes the call of this name for the last of these types; the types before it are in the
-/// catalogue.
+/// Makes the call of this name for the type that the input names.
 pub fn call(rt: &HostRuntime, name: &str, input: &str) -> Result<Outcome, Fail> {
-    let (before, last) = input.rsplit_once(" | ").unwrap_or(("", input));
-    found(for_type(CallOfType { rt, name, before }, last))
+    found(for_type(CallOfType { rt, name }, input))
 }

@@ -130,19 +130,17 @@ fn register_type(rt: &HostRuntime, given: Given, ty: &MetaType) -> Result<Outcom
 }
 
 /// Registers the types of a row by the call of this name.
-pub fn register(rt: &HostRuntime, call: &str, row: &str) -> Result<Outcome, Fail> {
+fn register(rt: &HostRuntime, call: &str, row: &str) -> Result<Outcome, Fail> {
     let (given, names) = read(rt.alloc(), row)?;
     match call {
-        "Registry::register_types" => register_types(rt, given, types_named(rt.alloc(), names)?),
-        "Registry::register_all" => {
-            register_all(rt, given, &Held(types_named(rt.alloc(), names)?).0)
-        }
+        "register_types" => register_types(rt, given, types_named(rt.alloc(), names)?),
+        "register_all" => { register_all(rt, given, &Held(types_named(rt.alloc(), names)?).0) }
         _ => register_type(rt, given, &Held(type_named(rt.alloc(), names)?).0),
     }
 }
 
 /// Registers 24 lists, each of which refers to the next type.
-pub fn register_nested(rt: &HostRuntime) -> Result<Outcome, Fail> {
+fn register_nested(rt: &HostRuntime) -> Result<Outcome, Fail> {
     let registry = Held(Registry::new(rt.alloc()));
     let known = Held(nested::catalogue(rt.alloc())?);
     register_types(rt, (registry, known), nested::outermost(rt.alloc())?)
@@ -232,7 +230,7 @@ fn part(rt: &HostRuntime, given: Given, kind: &str, ty: MetaType) -> Result<Outc
 }
 
 /// Converts a value of the kind that a row begins with, which holds the type after the colon.
-pub fn convert_value(rt: &HostRuntime, row: &str) -> Result<Outcome, Fail> {
+fn convert_value(rt: &HostRuntime, row: &str) -> Result<Outcome, Fail> {
     let (kind, row) = parted(row, ':')?;
     let (given, name) = read(rt.alloc(), row)?;
     let name = name.trim();
@@ -249,5 +247,15 @@ pub fn convert_value(rt: &HostRuntime, row: &str) -> Result<Outcome, Fail> {
             let ty = type_named(rt.alloc(), name)?;
             part(rt, given, kind, ty)
         }
+    }
+}
+
+/// Makes the call of this name on a registry.
+pub fn call(rt: &HostRuntime, name: &str, input: &str) -> Result<Outcome, Fail> {
+    match name {
+        "register_type" | "register_types" | "register_all" => register(rt, name, input),
+        "register_nested" => register_nested(rt),
+        "convert" => convert_value(rt, input),
+        _ => Err(Fail::new("no call has this name")),
     }
 }
