@@ -1,6 +1,6 @@
 //! A program that makes calls of `scale_info` between marks, and prints what each did.
 //!
-//! Each line of the standard input is a call and its input.
+//! Each line of the standard input is a row: the call of a module, and its input.
 #![tactic(auto)]
 
 mod calls;

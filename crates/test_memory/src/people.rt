@@ -56,9 +56,8 @@ fn find(rt: &HostRuntime, name: &str, row: &str) -> Result<Outcome, Fail> {
 
 /// Appends the graph of what ids reach to a text: before the semicolon stand the ids.
 fn draw(rt: &HostRuntime, row: &str) -> Result<Outcome, Fail> {
-    let (ids, table) = parted(row, ';')?;
+    let (ids, table) = read(rt.alloc(), row)?;
     let ids = numbers(rt.alloc(), ids)?;
-    let table = Held(table_of(rt.alloc(), table.trim())?);
     let mut out = String::from_str(rt.alloc(), "// ")?;
     let before = format!(in rt.alloc(); "{out:?}");
     let returned = marked!(rt; append_graph(rt.alloc(), &table.0, &ids, &mut out));

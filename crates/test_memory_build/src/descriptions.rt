@@ -1,5 +1,5 @@
-//! Descriptions by their builders: empty ones, one with docs, a generic struct, an enum, and a struct of
-//! a table.
+//! Descriptions by their builders: empty ones, one with docs, a generic struct, an enum, and a
+//! struct of a table.
 use scale_info::build::{
     Fields, FieldsBuilder, NamedFields, PathNotAssigned, TypeBuilder, UnnamedFields, Variants,
 };

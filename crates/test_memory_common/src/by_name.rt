@@ -91,7 +91,7 @@ pub fn found<T>(made: Option<Result<T, Fail>>) -> Result<T, Fail> {
     }
 }
 
-/// Makes a call for the type that stands beside the name; the call itself, where none has this name.
+/// Makes a call for the type that stands beside the name; the call itself where no type has it.
 macro_rules! of_name {
     ($call:expr, $name:expr; $($text:literal => $ty:ty),*) => {
         match $name {

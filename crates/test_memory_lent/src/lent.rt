@@ -1,5 +1,5 @@
-//! Descriptions that are lent: those at each id of a table or a builder, and those whose strings stay
-//! in the bytes. Beside them the index of a variant.
+//! Descriptions that are lent: those at each id of a table or a builder, and those whose strings
+//! stay in the bytes. Beside them the index of a variant.
 use scale_info::form::{Form, PortableForm};
 use scale_info::lent_form::{LentForm, decode_type, owned_type};
 use scale_info::value::variant_index;

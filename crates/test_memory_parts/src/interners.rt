@@ -1,5 +1,5 @@
-//! Interners of texts, which rows give between brackets, and of the digits of so many numbers that
-//! their order has chunks, which are split and joined.
+//! Interners of texts, which rows give between brackets, and of the digits of many numbers, whose
+//! order has chunks that are split and joined.
 use crate::asked::{Asked, ask};
 use scale_info::interner::{InternError, Interner, UntrackedSymbol};
 use scale_info::{Text, TryClone};

@@ -1,4 +1,4 @@
-//! Calls over bytes, tables, registries and interners, each made once between marks.
+//! Calls over tables, walks, JSON, builders and registries, each made once between marks.
 #![tactic(auto)]
 
 pub mod builders;

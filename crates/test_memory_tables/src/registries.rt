@@ -1,4 +1,5 @@
-//! Registries: types that are registered, values that are converted, and what is made of them.
+//! Registries that begin with `u8`: what is registered after it under the catalogue of all types,
+//! what is converted, and what is made of them.
 use scale_info::meta_type::Catalogue;
 use scale_info::registry::RegisterError;
 use scale_info::{

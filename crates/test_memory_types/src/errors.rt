@@ -116,8 +116,8 @@ fn display(rt: &HostRuntime, name: &str) -> Result<Outcome, Fail> {
             ValueJsonError::Mismatch, ValueJsonError::Memory
         ],
         "EncodeValueError" => [
-            EncodeValueError::NoSuchType, EncodeValueError::Unsupported, EncodeValueError::TooDeep,
-            mismatch(alloc)?, EncodeValueError::Memory
+            mismatch(alloc)?, EncodeValueError::NoSuchType, EncodeValueError::Unsupported,
+            EncodeValueError::TooDeep, EncodeValueError::Memory
         ],
         "Failure" => [
             Failure::NoSuchType, Failure::Unsupported, Failure::TooDeep, Failure::Malformed

@@ -1,5 +1,4 @@
-//! Identities of standard types, what these types are described as, and calls for a type by its
-//! name.
+//! Identities of standard types, what these types are described as, and types by their identities.
 use scale_info::impls::meta_type;
 use scale_info::meta_type::{HasIdentity, Identified};
 use scale_info::{MetaType, TypeDefSequence, TypeInfo};

@@ -1,5 +1,5 @@
-//! Calls over types of a program: identities, descriptions, catalogues and registrations; the texts
-//! of errors, and the public items. Each call is made once between marks.
+//! Calls over types of a program: identities, descriptions, catalogues and registrations; and the
+//! texts of errors. Each call is made once between marks.
 #![tactic(auto)]
 
 pub mod catalogues;
