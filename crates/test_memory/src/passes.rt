@@ -89,13 +89,6 @@ fn visited_as(rt: &HostRuntime, kind: &str, input: &[u8]) -> Result<Outcome, Fai
         "option" => visited::<Option<UntrackedSymbol<TypeId>>>(rt, input),
         "list" => visited::<Items<UntrackedSymbol<TypeId>>>(rt, input),
         "pair" => visited::<(u8, UntrackedSymbol<TypeId>)>(rt, input),
-        _ => visited_as_part(rt, kind, input),
-    }
-}
-
-/// Has the passes visit an entry, or a part of a description.
-fn visited_as_part(rt: &HostRuntime, kind: &str, input: &[u8]) -> Result<Outcome, Fail> {
-    match kind {
         "entry" => visited::<PortableType>(rt, input),
         "path" => visited::<Path<PortableForm>>(rt, input),
         "parameter" => visited::<TypeParameter<PortableForm>>(rt, input),

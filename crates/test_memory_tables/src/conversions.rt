@@ -26,22 +26,15 @@ fn part(rt: &HostRuntime, known: Known, kind: &str) -> Result<Outcome, Fail> {
 
 /// Converts a value of this kind by a catalogue, which is lent.
 fn part_by(rt: &HostRuntime, known: &Catalogue, kind: &str) -> Result<Outcome, Fail> {
-    match kind {
-        "text" => into_portable(rt, known, "a text"),
-        "path" => into_portable(rt, known, demo_path(rt.alloc())?),
-        "field" => into_portable(rt, known, documented_field(rt.alloc())?),
-        "variant" => into_portable(rt, known, documented_variant(rt.alloc())?),
-        "parameter" => into_portable(rt, known, given_parameter(rt.alloc())?),
-        "composite" => into_portable(rt, known, composite(rt.alloc())?),
-        "variants" => into_portable(rt, known, variants(rt.alloc())?),
-        _ => definition_of_types(rt, known, kind),
-    }
-}
-
-/// Converts a definition of this kind, one that holds types alone, by a catalogue.
-fn definition_of_types(rt: &HostRuntime, known: &Catalogue, kind: &str) -> Result<Outcome, Fail> {
     let alloc = rt.alloc();
     match kind {
+        "text" => into_portable(rt, known, "a text"),
+        "path" => into_portable(rt, known, demo_path(alloc)?),
+        "field" => into_portable(rt, known, documented_field(alloc)?),
+        "variant" => into_portable(rt, known, documented_variant(alloc)?),
+        "parameter" => into_portable(rt, known, given_parameter(alloc)?),
+        "composite" => into_portable(rt, known, composite(alloc)?),
+        "variants" => into_portable(rt, known, variants(alloc)?),
         "sequence" => into_portable(rt, known, TypeDefSequence::of::<Vec<u32>>(alloc)?),
         "array" => into_portable(rt, known, TypeDefArray::new(32, type_named(alloc, "u32")?)),
         "compact" => into_portable(rt, known, TypeDefCompact::new(type_named(alloc, "u32")?)),

@@ -5,6 +5,7 @@
 //! ` under ` stand those that the catalogue describes, or `nothing`; they are all where the row has
 //! no such part.
 use crate::nested;
+use scale_info::impls::meta_type;
 use scale_info::meta_type::{Catalogue, CatalogueError, HasIdentity};
 use scale_info::registry::RegisterError;
 use scale_info::{
@@ -183,9 +184,15 @@ fn variants(alloc: Global, ty: MetaType) -> Result<TypeDefVariant, AllocError> {
     Ok(TypeDefVariant::from(list_of(alloc, variant(alloc, ty)?)?))
 }
 
-/// A tuple of two types.
-fn tuple(alloc: Global, first: MetaType, ty: MetaType) -> Result<TypeDefTuple, AllocError> {
-    TypeDefTuple::new(alloc, with(list_of(alloc, first), Ok(ty))?)
+/// A tuple of `u8` and a type.
+fn tuple(alloc: Global, ty: MetaType) -> Result<TypeDefTuple, AllocError> {
+    let first = list_of(alloc, meta_type::<u8>(alloc)?);
+    TypeDefTuple::new(alloc, with(first, Ok(ty))?)
+}
+
+/// A map from `u8` to a type.
+fn map(alloc: Global, ty: MetaType) -> Result<TypeDefMap, AllocError> {
+    Ok(TypeDefMap::new(meta_type::<u8>(alloc)?, ty))
 }
 
 /// Makes a sequence of bits in `u8`, in the order of a type with a name.
@@ -200,21 +207,7 @@ impl Known for BitsInOrder {
     }
 }
 
-/// Converts a definition of this kind, with `u8` where it has two types.
-fn definition(rt: &HostRuntime, given: Given, kind: &str, ty: MetaType) -> Result<Outcome, Fail> {
-    let alloc = rt.alloc();
-    match kind {
-        "a definition" => { convert(rt, given, Ok(TypeDef::from(TypeDefSequence::new(ty)))) }
-        "a sequence" => convert(rt, given, Ok(TypeDefSequence::new(ty))),
-        "an array" => convert(rt, given, Ok(TypeDefArray::new(32, ty))),
-        "a compact" => convert(rt, given, Ok(TypeDefCompact::new(ty))),
-        "a tuple" => convert(rt, given, tuple(alloc, type_named(alloc, "u8")?, ty)),
-        "a map" => convert(rt, given, Ok(TypeDefMap::new(type_named(alloc, "u8")?, ty))),
-        _ => Err(Fail::new("no kind has this name")),
-    }
-}
-
-/// Converts a value of this kind that holds a type.
+/// Converts a value of this kind that holds a type, with `u8` before it where it holds two.
 fn part(rt: &HostRuntime, given: Given, kind: &str, ty: MetaType) -> Result<Outcome, Fail> {
     let alloc = rt.alloc();
     match kind {
@@ -225,7 +218,13 @@ fn part(rt: &HostRuntime, given: Given, kind: &str, ty: MetaType) -> Result<Outc
         "a variant" => convert(rt, given, variant(alloc, ty)),
         "a composite" => convert(rt, given, composite(alloc, ty)),
         "variants" => convert(rt, given, variants(alloc, ty)),
-        _ => definition(rt, given, kind, ty),
+        "a definition" => { convert(rt, given, Ok(TypeDef::from(TypeDefSequence::new(ty)))) }
+        "a sequence" => convert(rt, given, Ok(TypeDefSequence::new(ty))),
+        "an array" => convert(rt, given, Ok(TypeDefArray::new(32, ty))),
+        "a compact" => convert(rt, given, Ok(TypeDefCompact::new(ty))),
+        "a tuple" => convert(rt, given, tuple(alloc, ty)),
+        "a map" => convert(rt, given, map(alloc, ty)),
+        _ => Err(Fail::new("no kind has this name")),
     }
 }
 
