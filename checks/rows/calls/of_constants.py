@@ -224,7 +224,9 @@ CALLS = {
     "copies.Items": list_copied,
     "copies.Form": form_copied,
     "descriptions.docs": lambda _: unit(DEMO_PATH, docs=["a struct", ""]),
-    "constructors.Type::new_portable": lambda _: written(DESCRIPTION, Description(["p", "q"], [Parameter("T", 7)], SEQUENCE.definition, ["d", "e"])),
+    "constructors.Type::new_portable": lambda _: written(
+        DESCRIPTION, Description(["p", "q"], [Parameter("T", 7)], SEQUENCE.definition, ["d", "e"]),
+    ),
     "constructors.TypeDefComposite::new": lambda _: definition_converted(Definition("composite", fields=[DOCUMENTED_FIELD])),
     "constructors.TypeDefVariant::new": lambda _: definition_converted(Definition("variant", variants=[DOCUMENTED_VARIANT])),
 }
