@@ -54,6 +54,7 @@ pub use Rattle.scale_info_prune.specs.TableIndexes
 pub use Rattle.scale_info_prune.specs.SameTypes
 pub use Rattle.scale_info_docs.specs.Changes
 pub use Rattle.scale_info_docs.specs.WithoutDocs
+pub use Rattle.scale_info_hexadecimal.specs.Digits
 pub use Rattle.scale_info_metadata.specs.HexTexts
 pub use Rattle.scale_info_metadata.specs.Metadata
 pub use Rattle.scale_info_metadata.specs.TablesFound

@@ -1,10 +1,7 @@
 -- Bytes that a text writes in hexadecimal digits.
-use Rattle.std.specs.Prelude.{ℕ, ◌==◌, ◌||◌, List, [], ◌∷◌, Bool, Option, None, reverse, codes}
-use Rattle.std.specs.Prelude.{drop}
+use Rattle.std.specs.Prelude.{ℕ, ◌==◌, ◌||◌, List, [], ◌∷◌, Bool, Option, None, length, reverse}
 use Rattle.std.specs.Prelude.{if◌then◌else◌}
-use Rattle.std.specs.List.{starts_with}
-use Rattle.std.specs.Result.{result_ok}
-use Rattle.hex.specs.Hex.{decode_of}
+use Rattle.scale_info_hexadecimal.specs.Digits.{bytes_by_digits, without_mark}
 
 -- whether this byte may stand around the digits: a space, a tab, a line feed, a carriage return, or
 -- a quote
@@ -21,19 +18,12 @@ trimmed_start (byte ∷ bytes) =
 abbrev pub trimmed_end : List ℕ → List ℕ
 trimmed_end bytes = reverse (trimmed_start (reverse bytes))
 
--- the bytes without the mark `0x` at their start
-abbrev pub without_mark : List ℕ → List ℕ
-without_mark text = if starts_with ◌==◌ text (codes "0x") then drop 2 text else text
+-- what is left of a text without what stands around its digits
+abbrev pub trimmed : List ℕ → List ℕ
+trimmed text = trimmed_end (trimmed_start text)
 
--- the digits of a text: what is left without what stands around them and their mark
-abbrev pub digits_in : List ℕ → List ℕ
-digits_in text = without_mark (trimmed_end (trimmed_start text))
-
--- the bytes that one digit or more write
-abbrev pub bytes_by : List ℕ → Option (List ℕ)
-bytes_by [] = None
-bytes_by (digit ∷ digits) = result_ok (decode_of (digit ∷ digits))
-
--- the bytes that a text writes in two hexadecimal digits each, with `0x` before them or without it
+-- the bytes that a text writes in two hexadecimal digits each, with `0x` before them or without it;
+-- None where there is no digit
 abbrev pub bytes_in : List ℕ → Option (List ℕ)
-bytes_in text = bytes_by (digits_in text)
+bytes_in text =
+    if length (without_mark (trimmed text)) == 0 then None else bytes_by_digits (trimmed text)

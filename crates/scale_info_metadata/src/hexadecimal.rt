@@ -1,9 +1,9 @@
 //! Bytes that are written as hexadecimal text.
 ghost use Rattle.std.specs.Prelude.{◌≡◌, IfOk, option_map};
 ghost use Rattle.scale_info_metadata.specs.HexTexts.{is_around, trimmed_start, trimmed_end};
-ghost use Rattle.scale_info_metadata.specs.HexTexts.{bytes_by, bytes_in, without_mark};
+ghost use Rattle.scale_info_metadata.specs.HexTexts.{bytes_in};
 
-use hex::FromHexError;
+use scale_info_hexadecimal::decode::{decode, without_mark};
 use std::alloc::{AllocError, Global};
 
 /// Whether this byte may stand around digits: a blank, a line feed or a quote.
@@ -41,33 +41,9 @@ fn trim_end(text: &[u8]) -> &[u8]
     rest
 }
 
-/// The digits without the mark `0x` before them.
-fn without_mark(text: &[u8]) -> &[u8]
-    ensures { result.now ≡ without_mark text.now }
-{
-    match text.strip_prefix(b"0x") {
-        Some(digits) => digits,
-        None => text,
-    }
-}
-
-/// The bytes that hexadecimal digits write; None where there is no digit, or where the text is no
-/// even number of digits.
-fn bytes_by(alloc: Global, digits: &[u8]) -> Result<Option<Vec<u8>>, AllocError>
-    ensures { IfOk result (λ found. option_map (λ bytes. bytes.items) found ≡ bytes_by digits.now) }
-{
-    if digits.is_empty() {
-        return Ok(None);
-    }
-    match hex::decode(alloc, digits) {
-        Ok(bytes) => Ok(Some(bytes)),
-        Err(FromHexError::OutOfMemory) => Err(AllocError),
-        Err(_) => Ok(None),
-    }
-}
-
 /// The bytes that a text writes in two hexadecimal digits each, in either case, after `0x` or
-/// without it, with blanks, line feeds and quotes around them; None for any other text.
+/// without it, with spaces, tabs, line feeds, carriage returns and quotes around them; None for any
+/// other text, also for one without a digit.
 ///
 /// So what a node returns over HTTP is read, where it was cut out of its JSON with the quotes or
 /// without them. No table that a registry gives is such a text: see `FORMATS.md`.
@@ -80,5 +56,9 @@ fn bytes_by(alloc: Global, digits: &[u8]) -> Result<Option<Vec<u8>>, AllocError>
 pub fn bytes_of_text(alloc: Global, text: &[u8]) -> Result<Option<Vec<u8>>, AllocError>
     ensures { IfOk result (λ found. option_map (λ bytes. bytes.items) found ≡ bytes_in text.now) }
 {
-    bytes_by(alloc, without_mark(trim_end(trim_start(text))))
+    let digits = trim_end(trim_start(text));
+    if without_mark(digits).is_empty() {
+        return Ok(None);
+    }
+    decode(alloc, digits)
 }

@@ -1,3 +1,1 @@
-pub mod Encoded
 pub mod Errors
-pub mod Lanes

@@ -4,6 +4,5 @@
 //! only from a table, and makes no value on the way.
 #![tactic(auto)]
 
-mod hexadecimal;
 pub mod value_text;
 mod writer;

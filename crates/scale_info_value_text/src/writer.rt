@@ -11,9 +11,9 @@ ghost use Rattle.scale_info_visit.specs.Events.{names};
 ghost use Rattle.scale_info_value_text.specs.ValueTexts.{event_tokens, opening, closing};
 ghost use Rattle.scale_info_value_text.specs.ValueTexts.{fields_opening, fields_closing};
 
-use crate::hexadecimal::hexadecimal;
 use itoa::Buffer;
 use json::Writer;
+use scale_info_hexadecimal::encode::encode;
 use scale_info_types::form::PortableForm;
 use scale_info_types::ty::Field;
 use scale_info_types::ty::variant::Variant;
@@ -122,7 +122,7 @@ impl ValueVisitor for TextWriter {
     }
 
     fn bytes(&mut self, all: &[u8]) -> Result<(), AllocError> {
-        let text = hexadecimal(self.alloc, all)?;
+        let text = encode(self.alloc, all)?;
         self.out.string(text.as_str())
     }
 

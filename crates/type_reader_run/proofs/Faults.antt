@@ -1,13 +1,14 @@
 -- Why there is no line for a text, by what comes of it.
 use Rattle.std.proofs.Common.{◌≡◌, ℕ, List, Some, inl, inr}
 use Rattle.serde_json.specs.Data.{Data}
+use Rattle.scale_info_hexadecimal.specs.Digits.{bytes_by_digits}
 use Rattle.scale_info_tables.specs.declared.portable.PortableRegistry.{PortableRegistry}
 use Rattle.scale_info_value.specs.Readings.{reading}
 use Rattle.scale_info_value_json.specs.Takings.{taking}
 use Rattle.type_reader_io.specs.declared.error.LineError.{LineError}
 use Rattle.type_reader_io.specs.declared.error.LineError.TheVariants as errors
 use Rattle.type_reader_run.specs.Encodings.{IsEncodingError, IsJsonOf, IsTakingError, IsTreeError}
-use Rattle.type_reader_run.specs.Values.{IsReadingError, IsValueError, bytes_by_digits}
+use Rattle.type_reader_run.specs.Values.{IsReadingError, IsValueError}
 
 -- the bytes that the digits write are no value
 pub value_error :

@@ -1,5 +1,4 @@
 pub mod Differences
-pub mod DigitValues
 pub mod Explained
 pub mod Faults
 pub mod Known

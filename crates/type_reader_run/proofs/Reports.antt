@@ -1,7 +1,7 @@
 -- Texts that were reported, one after another.
 use Rattle.std.proofs.Common.{◌≡◌, ◌++◌, ◌∙◌, ℕ, List, [], ◌∷◌, Option, ap, refl, subst}
 use Rattle.type_reader_io.specs.Reports.{ReportsEach}
-use Rattle.type_table_io.specs.declared.report.ErrorWriter.{ErrorWriter}
+use Rattle.type_reader_io.specs.declared.reporter.ErrorWriter.{ErrorWriter}
 use Rattle.type_table_io.specs.Reports.{AppendsPrefix}
 
 -- these, and then those

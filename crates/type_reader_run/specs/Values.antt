@@ -1,9 +1,6 @@
 -- Values that hexadecimal digits write, and their JSON text.
-use Rattle.std.specs.Prelude.{◌≡◌, ◌⊎◌, ◌++◌, ◌<◌, ℕ, List, Option, Some, None, codes, length}
-use Rattle.std.specs.List.{slice_index}
-use Rattle.std.specs.Result.{result_ok}
-use Rattle.hex.specs.Hex.{decode_of, hex_digit_value}
-use Rattle.scale_info_metadata.specs.HexTexts.{without_mark}
+use Rattle.std.specs.Prelude.{◌≡◌, ◌⊎◌, ◌++◌, ℕ, List, Some, None, codes}
+use Rattle.scale_info_hexadecimal.specs.Digits.{bytes_by_digits}
 use Rattle.scale_info_tables.specs.declared.portable.PortableRegistry.{PortableRegistry}
 use Rattle.scale_info_value.specs.Outcomes.{Outcome, failed, no_such_type, unsupported, too_deep}
 use Rattle.scale_info_value.specs.Outcomes.{malformed}
@@ -14,23 +11,6 @@ use Rattle.type_reader_io.specs.declared.error.LineError.{LineError}
 use Rattle.type_reader_io.specs.declared.error.ValueFault.{ValueFault}
 use Rattle.type_reader_io.specs.declared.error.ValueFault.TheVariants as faults
 use Rattle.type_reader_run.specs.LineErrors.{IfFault}
-
--- the bytes that an even number of hexadecimal digits writes, with `0x` before them or without it
-abbrev pub bytes_by_digits : List ℕ → Option (List ℕ)
-bytes_by_digits text = result_ok (decode_of (without_mark text))
-
--- these are the values of the digits
-pub record AreValues (digits values : List ℕ) : Type 0 where
-  pub same : length values ≡ length digits
-  pub each :
-      (k : ℕ) → k < length digits
-      → hex_digit_value (slice_index digits k) ≡ Some (slice_index values k)
-
--- one of the bytes is no digit
-pub record HasNoDigit (text : List ℕ) : Type 0 where
-  pub place : ℕ
-  pub within : place < length text
-  pub none : hex_digit_value (slice_index text place) ≡ None
 
 -- the digits write one value of the type, with nothing after it, and the line is its JSON text and
 -- a line feed
@@ -64,10 +44,6 @@ pub record HasReadingFault (table : PortableRegistry) (id : ℕ) (digits : List 
 -- the text is no even number of digits
 abbrev pub IsNoDigits : List ℕ → ValueFault → Type 0
 IsNoDigits digits fault = (fault ≡ faults.NoDigits) × (bytes_by_digits digits ≡ None)
-
--- why the text writes no bytes; an allocation may fail
-abbrev pub IsDigitsError : List ℕ → LineError → Type 0
-IsDigitsError digits error = IfFault (IsNoDigits digits) error
 
 -- why there is no line for the digits; an allocation may fail
 abbrev pub IsValueError : PortableRegistry → ℕ → List ℕ → LineError → Type 0

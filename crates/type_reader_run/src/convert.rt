@@ -5,12 +5,12 @@ ghost use Rattle.type_reader_run.specs.Conversions.{GivesNoType, GivesType, IsCo
 ghost use Rattle.type_reader_run.specs.Conversions.{IsConverted, IsLine, IsLineError, error_of};
 ghost use Rattle.type_reader_run.specs.Tables.{IsOneTable};
 
-use crate::digits::Digits;
 use crate::encode::append_encoded_line;
 use crate::selection::one_named;
 use crate::table::registry_of;
 use crate::value::append_value_line;
 use scale_info_collections::text::Text;
+use scale_info_hexadecimal::digits::Digits;
 use scale_info_tables::portable::PortableRegistry;
 use std::alloc::Global;
 use type_reader_io::command::Conversion;

@@ -12,6 +12,7 @@ ghost use Rattle.type_reader_run.specs.Encodings.{IsEncodedLine, IsEncodingError
 ghost use Rattle.type_reader_run.specs.Encodings.{IsTakingError, IsTreeError};
 
 use scale_info_encode::encode::encode_value;
+use scale_info_hexadecimal::encode::encode;
 use scale_info_tables::portable::PortableRegistry;
 use scale_info_value::value::Dyn;
 use scale_info_value_json::error::ValueJsonError;
@@ -78,9 +79,7 @@ fn digits_line(alloc: Global, bytes: &[u8]) -> Result<Vec<u8>, AllocError>
     ensures { IfOk result
         (λ line. line.items ≡ codes "0x" ++ encode_lower bytes.now ++ codes "\n") }
 {
-    let mut line = String::new(alloc);
-    line.push_str("0x")?;
-    line.push_str(&hex::encode(alloc, bytes)?)?;
+    let mut line = encode(alloc, bytes)?;
     line.push_str("\n")?;
     Ok(line.into_bytes())
 }

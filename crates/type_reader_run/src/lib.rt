@@ -4,7 +4,6 @@
 mod compare;
 mod convert;
 mod diff;
-mod digits;
 mod encode;
 mod graph;
 mod lines;

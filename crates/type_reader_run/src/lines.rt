@@ -13,8 +13,8 @@ ghost use Rattle.type_reader_run.specs.Steps.{HasWritten, IsFirst, Stops};
 ghost use Rattle.type_table_io.specs.Reports.{AppendsPrefix};
 
 use crate::convert::Converter;
-use crate::digits::Digits;
 use crate::writing::write_output;
+use scale_info_hexadecimal::digits::Digits;
 use std::alloc::Global;
 use std::io::{self, BufRead, ErrorKind, Write};
 use std::mem;

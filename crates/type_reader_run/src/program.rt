@@ -27,8 +27,7 @@ use std::io::{BufRead, Read, Write};
 use type_reader_io::command::{Command, Conversion, Request, command_of};
 use type_reader_io::error::ReaderError;
 use type_reader_io::message::Message;
-use type_reader_io::report::ErrorWriter;
-use type_reader_io::reporter::Reporter;
+use type_reader_io::reporter::{ErrorWriter, Reporter};
 
 /// Reads the input whole, writes what the request writes for it, and returns the notes.
 ///

@@ -7,7 +7,7 @@ ghost use Rattle.scale_info_value_text.specs.ValueTexts.{IsTextOf};
 ghost use Rattle.type_reader_run.specs.Conversions.{AppendsLine};
 ghost use Rattle.type_reader_run.specs.Values.{IsReadingError, IsValueError, IsValueLine};
 
-use crate::digits::Digits;
+use scale_info_hexadecimal::digits::Digits;
 use scale_info_tables::portable::PortableRegistry;
 use scale_info_value::value::ValueError;
 use scale_info_value_text::value_text::append_value_json;
@@ -74,7 +74,9 @@ pub fn append_value_line(
     ensures err { IfErr result (IsValueError table.now id text.now) }
     ensures keeps { OnErr result (output.new.items ≡ output.old.items) }
 {
-    digits.decode(text)?;
+    if !digits.decode(text)? {
+        return Err(LineError::Fault(ValueFault::NoDigits));
+    }
     let start = output.len();
     append_text(alloc, table, id, &digits.bytes, output)?;
     if output.push(b'\n').is_err() {

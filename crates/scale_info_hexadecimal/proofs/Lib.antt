@@ -1,0 +1,3 @@
+mod DigitValues
+mod Encoded
+mod Lanes
