@@ -8,7 +8,7 @@ use test_memory_common::answers::{Answer, done};
 use test_memory_common::inputs::bytes_of;
 use test_memory_common::marks::{begin, end};
 use test_memory_common::outcomes::Outcome;
-use type_table_run::{Message, report_message, run_and_keep};
+use type_table_run::{Message, outcome, report_message};
 
 /// The argument of a word: `''` is empty, and `1_` ends with a blank.
 fn argument(word: &str) -> &str {
@@ -41,9 +41,13 @@ fn written(alloc: Global, output: &[u8]) -> Result<String, Fail> {
 }
 
 /// The status, and the line of the message without its line feed.
-fn ended(alloc: Global, status: u8, message: Option<Message>) -> Result<Answer, Fail> {
-    let Some(message) = message else {
-        return Ok(done(format!(in alloc; "{status}"))?);
+fn ended(alloc: Global, outcome: Result<(), Message>) -> Result<Answer, Fail> {
+    let Err(message) = outcome else {
+        return Ok(done(format!(in alloc; "0"))?);
+    };
+    let status = match &message {
+        Message::Usage => 2,
+        Message::Refused(_) => 1,
     };
     let mut line = Vec::new(alloc);
     report_message(&mut line, &message)?;
@@ -57,10 +61,10 @@ fn run_over(rt: &HostRuntime, words: &str, mut reader: HaltingReader) -> Result<
     let arguments = arguments(rt.alloc(), words)?;
     let mut output = Vec::with_capacity(rt.alloc(), 4096)?;
     begin(rt);
-    let (status, message) = run_and_keep(rt.alloc(), &arguments, &mut reader, &mut output);
+    let outcome = outcome(rt.alloc(), &arguments, &mut reader, &mut output);
     end(rt);
     let after = written(rt.alloc(), &output)?;
-    let answer = ended(rt.alloc(), status, message)?;
+    let answer = ended(rt.alloc(), outcome)?;
     Outcome::lending(Ok(String::new(rt.alloc())), Ok(after), Ok(answer))
 }
 

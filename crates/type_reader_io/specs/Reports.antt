@@ -1,5 +1,6 @@
 -- What a run reports, text after text.
-use Rattle.std.specs.Prelude.{◌≡◌, ℕ, List, [], ◌∷◌}
+use Rattle.std.specs.Prelude.{◌≡◌, ℕ, List, [], ◌∷◌, None, Some}
+use Rattle.std.specs.declared.option.Option.{Option}
 
 -- the reporter was given these texts, one after another; where there is none, it is as it was
 abbrev pub ReportsEach : {T : Type 0} → (T → T → List ℕ → Type 0) → (old new : T) → List (List ℕ)
@@ -12,3 +13,8 @@ ReportsEach {T} reported old new (text ∷ texts) =
 abbrev pub texts_of : (notes : List ℕ) → List (List ℕ)
 texts_of [] = []
 texts_of (byte ∷ notes) = (byte ∷ notes) ∷ []
+
+-- the text of a message that was kept; nothing, where there was none
+abbrev pub kept_text : {M : Type 0} → (M → List ℕ) → Option M → List ℕ
+kept_text text_of None = []
+kept_text text_of (Some message) = text_of message

@@ -9,8 +9,8 @@ use crate::message::Message;
 use itoa::Buffer;
 use std::io;
 use std::io::Write;
+pub use type_table_io::report::report_message;
 use type_table_io::report::{report, report_line, report_number};
-pub use type_table_io::report::{ErrorWriter, report_message};
 use type_table_io::text::HasText;
 use type_table_io::writing::{write_all, write_line};
 

@@ -1,8 +1,6 @@
 -- The lines for errors.
 use Rattle.std.specs.Prelude.{ℕ, ◌≤◌, List, ◌++◌, codes}
-use Rattle.std.specs.declared.option.Option.{Option}
 use Rattle.std.specs.Fmt.{decimal}
-use Rattle.type_table_io.specs.Reports.{kept_text}
 use Rattle.type_table_io.specs.declared.error.RunError.{RunError}
 use Rattle.type_table_io.specs.declared.error.RunError.TheVariants.{Malformed, TrailingBytes}
 use Rattle.type_table_io.specs.declared.error.RunError.TheVariants.{NoSuchType, Dangling}
@@ -36,10 +34,6 @@ line_of Output = codes "type_table: output failed\n"
 abbrev pub message_line : Message → List ℕ
 message_line Usage = usage_line
 message_line (Refused error) = line_of error
-
--- the line of a message that was kept; nothing, where there was none
-abbrev pub kept_line : Option Message → List ℕ
-kept_line = kept_text message_line
 
 -- the id of an error, if it has one, is at most 4294967295
 abbrev pub HasSmallId : RunError → Type 0

@@ -1,5 +1,5 @@
 -- What is written to a writer whose bytes are known.
-use Rattle.std.specs.Prelude.{ℕ, List, [], take, IsSome, None, Some}
+use Rattle.std.specs.Prelude.{ℕ, List, take, IsSome}
 use Rattle.std.specs.declared.option.Option.{Option}
 use Rattle.std.specs.Io.KnownBytes.{Appends}
 
@@ -12,8 +12,3 @@ pub record AppendsPrefix (old new : Option (List ℕ)) (bs : List ℕ) : Type 0 
 pub record Reported (old new : Option (List ℕ)) (line : List ℕ) : Type 0 where
   pub is_known : IsSome old
   pub appends : Appends old new line
-
--- the text of a message that was kept; nothing, where there was none
-abbrev pub kept_text : {M : Type 0} → (M → List ℕ) → Option M → List ℕ
-kept_text text_of None = []
-kept_text text_of (Some message) = text_of message

@@ -8,6 +8,5 @@ pub mod id;
 pub mod message;
 pub mod reading;
 pub mod report;
-pub mod reporter;
 pub mod text;
 pub mod writing;

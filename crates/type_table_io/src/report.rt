@@ -6,29 +6,11 @@ ghost use Rattle.type_table_io.specs.Reports.{AppendsPrefix};
 
 use crate::error::RunError;
 use crate::message::Message;
-use crate::reporter::Reporter;
 use crate::text::HasText;
 use crate::writing::{write_all, write_line};
 use itoa::Buffer;
 use std::io;
 use std::io::Write;
-
-/// The writer for errors as a reporter: the text of a message is written to it.
-#[derive(Drop)]
-pub struct ErrorWriter<'a, F> {
-    /// The writer.
-    pub errors: &'a mut F,
-}
-
-impl<F: Write, M: HasText> Reporter<M> for ErrorWriter<'_, F> {
-    ghost reported = { λ old new text. (new.errors.ghost_name ≡ old.errors.ghost_name)
-        × AppendsPrefix (F.contents old.errors.now) (F.contents new.errors.now) text };
-
-    /// A text that can't be written is left out, or a prefix of it is written.
-    fn report(&mut self, message: M) {
-        let _ = report_message(self.errors, &message);
-    }
-}
 
 /// Writes the text of a message to a writer for errors. An Ok has written all of it. Does not
 /// allocate.

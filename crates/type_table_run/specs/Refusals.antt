@@ -6,12 +6,14 @@ use Rattle.scale_info_bytes.specs.Encodings.{HasNoPrefix}
 use Rattle.scale_info_grammar.specs.Ty.{EncodesTypes}
 use Rattle.scale_info_prune.specs.Prunes.{HasDangling, HasNoSuchType}
 use Rattle.scale_info_prune.specs.TableIndexes.{HasTrailing}
-use Rattle.type_table_io.specs.Commands.{given_ids}
+use Rattle.type_table_io.specs.Commands.{HasCommand, IsCommand, given_ids}
 use Rattle.type_table_io.specs.declared.command.Command.{Command}
 use Rattle.type_table_io.specs.declared.error.RunError.{RunError}
 use Rattle.type_table_io.specs.declared.error.RunError.TheVariants.{Malformed, TrailingBytes}
 use Rattle.type_table_io.specs.declared.error.RunError.TheVariants.{NoSuchType, Dangling}
 use Rattle.type_table_io.specs.declared.error.RunError.TheVariants.{Memory, Input, Output}
+use Rattle.type_table_io.specs.declared.message.Message.{Message}
+use Rattle.type_table_io.specs.declared.message.Message.TheVariants.{Usage, Refused}
 use Rattle.type_table_io.specs.Lines.{HasSmallId, line_of}
 use Rattle.type_table_run.specs.Outputs.{WritesPrefix}
 use Rattle.type_table_io.specs.Reports.{AppendsPrefix}
@@ -40,16 +42,17 @@ Explains command input old new Memory = Keeps old new
 Explains command input old new Input = Keeps old new
 Explains command input old new Output = IfSome input (WritesPrefix command old new)
 
--- one error holds, and its line was reported; `IsReported` says of a line that it was
-pub record RefusesBy (command : Command) (input output_old output_new : Option (List ℕ))
-    (IsReported : List ℕ → Type 0) : Type 0 where
+-- what a message says of the arguments, of the known input, and of the output's known bytes before
+-- and after: that the arguments are no command, or why their command is refused
+abbrev pub Says : List (List ℕ) → (input old new : Option (List ℕ)) → Message → Type 0
+Says arguments input old new Usage = ¬ IsCommand arguments
+Says arguments input old new (Refused error) =
+    HasSmallId error × HasCommand arguments (λ command. Explains command input old new error)
+
+-- one error holds, and known bytes of the writer for errors grow by a prefix of its line
+pub record Refuses (command : Command)
+    (input output_old output_new errors_old errors_new : Option (List ℕ)) : Type 0 where
   pub error : RunError
   pub small : HasSmallId error
   pub explains : Explains command input output_old output_new error
-  pub reports : IsReported (line_of error)
-
--- one error holds, and known bytes of the writer for errors grow by a prefix of its line
-abbrev pub Refuses : Command
-    → (input output_old output_new errors_old errors_new : Option (List ℕ)) → Type 0
-Refuses command input output_old output_new errors_old errors_new =
-    RefusesBy command input output_old output_new (AppendsPrefix errors_old errors_new)
+  pub reports : AppendsPrefix errors_old errors_new (line_of error)

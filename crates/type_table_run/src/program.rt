@@ -1,15 +1,17 @@
 //! The program over any reader and any writers.
-ghost use Rattle.std.specs.Prelude.{◌≡◌, ◌≢◌, ◌≤◌, ℕ, IfSome, IfErr, OnOk, IsNone};
+ghost use Rattle.std.specs.Prelude.{◌≡◌, ◌≢◌, ◌≤◌, ℕ, Err, IfSome, IfErr, IsOk, OnOk};
 ghost use Rattle.std.specs.Io.KnownBytes.{IsAtEnd, Keeps};
 ghost use Rattle.scale_info_bytes.specs.Encodings.{HasNoPrefix};
 ghost use Rattle.scale_info_grammar.specs.Ty.{EncodesTypes};
 ghost use Rattle.scale_info_prune.specs.Prunes.{HasDangling, HasNoSuchType};
 ghost use Rattle.scale_info_prune.specs.TableIndexes.{HasTrailing};
 ghost use Rattle.type_table_io.specs.Commands.{HasCommand, HasIdTexts, IsCommand, given_ids};
-ghost use Rattle.type_table_io.specs.Lines.{kept_line, line_of, usage_line};
+ghost use Rattle.type_table_io.specs.Lines.{line_of, usage_line};
+ghost use Rattle.type_table_io.specs.declared.error.RunError.{RunError};
 ghost use Rattle.type_table_io.specs.declared.error.RunError.TheVariants as run_error;
+ghost use Rattle.type_table_io.specs.declared.message.Message.TheVariants as messages;
 ghost use Rattle.type_table_run.specs.Outputs.{Writes, WritesPrefix};
-ghost use Rattle.type_table_run.specs.Refusals.{Explains, Refuses, RefusesBy};
+ghost use Rattle.type_table_run.specs.Refusals.{Explains, Refuses, Says};
 ghost use Rattle.type_table_io.specs.Reports.{AppendsPrefix, Reported};
 
 use crate::output::output_of;
@@ -20,8 +22,7 @@ use type_table_io::command::{Command, command_of};
 use type_table_io::error::RunError;
 use type_table_io::message::Message;
 use type_table_io::reading::read_to_end;
-use type_table_io::report::ErrorWriter;
-use type_table_io::reporter::{Kept, Reporter};
+use type_table_io::report::report_message;
 use type_table_io::writing::write_all;
 
 /// Reads the input whole, and writes what the command writes for it.
@@ -51,84 +52,58 @@ fn perform<R: Read, W: Write>(
     }
 }
 
-/// Runs the command that the arguments name, as [`run`], and gives its message to any reporter in
-/// the place of a writer for errors.
+/// Runs the command that the arguments name, as [`run`], and returns its message.
 ///
-/// The status is that of [`run`]. The reporter is given one message in one call:
-/// [`Message::Usage`] at status 2, and the error at status 1. At status 0 it is given none. So a
-/// reporter that takes all that it is given has the whole line: [`Kept`] is one.
-pub fn run_with<R: Read, W: Write, T: Reporter<Message>>(
+/// Errors: [`Message::Usage`], where the arguments name no command: then nothing was read, and
+/// nothing written. [`Message::Refused`] with the error that came up.
+pub fn outcome<R: Read, W: Write>(
     alloc: Global,
     arguments: &[Text],
     reader: &mut R,
     output: &mut W,
-    reporter: &mut T,
-) -> u8
-    ensures status { result ≤ 2 }
+) -> Result<(), Message>
+    // The command was done: the output grew by exactly what it writes for the input.
+    ensures done { OnOk result (HasCommand arguments.now (λ command.
+        IfSome (R.remaining reader.old)
+        (Writes command (W.contents output.old) (W.contents output.new)))) }
+    ensures read { OnOk result (IsAtEnd (R.remaining reader.new)) }
 
-    // Arguments that name no command: nothing is read, and nothing is written to the output.
-    ensures usage { result ≡ 2 → ¬ IsCommand arguments.now }
-    ensures command { result ≢ 2 → IsCommand arguments.now }
-    ensures unread { result ≡ 2 → reader.new ≡ reader.old }
-    ensures unwritten { result ≡ 2 → output.new ≡ output.old }
-    ensures usage_reported { result ≡ 2 → T.reported reporter.old reporter.new usage_line }
-
-    // A command that was done: the output grew by exactly what the command writes for the input.
-    ensures read { result ≡ 0 → IsAtEnd (R.remaining reader.new) }
-    ensures done { result ≡ 0 → HasCommand arguments.now (λ command. IfSome (R.remaining reader.old)
-        (Writes command (W.contents output.old) (W.contents output.new))) }
-    ensures unreported { result ≡ 0 → reporter.new ≡ reporter.old }
-
-    // A command that is refused: one error is so, and its line was reported.
-    ensures refused { result ≡ 1 → HasCommand arguments.now (λ command. RefusesBy command
-        (R.remaining reader.old) (W.contents output.old) (W.contents output.new)
-        (T.reported reporter.old reporter.new)) }
+    // It was not: what the message says is so.
+    ensures says { IfErr result (Says arguments.now (R.remaining reader.old)
+        (W.contents output.old) (W.contents output.new)) }
+    ensures unread { IfErr result (λ message. message ≡ messages.Usage
+        → reader.new ≡ reader.old) }
+    ensures unwritten { IfErr result (λ message. message ≡ messages.Usage
+        → output.new ≡ output.old) }
 {
-    let command = match command_of(arguments) {
-        Some(command) => command,
-        None => {
-            reporter.report(Message::Usage);
-            return 2;
-        }
+    let Some(command) = command_of(arguments) else {
+        return Err(Message::Usage);
     };
     match perform(alloc, &command, reader, output) {
-        Ok(()) => 0,
-        Err(error) => {
-            reporter.report(Message::Refused(error));
-            1
-        }
+        Ok(()) => Ok(()),
+        Err(error) => Err(Message::Refused(error)),
     }
 }
 
-/// Runs the command that the arguments name, as [`run`], and returns the status and the message.
+/// Writes the line of a run's message, if it has one, and returns its status.
 ///
-/// The message is None at status 0, and else the one whose line [`run`] writes, which
-/// [`crate::report_message`] writes to a writer of the caller's. For example, without arguments it
-/// is `(2, Some(Message::Usage))`.
-pub fn run_and_keep<R: Read, W: Write>(
-    alloc: Global,
-    arguments: &[Text],
-    reader: &mut R,
-    output: &mut W,
-) -> (u8, Option<Message>)
-    ensures status { result.0 ≤ 2 }
-    ensures usage { result.0 ≡ 2 → ¬ IsCommand arguments.now }
-    ensures command { result.0 ≢ 2 → IsCommand arguments.now }
-    ensures unread { result.0 ≡ 2 → reader.new ≡ reader.old }
-    ensures unwritten { result.0 ≡ 2 → output.new ≡ output.old }
-    ensures usage_kept { result.0 ≡ 2 → kept_line result.1 ≡ usage_line }
-    ensures read { result.0 ≡ 0 → IsAtEnd (R.remaining reader.new) }
-    ensures done { result.0 ≡ 0 → HasCommand arguments.now (λ command.
-        IfSome (R.remaining reader.old)
-        (Writes command (W.contents output.old) (W.contents output.new))) }
-    ensures none_kept { result.0 ≡ 0 → IsNone result.1 }
-    ensures refused { result.0 ≡ 1 → HasCommand arguments.now (λ command. RefusesBy command
-        (R.remaining reader.old) (W.contents output.old) (W.contents output.new)
-        (λ line. kept_line result.1 ≡ line)) }
+/// If the line can't be written, the status is the same.
+fn report_outcome<F: Write>(outcome: &Result<(), Message>, errors: &mut F) -> u8
+    ensures status { result ≤ 2 }
+    ensures done { result ≡ 0 → IsOk outcome.now × (errors.new ≡ errors.old) }
+    ensures usage { result ≡ 2 → (outcome.now ≡ Err messages.Usage)
+        × AppendsPrefix (F.contents errors.old) (F.contents errors.new) usage_line }
+    ensures refused { result ≡ 1 → (error : RunError) × (outcome.now ≡ Err (messages.Refused error))
+        × AppendsPrefix (F.contents errors.old) (F.contents errors.new) (line_of error) }
 {
-    let mut kept = Kept { message: None };
-    let status = run_with(alloc, arguments, reader, output, &mut kept);
-    (status, kept.message)
+    let Err(message) = outcome else {
+        return 0;
+    };
+    let _ = report_message(errors, message);
+    match message {
+        Message::Usage => 2,
+        Message::Refused(_) => 1,
+    }
 }
 
 /// Runs the command that the arguments name, and returns the status.
@@ -214,9 +189,6 @@ pub fn run<R: Read, W: Write, F: Write>(
         → HasCommand arguments.now (λ command. IfSome (R.remaining reader.old)
         (WritesPrefix command (W.contents output.old) (W.contents output.new))) }
 {
-    let mut reporter = ErrorWriter { errors };
-    let status = run_with(alloc, arguments, reader, output, &mut reporter);
-    // No effect at run time. The proof reads what `errors` holds from this use.
-    let _ = &*reporter.errors;
-    status
+    let outcome = outcome(alloc, arguments, reader, output);
+    report_outcome(&outcome, errors)
 }
