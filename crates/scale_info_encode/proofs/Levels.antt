@@ -8,10 +8,11 @@ use Rattle.scale_info_value.specs.declared.value.Dyn.{Dyn}
 use Rattle.scale_info_value.specs.declared.value.Dyn.TheVariants as dyn
 use Rattle.scale_info_value.specs.Outcomes.{Decoder, decoded, outcome_map}
 use Rattle.scale_info_value.specs.Outcomes as outcomes
-use Rattle.scale_info_value.specs.Readings.{type_at, compact_by_type, compact_at, value_by_type, value_at}
-use Rattle.scale_info_value.specs.Readings.{reading, readings, value_within, compact_within}
+use Rattle.scale_info_value.specs.Readings.{type_at, compact_by_type, value_by_type}
+use Rattle.scale_info_value.specs.Readings.{reading, value_within, compact_within}
 use Rattle.scale_info_encode.specs.Writers.{Refusal, Writer, written, refused, no_such_type, too_deep}
-use Rattle.scale_info_encode.specs.Writings.{writings, writing}
+use Rattle.scale_info_encode.specs.Writings as writings
+use Rattle.scale_info_encode.specs.Writings.{writing}
 use Rattle.scale_info_encode.proofs.Definitions.{values_read_back, compacts_read_back}
 use Rattle.scale_info_encode.proofs.Inverse.{IsInverse, nothing}
 
@@ -19,7 +20,7 @@ use Rattle.scale_info_encode.proofs.Inverse.{IsInverse, nothing}
 compacts_by_type :
     (read : ℕ → Decoder ℕ) (write : ℕ → Writer Dyn)
     → ((id : ℕ) → IsInverse (λ input. outcome_map dyn.Unsigned (read id input)) (write id)) → (o : Option Description)
-    → IsInverse (λ input. outcome_map dyn.Unsigned (compact_by_type readings read o input)) (compact_by_type writings write o)
+    → IsInverse (λ input. outcome_map dyn.Unsigned (compact_by_type read o input)) (writings.compact_by_type write o)
 compacts_by_type read write inverse None = nothing outcomes.no_such_type no_such_type
 compacts_by_type read write inverse (Some d) =
     compacts_read_back (λ r. read r.id) (λ r. write r.id) (λ r. inverse r.id) d.type_def
@@ -28,11 +29,11 @@ compacts_by_type read write inverse (Some d) =
 pub compacts_inverse :
     (left : ℕ) (table : PortableRegistry) (id : ℕ)
     → IsInverse (λ input. outcome_map dyn.Unsigned (compact_within left table id input))
-    (compact_at writings left table id)
-unfolding compact_within compact_at
+    (writings.compact_within left table id)
+unfolding compact_within writings.compact_within
 compacts_inverse zero table id = nothing outcomes.too_deep too_deep
 compacts_inverse (suc left) table id =
-    compacts_by_type (compact_within left table) (compact_at writings left table) (compacts_inverse left table)
+    compacts_by_type (compact_within left table) (writings.compact_within left table) (compacts_inverse left table)
     (type_at table id)
 
 -- values by a description are read and written
@@ -42,8 +43,8 @@ values_by_type :
     → ((id : ℕ) → IsInverse (λ input. outcome_map dyn.Unsigned (read_compact id input)) (write_compact id))
     → (o : Option Description)
     → IsInverse
-    (value_by_type readings (λ r. record { value = read r; inner = read_inner r; compact = read_compact r }) o)
-    (value_by_type writings (λ r. record { value = write r; inner = write_inner r; compact = write_compact r }) o)
+    (value_by_type (λ r. record { value = read r; inner = read_inner r; compact = read_compact r }) o)
+    (writings.value_by_type (λ r. record { value = write r; inner = write_inner r; compact = write_compact r }) o)
 values_by_type read read_inner read_compact write write_inner write_compact value inner compact None =
     nothing outcomes.no_such_type no_such_type
 values_by_type read read_inner read_compact write write_inner write_compact value inner compact (Some d) =
@@ -56,14 +57,14 @@ values_by_type read read_inner read_compact write write_inner write_compact valu
 -- values are read and written, however many levels are left
 pub values_inverse :
     (left : ℕ) (table : PortableRegistry) (id : ℕ)
-    → IsInverse (value_within left table id) (value_at writings left table id)
-unfolding value_within compact_within value_at
+    → IsInverse (value_within left table id) (writings.value_within left table id)
+unfolding value_within writings.value_within
 values_inverse zero table id = nothing outcomes.too_deep too_deep
 values_inverse (suc zero) table id =
-    values_by_type _ _ (compact_within 1 table) _ _ (compact_at writings 1 table) (λ r. nothing outcomes.too_deep too_deep)
+    values_by_type _ _ (compact_within 1 table) _ _ (writings.compact_within 1 table) (λ r. nothing outcomes.too_deep too_deep)
     (λ r. nothing outcomes.too_deep too_deep) (compacts_inverse 1 table) (type_at table id)
 values_inverse (suc (suc left)) table id =
-    values_by_type _ _ (compact_within (suc (suc left)) table) _ _ (compact_at writings (suc (suc left)) table)
+    values_by_type _ _ (compact_within (suc (suc left)) table) _ _ (writings.compact_within (suc (suc left)) table)
     (values_inverse (suc left) table) (values_inverse left table) (compacts_inverse (suc (suc left)) table) (type_at table id)
 
 -- the bytes of a value are read as that value, whatever follows them

@@ -1,3 +1,4 @@
+pub mod AsLevels
 pub mod Appending
 pub mod Compacts
 pub mod Definitions

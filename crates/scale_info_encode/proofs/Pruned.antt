@@ -6,13 +6,15 @@ use Rattle.scale_info_walk.specs.TypeSystems.{entry_of}
 use Rattle.scale_info_tables.specs.declared.portable.PortableRegistry.{PortableRegistry}
 use Rattle.scale_info_value.specs.declared.value.Dyn.{Dyn}
 use Rattle.scale_info_value.proofs.Unfolded.{same_in_table}
-use Rattle.scale_info_encode.specs.Writings.{writing, writings}
+use Rattle.scale_info_encode.specs.Writings.{writing, value_within, compact_within}
+use Rattle.scale_info_encode.proofs.AsLevels.{writings}
 
 -- a table of nodes encodes as the table that they are nodes of
 pub writes_alike :
     (old new : PortableRegistry) (kept : List ℕ) → IsTable (system_of old) kept (map entry_of new.types)
     → (index id : ℕ) → slice_get kept index ≡ Some id → (depth : ℕ) (value : Dyn)
     → writing new index depth value ≡ writing old id depth value
+unfolding writings value_within compact_within
 writes_alike old new kept table index id at depth value =
     ap (λ write. write value)
     (same_in_table writings (λ table other r s value inner compact. refl) old new kept table index id at depth)

@@ -13,7 +13,6 @@ use Rattle.scale_info_types.specs.declared.ty.TypeDef.TheVariants as def
 use Rattle.scale_info_tables.specs.declared.portable.PortableRegistry.{PortableRegistry}
 use Rattle.scale_info_value.specs.declared.value.Dyn.{Dyn}
 use Rattle.scale_info_value.specs.declared.value.Dyn.TheVariants as dyn
-use Rattle.scale_info_value.specs.Readings.{value_at, defined_at}
 use Rattle.scale_info_encode.specs.declared.failure.PartError.{PartError}
 use Rattle.scale_info_encode.specs.declared.path.Step.{Step}
 use Rattle.scale_info_encode.specs.declared.path.Step.TheVariants as step
@@ -23,7 +22,7 @@ use Rattle.scale_info_encode.specs.Writers.{of_part, step_to, item, in_turn, App
 use Rattle.scale_info_encode.specs.IntegerWriters.{count}
 use Rattle.scale_info_encode.specs.DefinitionWriters.{Writers, held, record_in, list_in, variant_in}
 use Rattle.scale_info_encode.specs.DefinitionWriters.{counted, members, field, fields, fields_of, chosen_variant}
-use Rattle.scale_info_encode.specs.Writings.{writings, fields_within, pair_within, part_within}
+use Rattle.scale_info_encode.specs.Writings.{value_within, definition_within, fields_within, pair_within, part_within}
 use Rattle.scale_info_encode.proofs.Appending.{is_held}
 use Rattle.scale_info_encode.proofs.InTurn.{first_in_turn, last_in_turn}
 use Rattle.scale_info_encode.proofs.NamedParts.{first_made}
@@ -47,7 +46,7 @@ module _ (left : ℕ) (table : PortableRegistry) where
   pub composite_is :
       (composite : TypeDefComposite) (value : Dyn) (values found : List (Option Text × Dyn)) (fs : List Field)
       → value ≡ dyn.Record values → found ≡ values → fs ≡ composite.fields
-      → defined_at writings left table (def.Composite composite) value ≡ fields_within left table fs found
+      → definition_within left table (def.Composite composite) value ≡ fields_within left table fs found
   composite_is composite value values found fs is e f =
       is_held dyn.Record record_in (fields_within left table composite.fields) records value values is
       ∙ (λ i. fields_within left table (sym f i) (sym e i))
@@ -56,7 +55,7 @@ module _ (left : ℕ) (table : PortableRegistry) where
   pub tuple_is :
       (tuple : TypeDefTuple) (value : Dyn) (values found : List Dyn) (types : List Id) → value ≡ dyn.List values
       → found ≡ values → types ≡ tuple.fields
-      → defined_at writings left table (def.Tuple tuple) value ≡ members (map (part_within left table) types) found
+      → definition_within left table (def.Tuple tuple) value ≡ members (map (part_within left table) types) found
   tuple_is tuple value values found types is e f =
       is_held dyn.List list_in (members (map (part_within left table) tuple.fields)) lists value values is
       ∙ (λ i. members (map (part_within left table) (sym f i)) (sym e i))
@@ -66,15 +65,15 @@ module _ (left : ℕ) (table : PortableRegistry) where
       (key value : Id) (entry : Dyn) (inner : ℕ) (values found : List Dyn) (first : Dyn) → entry ≡ dyn.List values
       → found ≡ values → inner ≡ left - 2 → 1 ≤ length found → first ≡ get_or found 0 first
       → pair_within left table key value entry
-      ≡ followed_by (item (value_at writings inner table key.id) 0 first)
-      (in_turn 1 (item (value_at writings inner table value.id) ∷ []) (drop 1 found))
+      ≡ followed_by (item (value_within inner table key.id) 0 first)
+      (in_turn 1 (item (value_within inner table value.id) ∷ []) (drop 1 found))
   pair_is key value entry inner values found first is e levels long at =
       is_held dyn.List list_in
-      (in_turn 0 (item (value_at writings (left - 2) table key.id) ∷ item (value_at writings (left - 2) table value.id) ∷ []))
+      (in_turn 0 (item (value_within (left - 2) table key.id) ∷ item (value_within (left - 2) table value.id) ∷ []))
       lists entry values is
-      ∙ (λ i. in_turn 0 (item (value_at writings (sym levels i) table key.id) ∷ item (value_at writings (sym levels i) table value.id) ∷ [])
+      ∙ (λ i. in_turn 0 (item (value_within (sym levels i) table key.id) ∷ item (value_within (sym levels i) table value.id) ∷ [])
       (sym e i))
-      ∙ first_in_turn 0 (item (value_at writings inner table key.id)) (item (value_at writings inner table value.id) ∷ []) found first
+      ∙ first_in_turn 0 (item (value_within inner table key.id)) (item (value_within inner table value.id) ∷ []) found first
       long at
 
   -- of a pair the second is left, where the first was appended
@@ -82,12 +81,12 @@ module _ (left : ℕ) (table : PortableRegistry) where
       (key value : Id) (entry : Dyn) (inner : ℕ) (values found rest : List Dyn) (first second : Dyn) (old mid : List ℕ)
       → entry ≡ dyn.List values → found ≡ values → inner ≡ left - 2 → 1 ≤ length found → first ≡ get_or found 0 first
       → rest ≡ take (length found - 1) (drop 1 found) → 1 ≤ length rest → second ≡ get_or rest 0 second
-      → Appends (value_at writings inner table key.id first) old mid
+      → Appends (value_within inner table key.id first) old mid
       → SoFar (pair_within left table key value entry)
-      (followed_by (item (value_at writings inner table value.id) 1 second) (in_turn 2 [] (drop 1 rest))) old mid
+      (followed_by (item (value_within inner table value.id) 1 second) (in_turn 2 [] (drop 1 rest))) old mid
   second_of_pair key value entry inner values found rest first second old mid is e levels long at others more next a =
       subst (λ w. SoFar (pair_within left table key value entry) w old mid)
-      (last_in_turn 1 (item (value_at writings inner table value.id)) found rest second others more next)
+      (last_in_turn 1 (item (value_within inner table value.id)) found rest second others more next)
       (goes_on _ _ _ _ _ _ _ (starts _ _ _ _ refl refl)
       (pair_is key value entry inner values found first is e levels long at) (part_appended (step.Index 0) _ _ _ a))
 
@@ -100,18 +99,18 @@ module _ (left : ℕ) (table : PortableRegistry) where
   field_is :
       (f : Field) (place : ℕ) (named : Option Text × Dyn) (test : Bool) → option_eq bytes_eq f.name named.0 ≡ test
       → field (map_field {G = Unit {0}} (part_within left table) (λ t. t) f) place named
-      ≡ of_part (step_to place named.0) (if test then value_at writings (left - 1) table f.ty.id named.1 else refused mismatch)
+      ≡ of_part (step_to place named.0) (if test then value_within (left - 1) table f.ty.id named.1 else refused mismatch)
   field_is f place named test e =
       ap (λ o. of_part (step_to place named.0)
-      (if option_eq bytes_eq o named.0 then value_at writings (left - 1) table f.ty.id named.1 else refused mismatch)) (own_name f.name)
+      (if option_eq bytes_eq o named.0 then value_within (left - 1) table f.ty.id named.1 else refused mismatch)) (own_name f.name)
       ∙ ap (λ t. of_part (step_to place named.0)
-      (if t then value_at writings (left - 1) table f.ty.id named.1 else refused mismatch)) e
+      (if t then value_within (left - 1) table f.ty.id named.1 else refused mismatch)) e
 
   -- a field under its name
   pub field_named :
       (f : Field) (place : ℕ) (named : Option Text × Dyn) → option_eq bytes_eq f.name named.0 ≡ true
       → field (map_field {G = Unit {0}} (part_within left table) (λ t. t) f) place named
-      ≡ of_part (step_to place named.0) (value_at writings (left - 1) table f.ty.id named.1)
+      ≡ of_part (step_to place named.0) (value_within (left - 1) table f.ty.id named.1)
   field_named f place named e = field_is f place named true e
 
   -- a field under another name
@@ -130,7 +129,7 @@ module _ (left : ℕ) (table : PortableRegistry) where
       (choice : TypeDefVariant) (value : Dyn) (name : Text) (index : ℕ) (values : List (Option Text × Dyn))
       (o : Option Variant)
       → value ≡ dyn.Variant name index values → find (λ v. v.index == index) choice.variants ≡ o
-      → defined_at writings left table (def.Variant choice) value
+      → definition_within left table (def.Variant choice) value
       ≡ followed_by (written (index ∷ [])) (fields_of (option_map written_variant o) name values)
   variant_is choice value name index values o is e =
       is_held chosen variant_in (chosen_variant (map written_variant choice.variants)) variants value (name, index, values) is
@@ -141,7 +140,7 @@ module _ (left : ℕ) (table : PortableRegistry) where
   pub variant_missing :
       (choice : TypeDefVariant) (value : Dyn) (name : Text) (index : ℕ) (values : List (Option Text × Dyn))
       → value ≡ dyn.Variant name index values → find (λ v. v.index == index) choice.variants ≡ None
-      → defined_at writings left table (def.Variant choice) value ≡ refused mismatch
+      → definition_within left table (def.Variant choice) value ≡ refused mismatch
   variant_missing choice value name index values is e = variant_is choice value name index values None is e
 
   -- the variant with the index has another name
@@ -149,7 +148,7 @@ module _ (left : ℕ) (table : PortableRegistry) where
       (choice : TypeDefVariant) (value : Dyn) (name : Text) (index : ℕ) (values : List (Option Text × Dyn)) (v : Variant)
       → value ≡ dyn.Variant name index values → find (λ v. v.index == index) choice.variants ≡ Some v
       → bytes_eq v.name name ≡ false
-      → defined_at writings left table (def.Variant choice) value ≡ refused mismatch
+      → definition_within left table (def.Variant choice) value ≡ refused mismatch
   variant_misnamed choice value name index values v is e differs =
       variant_is choice value name index values (Some v) is e
       ∙ ap (λ t. followed_by (written (index ∷ []))
@@ -161,7 +160,7 @@ module _ (left : ℕ) (table : PortableRegistry) where
       (v : Variant) (fs : List Field)
       → value ≡ dyn.Variant name index values → find (λ v. v.index == index) choice.variants ≡ Some v
       → bytes_eq v.name name ≡ true → fs ≡ v.fields → found ≡ values
-      → defined_at writings left table (def.Variant choice) value
+      → definition_within left table (def.Variant choice) value
       ≡ followed_by (written (index ∷ [])) (fields_within left table fs found)
   variant_named choice value name index values found v fs is e same f g =
       variant_is choice value name index values (Some v) is e

@@ -1,11 +1,10 @@
 //! Compact integers by a table.
 ghost use Rattle.std.specs.Prelude.{◌≡◌, [], ◌≤◌, ◌+◌, ◌^◌, IfErr, OnOk, OnErr};
-ghost use Rattle.scale_info_value.specs.Readings.{compact_at, compact_defined_at};
 ghost use Rattle.scale_info_encode.specs.Failures.{Fails};
 ghost use Rattle.scale_info_encode.specs.Writers.{Appends};
 ghost use Rattle.scale_info_encode.specs.IntegerWriters.{compact_below};
 ghost use Rattle.scale_info_encode.specs.DefinitionWriters.{held, unsigned_in, compact_primitive};
-ghost use Rattle.scale_info_encode.specs.Writings.{writings};
+ghost use Rattle.scale_info_encode.specs.Writings.{compact_within, compact_definition_within};
 
 use crate::definition::definition_of;
 use crate::failure::PartError;
@@ -62,9 +61,9 @@ pub fn compact_within<T: Definitions>(
     out: &mut Vec<u8>,
 ) -> Result<(), PartError>
     ensures ok { OnOk result
-        (Appends (compact_at writings left (T.table table.now) id value.now) out.old.items
+        (Appends (compact_within left (T.table table.now) id value.now) out.old.items
         out.new.items) }
-    ensures err { IfErr result (Fails (compact_at writings left
+    ensures err { IfErr result (Fails (compact_within left
         (T.table table.now) id value.now) []) }
     ensures same { OnErr result (out.new.items ≡ out.old.items) }
 {
@@ -83,10 +82,10 @@ fn compact_by<T: Definitions>(
 ) -> Result<(), PartError>
     requires { 1 ≤ left }
     ensures ok { OnOk result
-        (Appends (compact_defined_at writings left (T.table table.now) definition.now value.now)
+        (Appends (compact_definition_within left (T.table table.now) definition.now value.now)
         out.old.items out.new.items) }
     ensures err { IfErr result
-        (Fails (compact_defined_at writings left (T.table table.now) definition.now value.now) []) }
+        (Fails (compact_definition_within left (T.table table.now) definition.now value.now) []) }
     ensures same { OnErr result (out.new.items ≡ out.old.items) }
 {
     match definition {

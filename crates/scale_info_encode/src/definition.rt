@@ -1,12 +1,11 @@
 //! The definitions that ids stand for.
 ghost use Rattle.std.specs.Prelude.{◌≡◌, ◌≢◌, ◌≤◌, IfOk, IfErr, List};
 ghost use Rattle.scale_info_value.specs.declared.value.Dyn.{Dyn};
-ghost use Rattle.scale_info_value.specs.Readings.{value_at, defined_at};
-ghost use Rattle.scale_info_value.specs.Readings.{compact_at, compact_defined_at};
 ghost use Rattle.scale_info_encode.specs.declared.failure.PartError.TheVariants as failure;
 ghost use Rattle.scale_info_encode.specs.declared.path.Step.{Step};
 ghost use Rattle.scale_info_encode.specs.Failures.{Fails};
-ghost use Rattle.scale_info_encode.specs.Writings.{writings};
+ghost use Rattle.scale_info_encode.specs.Writings.{value_within, compact_within};
+ghost use Rattle.scale_info_encode.specs.Writings.{definition_within, compact_definition_within};
 
 use crate::failure::PartError;
 use scale_info_types::form::PortableForm;
@@ -24,13 +23,13 @@ pub fn definition_of<T: Definitions>(
 ) -> Result<&TypeDef<PortableForm>, PartError>
     ensures level { IfOk result (λ _. 1 ≤ left) }
     ensures known { IfOk result (λ found. (value : Dyn)
-        → (value_at writings left (T.table table.now) id value
-        ≡ defined_at writings left (T.table table.now) found.now value)
-        × (compact_at writings left (T.table table.now) id value
-        ≡ compact_defined_at writings left (T.table table.now) found.now value)) }
+        → (value_within left (T.table table.now) id value
+        ≡ definition_within left (T.table table.now) found.now value)
+        × (compact_within left (T.table table.now) id value
+        ≡ compact_definition_within left (T.table table.now) found.now value)) }
     ensures unknown { IfErr result (λ why. (value : Dyn) (steps : List Step)
-        → Fails (value_at writings left (T.table table.now) id value) steps why
-        × Fails (compact_at writings left (T.table table.now) id value) steps why) }
+        → Fails (value_within left (T.table table.now) id value) steps why
+        × Fails (compact_within left (T.table table.now) id value) steps why) }
     ensures not_memory { IfErr result (λ why. why ≢ failure.Memory) }
 {
     if left == 0 {

@@ -2,11 +2,11 @@
 ghost use Rattle.std.specs.Prelude.{◌≡◌, ◌≤◌, IfErr, OnOk, OnErr, length, map, replicate};
 ghost use Rattle.scale_info_bytes.specs.Encodings.{IsPrefix};
 ghost use Rattle.scale_info_types.specs.declared.ty.TypeDef.TheVariants as def;
-ghost use Rattle.scale_info_value.specs.Readings.{value_at, defined_at};
 ghost use Rattle.scale_info_encode.specs.Writers.{Appends, IsErrorOf, item, in_turn};
 ghost use Rattle.scale_info_encode.specs.Failures.{Fails};
 ghost use Rattle.scale_info_encode.specs.DefinitionWriters.{items, members, pairs};
-ghost use Rattle.scale_info_encode.specs.Writings.{writing, writings, part_within};
+ghost use Rattle.scale_info_encode.specs.Writings.{writing, value_within, definition_within};
+ghost use Rattle.scale_info_encode.specs.Writings.{part_within};
 ghost use Rattle.scale_info_encode.specs.Writings.{fields_within, pair_within};
 
 use crate::compact::compact_within;
@@ -87,10 +87,10 @@ fn value_within<T: Definitions>(
     steps: &mut Vec<Step>,
 ) -> Result<(), PartError>
     ensures ok { OnOk result
-        (Appends (value_at writings left (T.table table.now) id value.now) out.old.items
+        (Appends (value_within left (T.table table.now) id value.now) out.old.items
         out.new.items) }
     ensures err { IfErr result
-        (Fails (value_at writings left (T.table table.now) id value.now) steps.new.items) }
+        (Fails (value_within left (T.table table.now) id value.now) steps.new.items) }
     ensures kept { OnErr result (IsPrefix out.old.items out.new.items) }
 {
     let definition = definition_of(table, id, left)?;
@@ -113,10 +113,10 @@ fn value_by<T: Definitions>(
 ) -> Result<(), PartError>
     requires { 1 ≤ left }
     ensures ok { OnOk result
-        (Appends (defined_at writings left (T.table table.now) definition.now value.now)
+        (Appends (definition_within left (T.table table.now) definition.now value.now)
         out.old.items out.new.items) }
     ensures err { IfErr result
-        (Fails (defined_at writings left (T.table table.now) definition.now value.now)
+        (Fails (definition_within left (T.table table.now) definition.now value.now)
         steps.new.items) }
     ensures kept { OnErr result (IsPrefix out.old.items out.new.items) }
 {
@@ -149,11 +149,11 @@ fn composite_value<T: Definitions>(
 ) -> Result<(), PartError>
     requires { 1 ≤ left }
     ensures ok { OnOk result
-        (Appends (defined_at writings left (T.table table.now)
+        (Appends (definition_within left (T.table table.now)
         (def.Composite composite.now) value.now)
         out.old.items out.new.items) }
     ensures err { IfErr result
-        (Fails (defined_at writings left (T.table table.now)
+        (Fails (definition_within left (T.table table.now)
         (def.Composite composite.now) value.now)
         steps.new.items) }
     ensures kept { OnErr result (IsPrefix out.old.items out.new.items) }
@@ -186,10 +186,10 @@ fn variant_value<T: Definitions>(
 ) -> Result<(), PartError>
     requires { 1 ≤ left }
     ensures ok { OnOk result
-        (Appends (defined_at writings left (T.table table.now) (def.Variant choice.now) value.now)
+        (Appends (definition_within left (T.table table.now) (def.Variant choice.now) value.now)
         out.old.items out.new.items) }
     ensures err { IfErr result
-        (Fails (defined_at writings left (T.table table.now) (def.Variant choice.now) value.now)
+        (Fails (definition_within left (T.table table.now) (def.Variant choice.now) value.now)
         steps.new.items) }
     ensures kept { OnErr result (IsPrefix out.old.items out.new.items) }
 {
@@ -231,11 +231,11 @@ fn sequence_value<T: Definitions>(
 ) -> Result<(), PartError>
     requires { 1 ≤ left }
     ensures ok { OnOk result
-        (Appends (defined_at writings left (T.table table.now)
+        (Appends (definition_within left (T.table table.now)
         (def.Sequence sequence.now) value.now)
         out.old.items out.new.items) }
     ensures err { IfErr result
-        (Fails (defined_at writings left (T.table table.now) (def.Sequence sequence.now) value.now)
+        (Fails (definition_within left (T.table table.now) (def.Sequence sequence.now) value.now)
         steps.new.items) }
     ensures kept { OnErr result (IsPrefix out.old.items out.new.items) }
 {
@@ -270,10 +270,10 @@ fn array_value<T: Definitions>(
 ) -> Result<(), PartError>
     requires { 1 ≤ left }
     ensures ok { OnOk result
-        (Appends (defined_at writings left (T.table table.now) (def.Array array.now) value.now)
+        (Appends (definition_within left (T.table table.now) (def.Array array.now) value.now)
         out.old.items out.new.items) }
     ensures err { IfErr result
-        (Fails (defined_at writings left (T.table table.now) (def.Array array.now) value.now)
+        (Fails (definition_within left (T.table table.now) (def.Array array.now) value.now)
         steps.new.items) }
     ensures kept { OnErr result (IsPrefix out.old.items out.new.items) }
 {
@@ -342,12 +342,12 @@ fn items_by<T: Definitions>(
 ) -> Result<(), PartError>
     requires { 1 ≤ left }
     ensures ok { OnOk result (Appends
-        (in_turn 0 (replicate count (item (defined_at writings left
+        (in_turn 0 (replicate count (item (definition_within left
         (T.table table.now) definition.now)))
         values.now)
         out.old.items out.new.items) }
     ensures err { IfErr result (Fails
-        (in_turn 0 (replicate count (item (defined_at writings left
+        (in_turn 0 (replicate count (item (definition_within left
         (T.table table.now) definition.now)))
         values.now) steps.new.items) }
     ensures kept { OnErr result (IsPrefix out.old.items out.new.items) }
@@ -381,10 +381,10 @@ fn tuple_value<T: Definitions>(
 ) -> Result<(), PartError>
     requires { 1 ≤ left }
     ensures ok { OnOk result
-        (Appends (defined_at writings left (T.table table.now) (def.Tuple tuple.now) value.now)
+        (Appends (definition_within left (T.table table.now) (def.Tuple tuple.now) value.now)
         out.old.items out.new.items) }
     ensures err { IfErr result
-        (Fails (defined_at writings left (T.table table.now) (def.Tuple tuple.now) value.now)
+        (Fails (definition_within left (T.table table.now) (def.Tuple tuple.now) value.now)
         steps.new.items) }
     ensures kept { OnErr result (IsPrefix out.old.items out.new.items) }
 {
@@ -491,10 +491,10 @@ fn map_value<T: Definitions>(
 ) -> Result<(), PartError>
     requires { 1 ≤ left }
     ensures ok { OnOk result
-        (Appends (defined_at writings left (T.table table.now) (def.Map map.now) value.now)
+        (Appends (definition_within left (T.table table.now) (def.Map map.now) value.now)
         out.old.items out.new.items) }
     ensures err { IfErr result
-        (Fails (defined_at writings left (T.table table.now) (def.Map map.now) value.now)
+        (Fails (definition_within left (T.table table.now) (def.Map map.now) value.now)
         steps.new.items) }
     ensures kept { OnErr result (IsPrefix out.old.items out.new.items) }
 {

@@ -5,6 +5,7 @@ pub mod Decoded
 pub mod Errors
 pub mod InOrder
 pub mod Integers
+pub mod Levels
 pub mod Ranks
 pub mod Steps
 pub mod Texts

@@ -1,112 +1,48 @@
--- One level of a value, and of a reading.
-use Rattle.std.proofs.Common.{◌≡◌, ℕ, zero, suc, ◌-◌, ◌≤◌, ◌==◌, List, [], ◌∷◌, Option, Some, None}
+-- One level of a reading.
+use Rattle.std.proofs.Common.{◌≡◌, ℕ, ◌≤◌, ◌==◌, List, [], ◌∷◌, Option, Some, None}
 use Rattle.std.proofs.Common.{map, find, replicate}
-use Rattle.std.proofs.Common.{cond, Bool, true, false, option_map, refl, ap, sym, ◌∙◌, arith}
-use Rattle.scale_info_types.specs.Portable.{Id, Text, Field, Variant, TypeDef, TypeDefComposite}
-use Rattle.scale_info_types.specs.Portable.{Description}
-use Rattle.scale_info_types.specs.declared.ty.TypeDef.{TypeDef as AnyTypeDef}
-use Rattle.scale_info_types.specs.Shapes.{map_variant, map_definition}
+use Rattle.std.proofs.Common.{cond, Bool, true, false, option_map, refl, ap, sym, ◌∙◌}
+use Rattle.scale_info_types.specs.Portable.{Id, Field, Variant, TypeDef, TypeDefComposite}
+use Rattle.scale_info_types.specs.Shapes.{map_variant}
 use Rattle.scale_info_types.specs.declared.ty.TypeDef.TheVariants as def
 use Rattle.scale_info_tables.specs.declared.portable.PortableRegistry.{PortableRegistry}
+use Rattle.scale_info_value.specs.declared.value.Dyn.{Dyn}
 use Rattle.scale_info_value.specs.declared.value.Dyn.TheVariants as dyn
-use Rattle.scale_info_value.specs.Outcomes.{decoded, failed, too_deep, no_such_type, malformed}
+use Rattle.scale_info_value.specs.Outcomes.{Decoder, decoded, failed, too_deep, no_such_type, malformed}
 use Rattle.scale_info_value.specs.Outcomes.{and_then, outcome_map, in_turn}
 use Rattle.scale_info_value.specs.IntegerDecoders.{byte}
-use Rattle.scale_info_value.specs.ValueDefinitions.{Part, fields_of, primitive}
+use Rattle.scale_info_value.specs.ValueDefinitions.{Part, fields_of, primitive, value_by, compact_by}
 use Rattle.scale_info_primitives.specs.declared.primitive.TypeDefPrimitive.{TypeDefPrimitive}
-use Rattle.scale_info_value.specs.Readings.{Levels, type_at, by_type, compact_by_type, value_by_type}
-use Rattle.scale_info_value.specs.Readings.{value_at, compact_at, part_at, defined_at, compact_defined_at}
-use Rattle.scale_info_value.specs.Readings.{readings, value_within, compact_within, part_within}
+use Rattle.scale_info_value.specs.Readings.{type_at, missing, value_within, compact_within}
 use Rattle.scale_info_value.specs.Readings.{definition_within, compact_definition_within}
-use Rattle.scale_info_value.specs.Readings.{fields_within, variant_within}
+use Rattle.scale_info_value.specs.Readings.{fields_within, part_within, variant_within}
+use Rattle.scale_info_value.proofs.Levels.{Levels, both_at, levels_end, levels_missing, levels_known}
 
--- ---- one level of a value, whatever comes of it
-
--- where no level is left, a value is too deep, and so is a compact integer
-pub levels_end :
-    {V C X : Type 0} (levels : Levels V C X) (left : ℕ) (table : PortableRegistry) (id : ℕ) → left ≡ 0
-    → (value_at levels left table id ≡ levels.deep) × (compact_at levels left table id ≡ levels.compact_deep)
-unfolding value_at compact_at
-levels_end levels zero table id e = (refl, refl)
-levels_end levels (suc left) table id e = absurd (omega arith)
-
--- else a compact integer goes by the description of its type
-compact_level :
-    {V C X : Type 0} (levels : Levels V C X) (left : ℕ) (table : PortableRegistry) (id : ℕ) → 1 ≤ left
-    → compact_at levels left table id
-    ≡ compact_by_type levels (compact_at levels (left - 1) table) (type_at table id)
-unfolding compact_at
-compact_level levels zero table id h = absurd (omega arith)
-compact_level levels (suc left) table id h =
-    let e : left ≡ suc left - 1 = omega arith in
-    ap (λ n. compact_by_type levels (compact_at levels n table) (type_at table id)) e
-
--- else a value goes by the description of its type
-value_level :
-    {V C X : Type 0} (levels : Levels V C X) (left : ℕ) (table : PortableRegistry) (id : ℕ) → 1 ≤ left
-    → value_at levels left table id ≡ value_by_type levels (part_at levels left table) (type_at table id)
-unfolding value_at
-value_level levels zero table id h = absurd (omega arith)
-value_level levels (suc zero) table id h = refl
-value_level levels (suc (suc left)) table id h =
-    let e : suc left ≡ suc (suc left) - 1 = omega arith in
-    let f : left ≡ suc (suc left) - 2 = omega arith in
-    λ i. value_by_type levels
-    (λ r. levels.part table r (value_at levels (e i) table r) (value_at levels (f i) table r)
-    (compact_at levels (suc (suc left)) table r)) (type_at table id)
-
--- a description that has no definition is none
-no_description : (o : Option Description) → option_map (λ t. t.type_def) o ≡ None → o ≡ None
-no_description None e = refl
-no_description (Some t) e = cc
-
--- an id that has no definition has no value, and no compact integer
-pub levels_missing :
-    {V C X : Type 0} (levels : Levels V C X) (left : ℕ) (table : PortableRegistry) (id : ℕ)
-    → 1 ≤ left → option_map (λ t. t.type_def) (type_at table id) ≡ None
-    → (value_at levels left table id ≡ levels.none) × (compact_at levels left table id ≡ levels.compact_none)
-levels_missing levels left table id h e =
-    let none = no_description (type_at table id) e in (
-      value_level levels left table id h ∙ ap (λ o. value_by_type levels (part_at levels left table) o) none,
-      compact_level levels left table id h
-          ∙ ap (λ o. compact_by_type levels (compact_at levels (left - 1) table) o) none,
-    )
-
--- what comes of a description, by its definition
-by_definition :
-    {D X : Type 0} (none : D) (by : AnyTypeDef (Unit {0}) X Text → D) (part : ℕ → X) (o : Option Description)
-    (d : TypeDef) → option_map (λ t. t.type_def) o ≡ Some d
-    → by_type none by part o ≡ by (map_definition {G = Unit {0}} (λ r. part r.id) (λ t. t) d)
-by_definition none by part None d e = cc
-by_definition none by part (Some t) d e =
-    let p : t.type_def ≡ d = cc in
-    ap (λ d. by (map_definition {G = Unit {0}} (λ r. part r.id) (λ t. t) d)) p
-
--- a value of a type goes by the type's definition, and so does a compact integer
-pub levels_known :
-    {V C X : Type 0} (levels : Levels V C X) (left : ℕ) (table : PortableRegistry) (id : ℕ) (d : TypeDef)
-    → 1 ≤ left → option_map (λ t. t.type_def) (type_at table id) ≡ Some d
-    → (value_at levels left table id ≡ defined_at levels left table d)
-    × (compact_at levels left table id ≡ compact_defined_at levels left table d)
-levels_known levels left table id d h e = (
-  value_level levels left table id h
-      ∙ by_definition levels.none levels.by (part_at levels left table) (type_at table id) d e,
-  compact_level levels left table id h
-      ∙ by_definition levels.compact_none levels.compact_by (compact_at levels (left - 1) table) (type_at table id) d e,
-)
-
--- two functions that are equal to others give what these give
-pub both_at :
-    {A B C : Type 0} {f g : A → B} {h k : A → C} → (f ≡ g) × (h ≡ k) → (x : A) → (f x ≡ g x) × (h x ≡ k x)
-both_at e x = (λ i. e.0 i x, λ i. e.1 i x)
-
--- ---- one level of a reading
+-- readings are levels
+unfoldable pub readings : Levels (Decoder Dyn) (Decoder ℕ) Part
+unfolding value_within compact_within
+readings = record {
+  deep = λ input. failed too_deep;
+  none = missing;
+  by = value_by;
+  compact_deep = λ input. failed too_deep;
+  compact_none = missing;
+  compact_by = compact_by;
+  part = λ table r value inner compact. record { value = value; inner = inner; compact = compact };
+  value = value_within;
+  compact = compact_within;
+  compact_end = λ table id. refl;
+  compact_level = λ left table id. refl;
+  value_end = λ table id. refl;
+  value_last = λ table id. refl;
+  value_level = λ left table id. refl;
+}
 
 -- where no level is left, a value is too deep, and so is a compact integer
 pub nothing_left :
     (left : ℕ) (table : PortableRegistry) (id : ℕ) (input : List ℕ) → left ≡ 0
     → (value_within left table id input ≡ failed too_deep) × (compact_within left table id input ≡ failed too_deep)
-unfolding value_within compact_within
+unfolding readings value_within compact_within
 nothing_left left table id input e = both_at (levels_end readings left table id e) input
 
 -- an id that has no definition has no value, and no compact integer
@@ -115,7 +51,7 @@ pub no_type :
     → 1 ≤ left → option_map (λ t. t.type_def) (type_at table id) ≡ None
     → (value_within left table id input ≡ failed no_such_type)
     × (compact_within left table id input ≡ failed no_such_type)
-unfolding value_within compact_within
+unfolding readings value_within compact_within
 no_type left table id input h e = both_at (levels_missing readings left table id h e) input
 
 -- a value of a type goes by the type's definition, and so does a compact integer
@@ -124,7 +60,7 @@ pub type_known :
     → 1 ≤ left → option_map (λ t. t.type_def) (type_at table id) ≡ Some d
     → (value_within left table id input ≡ definition_within left table d input)
     × (compact_within left table id input ≡ compact_definition_within left table d input)
-unfolding value_within compact_within
+unfolding readings value_within compact_within
 type_known left table id input d h e = both_at (levels_known readings left table id d h e) input
 
 -- the first variant with an index stays the first where references are read

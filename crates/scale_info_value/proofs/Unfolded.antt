@@ -14,8 +14,9 @@ use Rattle.scale_info_numberings.specs.Unfoldings.{Tree, node, tree, trees, tree
 use Rattle.scale_info_tables.specs.TableSystems.{system_of}
 use Rattle.scale_info_walk.specs.TypeSystems.{entry_of}
 use Rattle.scale_info_tables.specs.declared.portable.PortableRegistry.{PortableRegistry}
-use Rattle.scale_info_value.specs.Readings.{Levels, by_type, compact_at, value_at, readings}
-use Rattle.scale_info_value.specs.Readings.{value_within, reading}
+use Rattle.scale_info_value.specs.Readings.{by_type, reading, value_within, compact_within}
+use Rattle.scale_info_value.proofs.Levels.{Levels}
+use Rattle.scale_info_value.proofs.Steps.{readings}
 use Rattle.scale_info_types.proofs.ShapeAndReferences.{shape_and_references}
 
 -- references that unfold alike are decoded alike, one by one
@@ -114,51 +115,54 @@ module _ {V C X : Type 0} (levels : Levels V C X)
   pub compact_unfolded :
       (left : ℕ) (table other : PortableRegistry) (m n : ℕ)
       → unfold_to left (system_of table) m ≡ unfold_to left (system_of other) n
-      → compact_at levels left table m ≡ compact_at levels left other n
-  unfolding compact_at
-  compact_unfolded zero table other m n h = refl
+      → levels.compact left table m ≡ levels.compact left other n
+  compact_unfolded zero table other m n h = levels.compact_end table m ∙ sym (levels.compact_end other n)
   compact_unfolded (suc left) table other m n h =
-      same_definitions levels.compact_none levels.compact_by
+      levels.compact_level left table m
+      ∙ same_definitions levels.compact_none levels.compact_by
       (unfold_to left (system_of table)) (unfold_to left (system_of other))
-      (compact_at levels left table) (compact_at levels left other)
+      (levels.compact left table) (levels.compact left other)
       (compact_unfolded left table other) (slice_get table.types m) (slice_get other.types n) h
+      ∙ sym (levels.compact_level left other n)
 
   -- where two ids unfold alike one level deeper, the same comes of values
   pub value_unfolded :
       (left : ℕ) (table other : PortableRegistry) (m n : ℕ)
       → unfold_to (suc left) (system_of table) m ≡ unfold_to (suc left) (system_of other) n
-      → value_at levels left table m ≡ value_at levels left other n
-  unfolding value_at
-  value_unfolded zero table other m n h = refl
+      → levels.value left table m ≡ levels.value left other n
+  value_unfolded zero table other m n h = levels.value_end table m ∙ sym (levels.value_end other n)
   value_unfolded (suc zero) table other m n h =
-      same_definitions levels.none levels.by
+      levels.value_last table m
+      ∙ same_definitions levels.none levels.by
       (unfold_to 1 (system_of table)) (unfold_to 1 (system_of other))
-      (λ r. levels.part table r levels.deep levels.deep (compact_at levels 1 table r))
-      (λ r. levels.part other r levels.deep levels.deep (compact_at levels 1 other r))
+      (λ r. levels.part table r levels.deep levels.deep (levels.compact 1 table r))
+      (λ r. levels.part other r levels.deep levels.deep (levels.compact 1 other r))
       (λ r s same.
       same_part table other r s refl refl (compact_unfolded 1 table other r s same))
       (slice_get table.types m) (slice_get other.types n) h
+      ∙ sym (levels.value_last other n)
   value_unfolded (suc (suc left)) table other m n h =
-      same_definitions levels.none levels.by
+      levels.value_level left table m
+      ∙ same_definitions levels.none levels.by
       (unfold_to (suc (suc left)) (system_of table)) (unfold_to (suc (suc left)) (system_of other))
-      (λ r. levels.part table r (value_at levels (suc left) table r) (value_at levels left table r)
-      (compact_at levels (suc (suc left)) table r))
-      (λ r. levels.part other r (value_at levels (suc left) other r) (value_at levels left other r)
-      (compact_at levels (suc (suc left)) other r))
+      (λ r. levels.part table r (levels.value (suc left) table r) (levels.value left table r)
+      (levels.compact (suc (suc left)) table r))
+      (λ r. levels.part other r (levels.value (suc left) other r) (levels.value left other r)
+      (levels.compact (suc (suc left)) other r))
       (λ r s same.
       same_part table other r s (value_unfolded (suc left) table other r s same)
       (value_unfolded left table other r s
       (less_deep (suc left) (system_of table) (system_of other) r s same))
       (compact_unfolded (suc (suc left)) table other r s same))
       (slice_get table.types m) (slice_get other.types n) h
+      ∙ sym (levels.value_level left other n)
 
   by_levels :
       (table other : PortableRegistry) (id index left more : ℕ)
       → ((k : ℕ) → left ≡ suc k → more ≡ suc (suc k))
       → unfold_to more (system_of table) id ≡ unfold_to more (system_of other) index
-      → value_at levels left table id ≡ value_at levels left other index
-  unfolding value_at
-  by_levels table other id index zero more e h = refl
+      → levels.value left table id ≡ levels.value left other index
+  by_levels table other id index zero more e h = levels.value_end table id ∙ sym (levels.value_end other index)
   by_levels table other id index (suc k) more e h =
       value_unfolded (suc k) table other id index
       (subst (λ n. unfold_to n (system_of table) id ≡ unfold_to n (system_of other) index) (e k refl) h)
@@ -167,7 +171,7 @@ module _ {V C X : Type 0} (levels : Levels V C X)
   pub same_at_depth :
       (table other : PortableRegistry) (id index depth : ℕ)
       → unfold_to (130 - depth) (system_of table) id ≡ unfold_to (130 - depth) (system_of other) index
-      → value_at levels (129 - depth) table id ≡ value_at levels (129 - depth) other index
+      → levels.value (129 - depth) table id ≡ levels.value (129 - depth) other index
   same_at_depth table other id index depth h =
       by_levels table other id index (129 - depth) (130 - depth) (λ k e. omega arith) h
 
@@ -176,7 +180,7 @@ module _ {V C X : Type 0} (levels : Levels V C X)
       (old new : PortableRegistry) (kept : List ℕ)
       → IsTable (system_of old) kept (map entry_of new.types)
       → (index id : ℕ) → slice_get kept index ≡ Some id
-      → (depth : ℕ) → value_at levels (129 - depth) new index ≡ value_at levels (129 - depth) old id
+      → (depth : ℕ) → levels.value (129 - depth) new index ≡ levels.value (129 - depth) old id
   same_in_table old new kept table index id at depth =
       let alike = unfolds_alike (system_of old) kept (map entry_of new.types) table (130 - depth) index id at in
       let here : unfold_to (130 - depth) (system_of new) index ≡ unfold_to (130 - depth) (system_of old) id =
@@ -189,7 +193,7 @@ pub unfolding_decides :
     (table other : PortableRegistry) (id index depth : ℕ)
     → unfold_to (130 - depth) (system_of table) id ≡ unfold_to (130 - depth) (system_of other) index
     → (input : List ℕ) → reading table id depth input ≡ reading other index depth input
-unfolding value_within
+unfolding readings value_within compact_within
 unfolding_decides table other id index depth h input =
     ap (λ read. read input)
     (same_at_depth readings (λ table other r s value inner compact. refl) table other id index depth h)
@@ -199,7 +203,7 @@ pub reads_alike :
     (old new : PortableRegistry) (kept : List ℕ) → IsTable (system_of old) kept (map entry_of new.types)
     → (index id : ℕ) → slice_get kept index ≡ Some id
     → (depth : ℕ) (input : List ℕ) → reading new index depth input ≡ reading old id depth input
-unfolding value_within
+unfolding readings value_within compact_within
 reads_alike old new kept table index id at depth input =
     ap (λ read. read input)
     (same_in_table readings (λ table other r s value inner compact. refl) old new kept table index id at depth)

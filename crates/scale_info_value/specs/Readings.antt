@@ -1,4 +1,4 @@
--- What comes of a value by a table, whatever that is, and what comes of decoding one.
+-- What comes of decoding a value by a table.
 use Rattle.std.specs.Prelude.{ℕ, zero, suc, ◌-◌, List, Option, Some, None, option_map, slice_get}
 use Rattle.std.specs.Prelude.{map}
 use Rattle.scale_info_types.specs.Portable.{Id, Text, Field, Variant, TypeDef, Description}
@@ -23,109 +23,40 @@ by_type none by part None = none
 by_type none by part (Some d) =
     by (map_definition {G = Unit {0}} (λ r. part r.id) (λ t. t) d.type_def)
 
--- What comes of a value, a `V`, and of a compact integer, a `C`: where no level is left, at an id
--- that is no index of the table, and by the definition of the type. In the definition of a value
--- each reference stands for an `X`. At an id, `part` makes one of what comes of a value one deeper
--- than the value that refers to it, of a value two deeper, and of a compact integer, which is no
--- deeper.
-pub record Levels (V C X : Type 0) : Type 0 where
-  pub deep : V
-  pub none : V
-  pub by : AnyTypeDef (Unit {0}) X Text → V
-  pub compact_deep : C
-  pub compact_none : C
-  pub compact_by : AnyTypeDef (Unit {0}) C Text → C
-  pub part : PortableRegistry → ℕ → V → V → C → X
-
--- the same comes of a compact integer as of a value, where there is none
-abbrev pub levels_of : {V X : Type 0} → V → V
-    → (AnyTypeDef (Unit {0}) X Text → V) → (AnyTypeDef (Unit {0}) V Text → V)
-    → (PortableRegistry → ℕ → V → V → V → X) → Levels V V X
-levels_of deep none by compact_by part = record {
-  deep = deep;
-  none = none;
-  by = by;
-  compact_deep = deep;
-  compact_none = none;
-  compact_by = compact_by;
-  part = part;
-}
-
--- a compact integer by the description of a type, where `part` says what comes of one at an id
-abbrev pub compact_by_type :
-    {V C X : Type 0} → Levels V C X → (ℕ → C) → Option Description → C
-compact_by_type levels part d = by_type levels.compact_none levels.compact_by part d
-
--- a compact integer by an id, where that many levels are left
-unfoldable pub compact_at : {V C X : Type 0} → Levels V C X → ℕ → PortableRegistry → ℕ → C
-compact_at levels zero table id = levels.compact_deep
-compact_at levels (suc left) table id =
-    compact_by_type levels (compact_at levels left table) (type_at table id)
-
--- a value by the description of its type, where `part` says what an id stands for
-abbrev pub value_by_type : {V C X : Type 0} → Levels V C X → (ℕ → X) → Option Description → V
-value_by_type levels part d = by_type levels.none levels.by part d
-
--- A value by an id, where that many levels are left. Its parts are one level deeper; the type of a
--- compact integer is as deep as the integer itself.
-unfoldable pub value_at : {V C X : Type 0} → Levels V C X → ℕ → PortableRegistry → ℕ → V
-value_at levels zero table id = levels.deep
-value_at levels (suc zero) table id =
-    value_by_type levels
-    (λ r. levels.part table r levels.deep levels.deep (compact_at levels 1 table r))
-    (type_at table id)
-value_at levels (suc (suc left)) table id =
-    value_by_type levels
-    (λ r. levels.part table r (value_at levels (suc left) table r) (value_at levels left table r)
-    (compact_at levels (suc (suc left)) table r))
-    (type_at table id)
-
--- what an id stands for, where `left` levels are left for the value itself
-abbrev pub part_at : {V C X : Type 0} → Levels V C X → ℕ → PortableRegistry → ℕ → X
-part_at levels left table r =
-    levels.part table r (value_at levels (left - 1) table r) (value_at levels (left - 2) table r)
-    (compact_at levels left table r)
-
--- a value by a definition
-abbrev pub defined_at :
-    {V C X : Type 0} → Levels V C X → ℕ → PortableRegistry → TypeDef → V
-defined_at levels left table d =
-    levels.by (map_definition {G = Unit {0}} (λ r. part_at levels left table r.id) (λ t. t) d)
-
--- a compact integer by a definition
-abbrev pub compact_defined_at :
-    {V C X : Type 0} → Levels V C X → ℕ → PortableRegistry → TypeDef → C
-compact_defined_at levels left table d =
-    levels.compact_by
-    (map_definition {G = Unit {0}} (λ r. compact_at levels (left - 1) table r.id) (λ t. t) d)
-
 -- nothing is decoded at an id that is no index
 abbrev pub missing : {A : Type 0} → Decoder A
 missing input = failed no_such_type
 
--- how values are decoded
-abbrev pub readings : Levels (Decoder Dyn) (Decoder ℕ) Part
-readings = record {
-  deep = λ input. failed too_deep;
-  none = missing;
-  by = value_by;
-  compact_deep = λ input. failed too_deep;
-  compact_none = missing;
-  compact_by = compact_by;
-  part = λ table r value inner compact. record {
-    value = value;
-    inner = inner;
-    compact = compact;
-  };
-}
+-- a compact integer by the description of a type, where `read` decodes one by an id
+abbrev pub compact_by_type : (ℕ → Decoder ℕ) → Option Description → Decoder ℕ
+compact_by_type read d = by_type missing compact_by read d
 
 -- a compact integer by an id, where that many levels are left
 unfoldable pub compact_within : ℕ → PortableRegistry → ℕ → Decoder ℕ
-compact_within left table id = compact_at readings left table id
+compact_within zero table id input = failed too_deep
+compact_within (suc left) table id input =
+    compact_by_type (compact_within left table) (type_at table id) input
 
--- a value by an id, where that many levels are left
+-- a value by the description of its type, where `part` decodes by an id
+abbrev pub value_by_type : (ℕ → Part) → Option Description → Decoder Dyn
+value_by_type part d = by_type missing value_by part d
+
+-- A value by an id, where that many levels are left. Its parts are one level deeper; the type of a
+-- compact integer is as deep as the integer itself.
 unfoldable pub value_within : ℕ → PortableRegistry → ℕ → Decoder Dyn
-value_within left table id = value_at readings left table id
+value_within zero table id input = failed too_deep
+value_within (suc zero) table id input =
+    value_by_type (λ r. record {
+      value = λ bytes. failed too_deep;
+      inner = λ bytes. failed too_deep;
+      compact = compact_within 1 table r;
+    }) (type_at table id) input
+value_within (suc (suc left)) table id input =
+    value_by_type (λ r. record {
+      value = value_within (suc left) table r;
+      inner = value_within left table r;
+      compact = compact_within (suc (suc left)) table r;
+    }) (type_at table id) input
 
 -- The outcome of bytes at a value of the type with that id, at a depth. The value that is asked for
 -- has depth 1, and no value is deeper than 128.

@@ -20,7 +20,7 @@ use Rattle.scale_info_value.specs.declared.value.Dyn.{Dyn}
 use Rattle.scale_info_value.specs.declared.value.Dyn.TheOpen.{Dyn-F}
 use Rattle.scale_info_value.specs.declared.value.Dyn.TheVariants as dyn
 use Rattle.scale_info_value.specs.Outcomes.{decoded}
-use Rattle.scale_info_value.specs.Readings.{type_at, reading, value_at, compact_at, value_by_type, compact_by_type}
+use Rattle.scale_info_value.specs.Readings.{type_at, reading}
 use Rattle.scale_info_encode.specs.Writers as writing
 use Rattle.scale_info_encode.specs.declared.path.Step.{Step}
 use Rattle.scale_info_encode.specs.declared.path.Step.TheVariants as step
@@ -29,7 +29,6 @@ use Rattle.scale_info_encode.specs.IntegerWriters.{count, compact_bytes, is_sign
 use Rattle.scale_info_encode.specs.DefinitionWriters as writers
 use Rattle.scale_info_encode.specs.DefinitionWriters.{Writers, held, if_found as if_held, list_in as list_held, record_in, unsigned_in, signed_in, truth_in, text_in, variant_in as variant_held}
 use Rattle.scale_info_encode.specs.Writings as written_values
-use Rattle.scale_info_encode.specs.Writings.{writings}
 use Rattle.scale_info_encode.proofs.Levels.{read_back}
 use Rattle.scale_info_encode.proofs.ValueKinds.{IsKind, lists, records, truths, texts, unsigned_integers, signed_integers, variants, chosen as made_variant}
 use Rattle.scale_info_visit.specs.Events.{definition_at, is_byte}
@@ -37,7 +36,8 @@ use Rattle.scale_info_value_json.specs.Takers.{Taken, Taker, taken, refused as n
 use Rattle.scale_info_value_json.specs.DefinitionTakers as takers
 use Rattle.scale_info_value_json.specs.DefinitionTakers.{Takers, each, counted, has_count, named_field, object_fields, variant_of, variant_fields}
 use Rattle.scale_info_value_json.specs.TreeParts.{natural_in, integer_in, below, within, is_within, items_in, list_in, has_members, member_in, is_object_of, text_in as text_of_tree, variant_in, is_nothing}
-use Rattle.scale_info_value_json.specs.Takings.{taking, takings}
+use Rattle.scale_info_value_json.specs.Takings.{taking, value_within, compact_within, value_by_type}
+use Rattle.scale_info_value_json.specs.Takings.{compact_by_type}
 use Rattle.scale_info_value_json.proofs.SoFar.{then_more}
 use Rattle.scale_info_value_json.proofs.ShownVariants.{first_with_index}
 
@@ -494,7 +494,7 @@ module _ (take : Id → Taker Dyn) (write : Id → Writer Dyn) (part : (r : Id) 
 -- compact integers by a description are written
 compact_type_written :
     (take : ℕ → Taker Dyn) (write : ℕ → Writer Dyn) → ((id : ℕ) → AreWritten (take id) (write id)) → (o : Option Description)
-    → AreWritten (compact_by_type takings take o) (compact_by_type writings write o)
+    → AreWritten (compact_by_type take o) (written_values.compact_by_type write o)
 compact_type_written take write part None = λ tree value e. cc
 compact_type_written take write part (Some d) =
     compacts_written (λ r. take r.id) (λ r. write r.id) (λ r. part r.id) d.type_def
@@ -505,11 +505,11 @@ AreWrittenWithin take write =
     (left : ℕ) (table : PortableRegistry) (id : ℕ) → AreWritten (take left table id) (write left table id)
 
 -- compact integers are written, however many levels are left
-compact_level_written : AreWrittenWithin (compact_at takings) (compact_at writings)
-unfolding compact_at
+compact_level_written : AreWrittenWithin compact_within written_values.compact_within
+unfolding compact_within written_values.compact_within
 compact_level_written zero table id = λ tree value e. cc
 compact_level_written (suc left) table id =
-    compact_type_written (compact_at takings left table) (compact_at writings left table)
+    compact_type_written (compact_within left table) (written_values.compact_within left table)
     (compact_level_written left table) (type_at table id)
 
 -- the takers of these at an id
@@ -527,8 +527,8 @@ type_written :
     (write write_inner write_compact : ℕ → Writer Dyn)
     → ((id : ℕ) → AreWritten (take id) (write id)) → ((id : ℕ) → AreWritten (take_inner id) (write_inner id))
     → ((id : ℕ) → AreWritten (take_compact id) (write_compact id)) → (o : Option Description)
-    → AreWritten (value_by_type takings (takers_at table take take_inner take_compact) o)
-    (value_by_type writings (writers_at write write_inner write_compact) o)
+    → AreWritten (value_by_type (takers_at table take take_inner take_compact) o)
+    (written_values.value_by_type (writers_at write write_inner write_compact) o)
 type_written table take take_inner take_compact write write_inner write_compact value inner compact None = λ tree value e. cc
 type_written table take take_inner take_compact write write_inner write_compact value inner compact (Some d) =
     values_written (λ r. takers_at table take take_inner take_compact r.id)
@@ -536,8 +536,8 @@ type_written table take take_inner take_compact write write_inner write_compact 
     (λ r. record { value = value r.id; inner = inner r.id; compact = compact r.id }) d.type_def
 
 -- values are written, however many levels are left
-level_written : AreWrittenWithin (value_at takings) (value_at writings)
-unfolding value_at
+level_written : AreWrittenWithin value_within written_values.value_within
+unfolding value_within written_values.value_within
 level_written zero table id = λ tree value e. cc
 level_written (suc zero) table id =
     type_written table (λ r tree. not_taken too_deep) (λ r tree. not_taken too_deep) _

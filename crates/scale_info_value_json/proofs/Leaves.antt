@@ -19,7 +19,8 @@ use Rattle.serde_json.specs.Data.{Data, Num, boolean, number, string, unsigned, 
 use Rattle.serde_json.specs.Read.{number_of}
 use Rattle.serde_json.proofs.Numbers.{number_of-decimal, number_of-negative}
 use Rattle.scale_info_value_json.specs.Takers.{Taker, taken}
-use Rattle.scale_info_value_json.specs.TreeParts.{natural_in, integer_in, decimal_in, signed_decimal_in, bytes_in, is_within}
+use Rattle.scale_info_hexadecimal.specs.Digits.{bytes_by_digits}
+use Rattle.scale_info_value_json.specs.TreeParts.{natural_in, integer_in, decimal_in, signed_decimal_in, is_within}
 use Rattle.scale_info_value_json.proofs.Numbers.{decimal_of}
 use Rattle.scale_info_value_json.proofs.Shown.{IsShown}
 
@@ -112,5 +113,5 @@ truth_shown b take value e =
     record { json = json.boolean b; tree = boolean b; prints = refl; numbers = tt; reads = refl; is = e }
 
 -- the hexadecimal digits of bytes write them
-pub bytes_back : (bytes : List ℕ) → IsBytes bytes → bytes_in (codes "0x" ++ encode_lower bytes) ≡ Some bytes
+pub bytes_back : (bytes : List ℕ) → IsBytes bytes → bytes_by_digits (codes "0x" ++ encode_lower bytes) ≡ Some bytes
 bytes_back bytes all = ap result_ok (decode_of-encode_lower bytes all)

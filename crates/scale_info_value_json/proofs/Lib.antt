@@ -1,3 +1,4 @@
+pub mod AsLevels
 pub mod Numbers
 pub mod Trees
 pub mod SoFar

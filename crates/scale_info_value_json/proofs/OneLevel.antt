@@ -17,14 +17,17 @@ use Rattle.scale_info_primitives.specs.declared.primitive.TypeDefPrimitive.TheVa
 use Rattle.scale_info_tables.specs.declared.portable.PortableRegistry.{PortableRegistry}
 use Rattle.scale_info_value.specs.declared.value.Dyn.{Dyn}
 use Rattle.scale_info_value.specs.declared.value.Dyn.TheVariants as dyn
-use Rattle.scale_info_value.specs.Readings.{type_at, value_at, compact_at, compact_defined_at}
+use Rattle.scale_info_value.specs.Readings.{type_at}
 use Rattle.scale_info_visit.specs.Events.{definition_at, is_byte, names}
 use Rattle.scale_info_value_json.specs.Takers.{Refusal, taken, refused, mismatch, too_deep, taken_map, if_found}
-use Rattle.scale_info_value_json.specs.TreeParts.{bytes_in, list_in, items_in, is_object_of, without_prefix}
+use Rattle.scale_info_hexadecimal.specs.Digits.{bytes_by_digits, without_mark}
+use Rattle.scale_info_value_json.specs.TreeParts.{list_in, items_in, is_object_of}
 use Rattle.scale_info_value_json.specs.DefinitionTakers.{Takers, value_by, each, counted, compact_field}
-use Rattle.scale_info_value_json.specs.Takings.{takings, part_within, items_within, is_count_of}
+use Rattle.scale_info_value_json.specs.Takings.{value_within, compact_within, compact_definition_within}
+use Rattle.scale_info_value_json.specs.Takings.{part_within, items_within, is_count_of}
+use Rattle.scale_info_value_json.proofs.AsLevels.{takings}
 use Rattle.scale_info_value_json.specs.Takings.{fields_within, object_fields_within, array_fields_within}
-use Rattle.scale_info_value.proofs.Steps.{levels_end, levels_known, both_at}
+use Rattle.scale_info_value.proofs.Levels.{levels_end, levels_known, both_at}
 use Rattle.scale_info_value_json.proofs.SoFar.{then_more}
 
 -- ---- bytes
@@ -41,35 +44,36 @@ byte_by part _ n is h = cc
 -- by a type
 pub byte_taken :
     (left : ℕ) (table : PortableRegistry) (id n : ℕ) → 1 ≤ left → is_byte (definition_at table id) ≡ true → n < 256
-    → value_at takings left table id (number (unsigned n)) ≡ taken (dyn.Unsigned n)
+    → value_within left table id (number (unsigned n)) ≡ taken (dyn.Unsigned n)
+unfolding takings value_within compact_within
 byte_taken left table id n level is h = by_type (type_at table id) refl is
   where
     by_type :
         (o : Option Description) → type_at table id ≡ o → is_byte (option_map (λ d. d.type_def) o) ≡ true
-        → value_at takings left table id (number (unsigned n)) ≡ taken (dyn.Unsigned n)
+        → value_within left table id (number (unsigned n)) ≡ taken (dyn.Unsigned n)
     by_type None e f = cc
     by_type (Some d) e f =
         (both_at (levels_known takings left table id d.type_def level (ap (option_map (λ t. t.type_def)) e)) (number (unsigned n))).0
         ∙ byte_by (part_within left table) d.type_def n f h
 
 -- bytes that a text writes are bytes
-written_bytes : (t bytes : List ℕ) → bytes_in t ≡ Some bytes → IsBytes bytes
-written_bytes t bytes e = by_result (decode_of (without_prefix t)) refl e
+written_bytes : (t bytes : List ℕ) → bytes_by_digits t ≡ Some bytes → IsBytes bytes
+written_bytes t bytes e = by_result (decode_of (without_mark t)) refl e
   where
-    by_result : (r : Result (List ℕ) FromHexError) → decode_of (without_prefix t) ≡ r → result_ok r ≡ Some bytes → IsBytes bytes
+    by_result : (r : Result (List ℕ) FromHexError) → decode_of (without_mark t) ≡ r → result_ok r ≡ Some bytes → IsBytes bytes
     by_result (Ok b) is f =
         let same : b ≡ bytes = cc in
-        (decode_of-ok (without_prefix t) bytes (is ∙ ap Ok same)).3
+        (decode_of-ok (without_mark t) bytes (is ∙ ap Ok same)).3
     by_result (Err x) is f = cc
 
 -- the numbers of bytes are taken as bytes
 each_byte :
     (left : ℕ) (table : PortableRegistry) (id : ℕ) (bytes : List ℕ) → 1 ≤ left → is_byte (definition_at table id) ≡ true
     → IsBytes bytes
-    → each (value_at takings left table id) (map (λ n. number (unsigned n)) bytes) ≡ taken (map dyn.Unsigned bytes)
+    → each (value_within left table id) (map (λ n. number (unsigned n)) bytes) ≡ taken (map dyn.Unsigned bytes)
 each_byte left table id [] level is all = refl
 each_byte left table id (n ∷ bytes) level is all =
-    ap (λ o. then_more o (each (value_at takings left table id) (map (λ n. number (unsigned n)) bytes)))
+    ap (λ o. then_more o (each (value_within left table id) (map (λ n. number (unsigned n)) bytes)))
     (byte_taken left table id n level is (all 0))
     ∙ ap (taken_map (λ vs. dyn.Unsigned n ∷ vs)) (each_byte left table id bytes level is (λ i. all (suc i)))
 
@@ -77,70 +81,71 @@ module _ (left : ℕ) (table : PortableRegistry) (ty : Id) (count : Option ℕ) 
     (of_bytes : is_byte (definition_at table ty.id) ≡ true) where
   -- a text that writes bytes is the list of their numbers
   pub bytes_are :
-      (bytes : List ℕ) → bytes_in text ≡ Some bytes
+      (bytes : List ℕ) → bytes_by_digits text ≡ Some bytes
       → items_within left table ty count (string text)
-      ≡ taken_map dyn.List (counted (is_count_of count) (value_at takings (left - 1) table ty.id) (map (λ n. number (unsigned n)) bytes))
+      ≡ taken_map dyn.List (counted (is_count_of count) (value_within (left - 1) table ty.id) (map (λ n. number (unsigned n)) bytes))
   bytes_are bytes e =
-      ap (λ t. taken_map dyn.List (if_found (list_in t (string text)) (counted (is_count_of count) (value_at takings (left - 1) table ty.id))))
+      ap (λ t. taken_map dyn.List (if_found (list_in t (string text)) (counted (is_count_of count) (value_within (left - 1) table ty.id))))
       of_bytes
       ∙ ap (λ o. taken_map dyn.List (if_found (option_map (map (λ n. number (unsigned n))) o)
-      (counted (is_count_of count) (value_at takings (left - 1) table ty.id)))) e
+      (counted (is_count_of count) (value_within (left - 1) table ty.id)))) e
 
   -- a text that writes none is refused
   pub no_bytes :
-      (why : Refusal) → if_found (bytes_in text) taken ≡ refused why → items_within left table ty count (string text) ≡ refused why
-  no_bytes why e = by_bytes (bytes_in text) refl e
+      (why : Refusal) → if_found (bytes_by_digits text) taken ≡ refused why → items_within left table ty count (string text) ≡ refused why
+  no_bytes why e = by_bytes (bytes_by_digits text) refl e
     where
       by_bytes :
-          (o : Option (List ℕ)) → bytes_in text ≡ o → if_found o taken ≡ refused why
+          (o : Option (List ℕ)) → bytes_by_digits text ≡ o → if_found o taken ≡ refused why
           → items_within left table ty count (string text) ≡ refused why
       by_bytes None is f =
           let same : mismatch ≡ why = cc in
-          ap (λ t. taken_map dyn.List (if_found (list_in t (string text)) (counted (is_count_of count) (value_at takings (left - 1) table ty.id))))
+          ap (λ t. taken_map dyn.List (if_found (list_in t (string text)) (counted (is_count_of count) (value_within (left - 1) table ty.id))))
           of_bytes
           ∙ ap (λ o. taken_map dyn.List (if_found (option_map (map (λ n. number (unsigned n))) o)
-          (counted (is_count_of count) (value_at takings (left - 1) table ty.id)))) is
+          (counted (is_count_of count) (value_within (left - 1) table ty.id)))) is
           ∙ ap refused same
       by_bytes (Some bytes) is f = cc
 
   -- by the test of how many there are
   bytes_tested :
-      (bytes : List ℕ) (test : Bool) → bytes_in text ≡ Some bytes → is_count_of count (length bytes) ≡ test
+      (bytes : List ℕ) (test : Bool) → bytes_by_digits text ≡ Some bytes → is_count_of count (length bytes) ≡ test
       → items_within left table ty count (string text)
       ≡ taken_map dyn.List
-      (if test then each (value_at takings (left - 1) table ty.id) (map (λ n. number (unsigned n)) bytes) else refused mismatch)
+      (if test then each (value_within (left - 1) table ty.id) (map (λ n. number (unsigned n)) bytes) else refused mismatch)
   bytes_tested bytes test e is =
       bytes_are bytes e
       ∙ ap (λ (t : Bool). taken_map dyn.List
-      (if t then each (value_at takings (left - 1) table ty.id) (map (λ n. number (unsigned n)) bytes) else refused mismatch))
+      (if t then each (value_within (left - 1) table ty.id) (map (λ n. number (unsigned n)) bytes) else refused mismatch))
       (ap (is_count_of count) (length-map bytes (λ n. number (unsigned n))) ∙ is)
 
   -- as many as there are to be
   pub bytes_counted :
-      (bytes : List ℕ) → bytes_in text ≡ Some bytes → is_count_of count (length bytes) ≡ true
+      (bytes : List ℕ) → bytes_by_digits text ≡ Some bytes → is_count_of count (length bytes) ≡ true
       → items_within left table ty count (string text)
-      ≡ taken_map dyn.List (each (value_at takings (left - 1) table ty.id) (map (λ n. number (unsigned n)) bytes))
+      ≡ taken_map dyn.List (each (value_within (left - 1) table ty.id) (map (λ n. number (unsigned n)) bytes))
   bytes_counted bytes e fits = bytes_tested bytes true e fits
 
   -- another number of bytes is none of the type
   pub bytes_miscounted :
-      (bytes : List ℕ) → bytes_in text ≡ Some bytes → is_count_of count (length bytes) ≡ false
+      (bytes : List ℕ) → bytes_by_digits text ≡ Some bytes → is_count_of count (length bytes) ≡ false
       → items_within left table ty count (string text) ≡ refused mismatch
   bytes_miscounted bytes e fits = bytes_tested bytes false e fits
 
   -- where no level is left for them, bytes are too deep
   pub bytes_too_deep :
-      (bytes : List ℕ) → bytes_in text ≡ Some bytes → is_count_of count (length bytes) ≡ true → left ≡ 1 → 0 < length bytes
+      (bytes : List ℕ) → bytes_by_digits text ≡ Some bytes → is_count_of count (length bytes) ≡ true → left ≡ 1 → 0 < length bytes
       → items_within left table ty count (string text) ≡ refused too_deep
+  unfolding takings value_within compact_within
   bytes_too_deep [] e fits last some = absurd (omega arith)
   bytes_too_deep (n ∷ bytes) e fits last some =
       bytes_counted (n ∷ bytes) e fits
-      ∙ ap (λ o. taken_map dyn.List (then_more o (each (value_at takings (left - 1) table ty.id) (map (λ n. number (unsigned n)) bytes))))
+      ∙ ap (λ o. taken_map dyn.List (then_more o (each (value_within (left - 1) table ty.id) (map (λ n. number (unsigned n)) bytes))))
       (both_at (levels_end takings (left - 1) table ty.id (omega arith)) (number (unsigned n))).0
 
   -- else they are taken
   pub bytes_taken :
-      (bytes : List ℕ) (values : List Dyn) → bytes_in text ≡ Some bytes → is_count_of count (length bytes) ≡ true
+      (bytes : List ℕ) (values : List Dyn) → bytes_by_digits text ≡ Some bytes → is_count_of count (length bytes) ≡ true
       → 2 ≤ left → values ≡ map dyn.Unsigned bytes
       → items_within left table ty count (string text) ≡ taken (dyn.List values)
   bytes_taken bytes values e fits level is =
@@ -150,7 +155,7 @@ module _ (left : ℕ) (table : PortableRegistry) (ty : Id) (count : Option ℕ) 
 
   -- no bytes are taken at each level
   pub no_bytes_taken :
-      (bytes : List ℕ) (values : List Dyn) → bytes_in text ≡ Some bytes → is_count_of count (length bytes) ≡ true
+      (bytes : List ℕ) (values : List Dyn) → bytes_by_digits text ≡ Some bytes → is_count_of count (length bytes) ≡ true
       → length bytes ≡ 0 → values ≡ map dyn.Unsigned bytes
       → items_within left table ty count (string text) ≡ taken (dyn.List values)
   no_bytes_taken [] values e fits none is = bytes_counted [] e fits ∙ ap (λ vs. taken (dyn.List vs)) (sym is)
@@ -162,12 +167,12 @@ module _ (left : ℕ) (table : PortableRegistry) (ty : Id) (count : Option ℕ) 
 pub compact_of_field :
     (left : ℕ) (table : PortableRegistry) (d : TypeDef) (composite : TypeDefComposite) (fields : List Field) (f : Field)
     → d ≡ def.Composite composite → fields ≡ composite.fields → 1 ≤ length fields → length fields < 2 → f ≡ get_or fields 0 f
-    → (tree : Data) → compact_defined_at takings left table d tree ≡ compact_at takings (left - 1) table f.ty.id tree
+    → (tree : Data) → compact_definition_within left table d tree ≡ compact_within (left - 1) table f.ty.id tree
 compact_of_field left table d composite [] f is e long short at tree = absurd (omega arith)
 compact_of_field left table d composite (g ∷ []) f is e long short at tree =
-    ap (λ x. compact_defined_at takings left table x tree) is
-    ∙ ap (λ fs. compact_field (map (map_field {G = Unit {0}} (λ r. compact_at takings (left - 1) table r.id) (λ t. t)) fs) tree) (sym e)
-    ∙ ap (λ x. compact_at takings (left - 1) table x.ty.id tree) (sym at)
+    ap (λ x. compact_definition_within left table x tree) is
+    ∙ ap (λ fs. compact_field (map (map_field {G = Unit {0}} (λ r. compact_within (left - 1) table r.id) (λ t. t)) fs) tree) (sym e)
+    ∙ ap (λ x. compact_within (left - 1) table x.ty.id tree) (sym at)
 compact_of_field left table d composite (g ∷ h ∷ more) f is e long short at tree = absurd (omega arith)
 
 -- ---- fields

@@ -20,13 +20,12 @@ use Rattle.scale_info_tables.specs.declared.portable.PortableRegistry.{PortableR
 use Rattle.scale_info_value.specs.declared.value.Dyn.{Dyn}
 use Rattle.scale_info_value.specs.declared.value.Dyn.TheVariants as dyn
 use Rattle.scale_info_value.specs.Outcomes.{decoded}
-use Rattle.scale_info_value.specs.Readings.{type_at, reading, value_at, compact_at, value_by_type, compact_by_type}
+use Rattle.scale_info_value.specs.Readings.{type_at, reading}
 use Rattle.scale_info_encode.specs.Writers as writing
 use Rattle.scale_info_encode.specs.Writers.{Writer, written, refused}
 use Rattle.scale_info_encode.specs.DefinitionWriters as writers
 use Rattle.scale_info_encode.specs.DefinitionWriters.{Writers, unsigned_in}
 use Rattle.scale_info_encode.specs.Writings as written_values
-use Rattle.scale_info_encode.specs.Writings.{writings}
 use Rattle.scale_info_encode.proofs.Inverse.{first_bytes}
 use Rattle.scale_info_encode.proofs.Levels.{written_as_read}
 use Rattle.scale_info_encode.proofs.ValueKinds.{unsigned_integers}
@@ -37,7 +36,8 @@ use Rattle.scale_info_value_json.specs.DefinitionTakers.{Takers}
 use Rattle.serde_json.specs.Read.{read}
 use Rattle.scale_info_value_text.specs.ValueTexts.{value_text}
 use Rattle.scale_info_value_json.proofs.OneTree.{read_as}
-use Rattle.scale_info_value_json.specs.Takings.{taking, takings}
+use Rattle.scale_info_value_json.specs.Takings.{taking, value_within, compact_within, value_by_type}
+use Rattle.scale_info_value_json.specs.Takings.{compact_by_type}
 use Rattle.scale_info_value_json.specs.TreesOfTexts.{has_own_names, IsTakenFrom}
 use Rattle.scale_info_value_json.proofs.ShownDefinitions.{values_back, compacts_back}
 use Rattle.scale_info_value_json.proofs.ShownParts.{tokens_by, AreTakenBack, PartIsTakenBack, IsByteBack, held_parts}
@@ -46,7 +46,7 @@ use Rattle.scale_info_value_json.proofs.ShownParts.{tokens_by, AreTakenBack, Par
 compacts_by_type :
     (table : PortableRegistry) (type : Option TypeDef) (write : ℕ → Writer Dyn) (take : ℕ → Taker Dyn)
     → ((id : ℕ) → AreTakenBack (write id) (tokens_by table type) (take id)) → (o : Option Description)
-    → AreTakenBack (compact_by_type writings write o) (tokens_by table type) (compact_by_type takings take o)
+    → AreTakenBack (written_values.compact_by_type write o) (tokens_by table type) (compact_by_type take o)
 compacts_by_type table type write take back None = λ value bytes e all own. cc
 compacts_by_type table type write take back (Some d) =
     compacts_back table type (λ r. write r.id) (λ r. take r.id) (λ r. back r.id) d.type_def
@@ -54,19 +54,19 @@ compacts_by_type table type write take back (Some d) =
 -- compact integers are taken back, however many levels are left
 compacts_within :
     (left : ℕ) (table : PortableRegistry) (id : ℕ) (type : Option TypeDef)
-    → AreTakenBack (compact_at writings left table id) (tokens_by table type) (compact_at takings left table id)
-unfolding compact_at
+    → AreTakenBack (written_values.compact_within left table id) (tokens_by table type) (compact_within left table id)
+unfolding compact_within written_values.compact_within
 compacts_within zero table id type = λ value bytes e all own. cc
 compacts_within (suc left) table id type =
-    compacts_by_type table type (compact_at writings left table) (compact_at takings left table)
+    compacts_by_type table type (written_values.compact_within left table) (compact_within left table)
     (λ id. compacts_within left table id type) (type_at table id)
 
 -- values by a description are taken back
 values_by_type :
     (table : PortableRegistry) (part : ℕ → Writers) (takers_of : ℕ → Takers)
     → ((id : ℕ) → PartIsTakenBack table (definition_at table id) (part id) (takers_of id)) → (o : Option Description)
-    → AreTakenBack (value_by_type writings part o) (tokens_by table (option_map (λ d. d.type_def) o))
-    (value_by_type takings takers_of o)
+    → AreTakenBack (written_values.value_by_type part o) (tokens_by table (option_map (λ d. d.type_def) o))
+    (value_by_type takers_of o)
 values_by_type table part takers_of back None = λ value bytes e all own. cc
 values_by_type table part takers_of back (Some d) =
     values_back table (λ r. part r.id) (λ r. takers_of r.id) (λ r. back r.id) d.type_def
@@ -98,8 +98,8 @@ byte_by write take _ is value b e = cc
 -- a byte by a description
 byte_by_type :
     (part : ℕ → Writers) (takers_of : ℕ → Takers) (o : Option Description) → is_byte (option_map (λ d. d.type_def) o) ≡ true
-    → (value : Dyn) (b : List ℕ) → value_by_type writings part o value ≡ written b
-    → IsByteBack (value_by_type writings part o) (value_by_type takings takers_of o) value
+    → (value : Dyn) (b : List ℕ) → written_values.value_by_type part o value ≡ written b
+    → IsByteBack (written_values.value_by_type part o) (value_by_type takers_of o) value
 byte_by_type part takers_of None is value b e = cc
 byte_by_type part takers_of (Some d) is value b e = byte_by (λ r. part r.id) (λ r. takers_of r.id) d.type_def is value b e
 
@@ -108,39 +108,39 @@ abbrev last_writers : PortableRegistry → ℕ → Writers
 last_writers table r = record {
   value = λ v. refused writing.too_deep;
   inner = λ v. refused writing.too_deep;
-  compact = compact_at writings 1 table r;
+  compact = written_values.compact_within 1 table r;
 }
 
 abbrev last_takers : PortableRegistry → ℕ → Takers
 last_takers table r = record {
   value = λ t. not_taken too_deep;
   inner = λ t. not_taken too_deep;
-  compact = compact_at takings 1 table r;
+  compact = compact_within 1 table r;
   is_byte = is_byte (definition_at table r);
 }
 
 -- before the last level
 abbrev more_writers : ℕ → PortableRegistry → ℕ → Writers
 more_writers left table r = record {
-  value = value_at writings (suc left) table r;
-  inner = value_at writings left table r;
-  compact = compact_at writings (suc (suc left)) table r;
+  value = written_values.value_within (suc left) table r;
+  inner = written_values.value_within left table r;
+  compact = written_values.compact_within (suc (suc left)) table r;
 }
 
 abbrev more_takers : ℕ → PortableRegistry → ℕ → Takers
 more_takers left table r = record {
-  value = value_at takings (suc left) table r;
-  inner = value_at takings left table r;
-  compact = compact_at takings (suc (suc left)) table r;
+  value = value_within (suc left) table r;
+  inner = value_within left table r;
+  compact = compact_within (suc (suc left)) table r;
   is_byte = is_byte (definition_at table r);
 }
 
 -- a byte, however many levels are left
 bytes_within :
     (left : ℕ) (table : PortableRegistry) (id : ℕ) → is_byte (definition_at table id) ≡ true → (value : Dyn) (b : List ℕ)
-    → value_at writings left table id value ≡ written b
-    → IsByteBack (value_at writings left table id) (value_at takings left table id) value
-unfolding value_at
+    → written_values.value_within left table id value ≡ written b
+    → IsByteBack (written_values.value_within left table id) (value_within left table id) value
+unfolding value_within written_values.value_within
 bytes_within zero table id is value b e = cc
 bytes_within (suc zero) table id is value b e = byte_by_type (last_writers table) (last_takers table) (type_at table id) is value b e
 bytes_within (suc (suc left)) table id is value b e =
@@ -149,9 +149,9 @@ bytes_within (suc (suc left)) table id is value b e =
 -- values are taken back, however many levels are left
 pub values_within :
     (left : ℕ) (table : PortableRegistry) (id : ℕ)
-    → AreTakenBack (value_at writings left table id) (tokens_by table (definition_at table id))
-    (value_at takings left table id)
-unfolding value_at
+    → AreTakenBack (written_values.value_within left table id) (tokens_by table (definition_at table id))
+    (value_within left table id)
+unfolding value_within written_values.value_within
 values_within zero table id = λ value bytes e all own. cc
 values_within (suc zero) table id =
     values_by_type table (last_writers table) (last_takers table)

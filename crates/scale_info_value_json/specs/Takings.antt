@@ -1,15 +1,16 @@
 -- What comes of taking a value from a tree by a table.
-use Rattle.std.specs.Prelude.{◌≡◌, ℕ, ◌-◌, ◌==◌, Bool, true, List, Option, Some, None, map}
+use Rattle.std.specs.Prelude.{◌≡◌, ℕ, zero, suc, ◌-◌, ◌==◌, Bool, true, List, Option, Some, None}
+use Rattle.std.specs.Prelude.{map}
 use Rattle.std.specs.Prelude.{option_map}
 use Rattle.std.specs.Borrow.{Bor}
 use Rattle.serde_json.specs.Data.{Data, string}
 use Rattle.serde_json.specs.View.{view}
 use Rattle.serde_json.specs.declared.value.Value.{Value}
-use Rattle.scale_info_types.specs.Portable.{Id, Text, Field}
-use Rattle.scale_info_types.specs.Shapes.{map_field}
+use Rattle.scale_info_types.specs.Portable.{Id, Text, Field, TypeDef, Description}
+use Rattle.scale_info_types.specs.Shapes.{map_definition, map_field}
 use Rattle.scale_info_tables.specs.declared.portable.PortableRegistry.{PortableRegistry}
 use Rattle.scale_info_value.specs.declared.value.Dyn.{Dyn}
-use Rattle.scale_info_value.specs.Readings.{Levels, levels_of, value_at, part_at}
+use Rattle.scale_info_value.specs.Readings.{type_at, by_type}
 use Rattle.scale_info_visit.specs.Events.{definition_at, is_byte}
 use Rattle.scale_info_value_json.specs.Takers.{Taken, Taker, refused, no_such_type, too_deep}
 use Rattle.scale_info_value_json.specs.Takers.{all_taken, in_turn}
@@ -17,25 +18,67 @@ use Rattle.scale_info_value_json.specs.DefinitionTakers.{Takers, value_by, compa
 use Rattle.scale_info_value_json.specs.DefinitionTakers.{items, fields, object_fields, field}
 use Rattle.scale_info_value_json.specs.DefinitionTakers.{named_field, variant_fields, pair}
 
--- how values are taken
-abbrev pub takings : Levels (Taker Dyn) (Taker Dyn) Takers
-takings =
-    levels_of (λ tree. refused too_deep) (λ tree. refused no_such_type) value_by compact_by
-    (λ table r value inner compact. record {
-      value = value;
-      inner = inner;
-      compact = compact;
+-- nothing is taken at an id that is no index
+abbrev pub missing : Taker Dyn
+missing tree = refused no_such_type
+
+-- a compact integer by the description of a type, where `take` takes one by an id
+abbrev pub compact_by_type : (ℕ → Taker Dyn) → Option Description → Taker Dyn
+compact_by_type take d = by_type missing compact_by take d
+
+-- a compact integer by an id, where that many levels are left
+unfoldable pub compact_within : ℕ → PortableRegistry → ℕ → Taker Dyn
+compact_within zero table id tree = refused too_deep
+compact_within (suc left) table id tree =
+    compact_by_type (compact_within left table) (type_at table id) tree
+
+-- a value by the description of its type, where `part` takes by an id
+abbrev pub value_by_type : (ℕ → Takers) → Option Description → Taker Dyn
+value_by_type part d = by_type missing value_by part d
+
+-- A value by an id, where that many levels are left. Its parts are one level deeper; the type of a
+-- compact integer is as deep as the integer itself.
+unfoldable pub value_within : ℕ → PortableRegistry → ℕ → Taker Dyn
+value_within zero table id tree = refused too_deep
+value_within (suc zero) table id tree =
+    value_by_type (λ r. record {
+      value = λ t. refused too_deep;
+      inner = λ t. refused too_deep;
+      compact = compact_within 1 table r;
       is_byte = is_byte (definition_at table r);
-    })
+    }) (type_at table id) tree
+value_within (suc (suc left)) table id tree =
+    value_by_type (λ r. record {
+      value = value_within (suc left) table r;
+      inner = value_within left table r;
+      compact = compact_within (suc (suc left)) table r;
+      is_byte = is_byte (definition_at table r);
+    }) (type_at table id) tree
 
 -- The value of the type with that id, at a depth, that is taken from a tree, or why there is none.
 -- The value that is asked for has depth 1, and no value is deeper than 128.
 abbrev pub taking : PortableRegistry → ℕ → ℕ → Taker Dyn
-taking table id depth tree = value_at takings (129 - depth) table id tree
+taking table id depth tree = value_within (129 - depth) table id tree
 
 -- the takers that a reference stands for, where `left` levels are left for the value itself
 abbrev pub part_within : ℕ → PortableRegistry → Id → Takers
-part_within left table r = part_at takings left table r.id
+part_within left table r = record {
+  value = value_within (left - 1) table r.id;
+  inner = value_within (left - 2) table r.id;
+  compact = compact_within left table r.id;
+  is_byte = is_byte (definition_at table r.id);
+}
+
+-- a value by a definition
+abbrev pub definition_within : ℕ → PortableRegistry → TypeDef → Taker Dyn
+definition_within left table d tree =
+    value_by (map_definition {G = Unit {0}} (part_within left table) (λ t. t) d) tree
+
+-- a compact integer by a definition
+abbrev pub compact_definition_within : ℕ → PortableRegistry → TypeDef → Taker Dyn
+compact_definition_within left table d tree =
+    compact_by
+    (map_definition {G = Unit {0}} (λ r. compact_within (left - 1) table r.id) (λ t. t) d) tree
 
 -- what a reference shows of a tree, if there is one
 abbrev pub seen : Option (Bor Value) → Option Data

@@ -1,19 +1,17 @@
 -- What a tree holds.
 use Rattle.std.specs.Prelude.{ℕ, ◌==◌, ◌^◌, ◌&&◌, ◌||◌, ◌∷◌, Bool, true, false, not, List, []}
 use Rattle.std.specs.Prelude.{length, map, drop, ℤ, pos, negsuc, neg_ℤ, Option, Some, None}
-use Rattle.std.specs.Prelude.{option_map, codes}
+use Rattle.std.specs.Prelude.{option_map}
 use Rattle.std.specs.Prelude.{if◌then◌else◌, nat_lt, slice_index}
 use Rattle.std.specs.Char.{digit_value}
-use Rattle.std.specs.List.{starts_with}
 use Rattle.std.specs.Option.{option_eq}
-use Rattle.std.specs.Result.{result_ok}
 use Rattle.std.specs.Str.{bytes_eq}
 use Rattle.std.specs.Str.Parse.{digits_value}
-use Rattle.hex.specs.Hex.{decode_of}
 use Rattle.serde_json.specs.Data.{Data, number, string, array, object}
 use Rattle.serde_json.specs.Data.{unsigned, Items, no_items, item, no_members, member}
 use Rattle.serde_json.specs.Events.{members_len}
 use Rattle.serde_json.specs.Find.{get, as_array, as_u64, as_integer}
+use Rattle.scale_info_hexadecimal.specs.Digits.{bytes_by_digits}
 use Rattle.scale_info_types.specs.Portable.{Text}
 use Rattle.scale_info_visit.specs.Events.{all_named}
 
@@ -78,19 +76,10 @@ listed (item tree trees) = tree ∷ listed trees
 abbrev pub items_in : Data → Option (List Data)
 items_in tree = option_map listed (as_array tree)
 
--- a text without `0x` before it
-abbrev pub without_prefix : Text → Text
-without_prefix text = if starts_with ◌==◌ text (codes "0x") then drop 2 text else text
-
--- the bytes that hexadecimal digits write, two for each, in upper or lower case; `0x` may stand
--- before them
-abbrev pub bytes_in : Text → Option (List ℕ)
-bytes_in text = result_ok (decode_of (without_prefix text))
-
 -- the trees of the items of a list of bytes: those of an array, or the bytes that a string writes,
 -- as numbers
 abbrev pub byte_items_in : Data → Option (List Data)
-byte_items_in (string text) = option_map (map (λ byte. number (unsigned byte))) (bytes_in text)
+byte_items_in (string text) = option_map (map (λ byte. number (unsigned byte))) (bytes_by_digits text)
 byte_items_in (array trees) = Some (listed trees)
 byte_items_in _ = None
 

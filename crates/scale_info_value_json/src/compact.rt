@@ -2,11 +2,10 @@
 ghost use Rattle.std.specs.Prelude.{◌≡◌, ◌≢◌, IfOk, IfErr};
 ghost use Rattle.serde_json.specs.Data.{Data};
 ghost use Rattle.serde_json.specs.View.{view};
-ghost use Rattle.scale_info_value.specs.Readings.{compact_at};
 ghost use Rattle.scale_info_value_json.specs.declared.error.ValueJsonError.TheVariants as error;
 ghost use Rattle.scale_info_value_json.specs.Takers.{IsErrorOf, taken};
 ghost use Rattle.scale_info_value_json.specs.DefinitionTakers.{compact_primitive};
-ghost use Rattle.scale_info_value_json.specs.Takings.{takings};
+ghost use Rattle.scale_info_value_json.specs.Takings.{compact_within};
 
 use crate::definition::definition_of;
 use crate::error::ValueJsonError;
@@ -44,9 +43,9 @@ pub fn compact_kind<T: Definitions>(
     left: u8,
 ) -> Result<&TypeDefPrimitive, ValueJsonError>
     ensures ok { IfOk result (λ kind. (tree : Data)
-        → compact_at takings left (T.table table.now) id tree ≡ compact_primitive kind.now tree) }
+        → compact_within left (T.table table.now) id tree ≡ compact_primitive kind.now tree) }
     ensures err { IfErr result (λ why. (tree : Data)
-        → IsErrorOf (compact_at takings left (T.table table.now) id tree) why) }
+        → IsErrorOf (compact_within left (T.table table.now) id tree) why) }
     ensures not_memory { IfErr result (λ why. why ≢ error.Memory) }
 {
     let definition = definition_of(table, id, left)?;

@@ -2,11 +2,10 @@
 ghost use Rattle.std.specs.Prelude.{◌≡◌, ◌≢◌, ◌≤◌, IfOk, IfErr};
 ghost use Rattle.serde_json.specs.Data.{Data};
 ghost use Rattle.scale_info_visit.specs.Events.{definition_at, is_byte};
-ghost use Rattle.scale_info_value.specs.Readings.{value_at, defined_at};
-ghost use Rattle.scale_info_value.specs.Readings.{compact_at, compact_defined_at};
 ghost use Rattle.scale_info_value_json.specs.declared.error.ValueJsonError.TheVariants as error;
 ghost use Rattle.scale_info_value_json.specs.Takers.{IsErrorOf};
-ghost use Rattle.scale_info_value_json.specs.Takings.{takings};
+ghost use Rattle.scale_info_value_json.specs.Takings.{value_within, compact_within};
+ghost use Rattle.scale_info_value_json.specs.Takings.{definition_within, compact_definition_within};
 
 use crate::error::ValueJsonError;
 use scale_info_types::form::PortableForm;
@@ -24,13 +23,13 @@ pub fn definition_of<T: Definitions>(
 ) -> Result<&TypeDef<PortableForm>, ValueJsonError>
     ensures level { IfOk result (λ _. 1 ≤ left) }
     ensures known { IfOk result (λ found. (tree : Data)
-        → (value_at takings left (T.table table.now) id tree
-        ≡ defined_at takings left (T.table table.now) found.now tree)
-        × (compact_at takings left (T.table table.now) id tree
-        ≡ compact_defined_at takings left (T.table table.now) found.now tree)) }
+        → (value_within left (T.table table.now) id tree
+        ≡ definition_within left (T.table table.now) found.now tree)
+        × (compact_within left (T.table table.now) id tree
+        ≡ compact_definition_within left (T.table table.now) found.now tree)) }
     ensures unknown { IfErr result (λ why. (tree : Data)
-        → IsErrorOf (value_at takings left (T.table table.now) id tree) why
-        × IsErrorOf (compact_at takings left (T.table table.now) id tree) why) }
+        → IsErrorOf (value_within left (T.table table.now) id tree) why
+        × IsErrorOf (compact_within left (T.table table.now) id tree) why) }
     ensures not_memory { IfErr result (λ why. why ≢ error.Memory) }
 {
     if left == 0 {

@@ -3,11 +3,10 @@ ghost use Rattle.std.specs.Prelude.{◌≡◌, ◌≤◌, ◌-◌, ◌∷◌, []
 ghost use Rattle.serde_json.specs.View.{view};
 ghost use Rattle.scale_info_types.specs.declared.ty.TypeDef.TheVariants as def;
 ghost use Rattle.scale_info_value.specs.declared.value.Dyn.TheVariants as dyn;
-ghost use Rattle.scale_info_value.specs.Readings.{value_at, defined_at};
 ghost use Rattle.scale_info_value_json.specs.declared.error.ValueJsonError.TheVariants as error;
 ghost use Rattle.scale_info_value_json.specs.Takers.{IsErrorOf, taken, in_turn};
 ghost use Rattle.scale_info_value_json.specs.DefinitionTakers.{each};
-ghost use Rattle.scale_info_value_json.specs.Takings.{takings, taking};
+ghost use Rattle.scale_info_value_json.specs.Takings.{taking, value_within, definition_within};
 ghost use Rattle.scale_info_value_json.specs.Takings.{seen};
 ghost use Rattle.scale_info_value_json.specs.Takings.{items_within, fields_within, takers_within};
 ghost use Rattle.scale_info_value_json.specs.Takings.{object_fields_within, array_fields_within};
@@ -91,8 +90,8 @@ fn value_within<T: Definitions>(
     tree: &Value,
 ) -> Result<Dyn, ValueJsonError>
     ensures ok { IfOk result
-        (λ value. value_at takings left (T.table table.now) id (view tree.now) ≡ taken value) }
-    ensures err { IfErr result (IsErrorOf (value_at takings left (T.table table.now) id
+        (λ value. value_within left (T.table table.now) id (view tree.now) ≡ taken value) }
+    ensures err { IfErr result (IsErrorOf (value_within left (T.table table.now) id
         (view tree.now))) }
 {
     let definition = definition_of(table, id, left)?;
@@ -114,9 +113,9 @@ fn value_by<T: Definitions>(
 ) -> Result<Dyn, ValueJsonError>
     requires { 1 ≤ left }
     ensures ok { IfOk result (λ value.
-        defined_at takings left (T.table table.now) definition.now (view tree.now) ≡ taken value) }
+        definition_within left (T.table table.now) definition.now (view tree.now) ≡ taken value) }
     ensures err { IfErr result
-        (IsErrorOf (defined_at takings left (T.table table.now) definition.now (view tree.now))) }
+        (IsErrorOf (definition_within left (T.table table.now) definition.now (view tree.now))) }
 {
     match definition {
         TypeDef::Composite(composite) => composite_value(alloc, table, composite, left, tree),
@@ -148,10 +147,10 @@ fn composite_value<T: Definitions>(
 ) -> Result<Dyn, ValueJsonError>
     requires { 1 ≤ left }
     ensures ok { IfOk result (λ value.
-        defined_at takings left (T.table table.now) (def.Composite composite.now) (view tree.now)
+        definition_within left (T.table table.now) (def.Composite composite.now) (view tree.now)
         ≡ taken value) }
     ensures err { IfErr result (IsErrorOf
-        (defined_at takings left (T.table table.now) (def.Composite composite.now)
+        (definition_within left (T.table table.now) (def.Composite composite.now)
         (view tree.now))) }
 {
     let values = fields(alloc, table, composite.fields.as_slice(), left, tree)?;
@@ -170,10 +169,10 @@ fn variant_value<T: Definitions>(
 ) -> Result<Dyn, ValueJsonError>
     requires { 1 ≤ left }
     ensures ok { IfOk result (λ value.
-        defined_at takings left (T.table table.now) (def.Variant choice.now) (view tree.now)
+        definition_within left (T.table table.now) (def.Variant choice.now) (view tree.now)
         ≡ taken value) }
     ensures err { IfErr result (IsErrorOf
-        (defined_at takings left (T.table table.now) (def.Variant choice.now) (view tree.now))) }
+        (definition_within left (T.table table.now) (def.Variant choice.now) (view tree.now))) }
 {
     let Some((name, content)) = variant_parts(tree) else {
         return Err(ValueJsonError::Mismatch);
@@ -359,10 +358,10 @@ fn items<T: Definitions>(
 ) -> Result<Items<Dyn>, ValueJsonError>
     requires { 1 ≤ left }
     ensures ok { IfOk result (λ values.
-        each (value_at takings (left - 1) (T.table table.now) ty.now.id) (map view trees.now)
+        each (value_within (left - 1) (T.table table.now) ty.now.id) (map view trees.now)
         ≡ taken values) }
     ensures err { IfErr result (IsErrorOf
-        (each (value_at takings (left - 1) (T.table table.now) ty.now.id) (map view trees.now))) }
+        (each (value_within (left - 1) (T.table table.now) ty.now.id) (map view trees.now))) }
 {
     let mut values = Items::new(alloc);
     for tree in trees {
@@ -384,10 +383,10 @@ fn tuple_value<T: Definitions>(
 ) -> Result<Dyn, ValueJsonError>
     requires { 1 ≤ left }
     ensures ok { IfOk result (λ value.
-        defined_at takings left (T.table table.now) (def.Tuple tuple.now)
+        definition_within left (T.table table.now) (def.Tuple tuple.now)
         (view tree.now) ≡ taken value) }
     ensures err { IfErr result
-        (IsErrorOf (defined_at takings left (T.table table.now) (def.Tuple tuple.now)
+        (IsErrorOf (definition_within left (T.table table.now) (def.Tuple tuple.now)
         (view tree.now))) }
 {
     match items_of(tree) {
@@ -445,10 +444,10 @@ fn map_value<T: Definitions>(
 ) -> Result<Dyn, ValueJsonError>
     requires { 1 ≤ left }
     ensures ok { IfOk result (λ value.
-        defined_at takings left (T.table table.now) (def.Map map.now)
+        definition_within left (T.table table.now) (def.Map map.now)
         (view tree.now) ≡ taken value) }
     ensures err { IfErr result
-        (IsErrorOf (defined_at takings left (T.table table.now) (def.Map map.now)
+        (IsErrorOf (definition_within left (T.table table.now) (def.Map map.now)
         (view tree.now))) }
 {
     match items_of(tree) {

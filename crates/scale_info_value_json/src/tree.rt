@@ -3,15 +3,16 @@ ghost use Rattle.std.specs.Prelude.{◌≡◌, ◌+◌, ◌<◌, ◌≤◌, ◌^
 ghost use Rattle.serde_json.specs.View.{view};
 ghost use Rattle.scale_info_value_json.specs.Takers.{IsErrorOf, if_found, taken};
 ghost use Rattle.scale_info_value_json.specs.TreeParts.{natural_in, integer_in, below, within};
-ghost use Rattle.scale_info_value_json.specs.TreeParts.{items_in, bytes_in, has_members};
+ghost use Rattle.scale_info_hexadecimal.specs.Digits.{bytes_by_digits};
+ghost use Rattle.scale_info_value_json.specs.TreeParts.{items_in, has_members};
 ghost use Rattle.scale_info_value_json.specs.TreeParts.{member_in, variant_in, is_nothing};
 ghost use Rattle.scale_info_value_json.specs.TreeParts.{index_and_fields, is_within};
 ghost use Rattle.scale_info_value_json.specs.Takings.{seen};
 
 use crate::error::ValueJsonError;
 use crate::number::{decimal, signed_decimal};
-use hex::FromHexError;
 use scale_info_collections::text::Text;
+use scale_info_hexadecimal::decode::decode;
 use serde_json::Value;
 use std::alloc::Global;
 
@@ -72,18 +73,12 @@ pub fn items_of(tree: &Value) -> Option<&[Value]>
 ///
 /// Errors: `Mismatch`, where it writes none; `Memory`, where an allocation failed.
 pub fn bytes_of(alloc: Global, text: &str) -> Result<Vec<u8>, ValueJsonError>
-    ensures ok { IfOk result (λ bytes. bytes_in text.now ≡ Some bytes.items) }
-    ensures err { IfErr result (IsErrorOf (if_found (bytes_in text.now) taken)) }
+    ensures ok { IfOk result (λ bytes. bytes_by_digits text.now ≡ Some bytes.items) }
+    ensures err { IfErr result (IsErrorOf (if_found (bytes_by_digits text.now) taken)) }
 {
-    let all = text.as_bytes();
-    let digits = match all.strip_prefix(b"0x") {
-        Some(digits) => digits,
-        None => all,
-    };
-    match hex::decode(alloc, digits) {
-        Ok(bytes) => Ok(bytes),
-        Err(FromHexError::OutOfMemory) => Err(ValueJsonError::Memory),
-        Err(_) => Err(ValueJsonError::Mismatch),
+    match decode(alloc, text.as_bytes())? {
+        Some(bytes) => Ok(bytes),
+        None => Err(ValueJsonError::Mismatch),
     }
 }
 

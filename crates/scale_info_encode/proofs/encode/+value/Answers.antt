@@ -5,12 +5,11 @@ use Rattle.std.specs.Str.{bytes_eq}
 use Rattle.std.specs.Prelude.{IfErr, OnOk}
 use Rattle.std.specs.Option.{option_eq}
 use Rattle.scale_info_types.specs.Shapes.{map_field}
-use Rattle.scale_info_value.specs.Readings.{value_at, defined_at}
 use Rattle.scale_info_encode.specs.declared.path.Step.TheVariants as step
 use Rattle.scale_info_encode.specs.Writers.{item, in_turn, refused, mismatch, Appends}
 use Rattle.scale_info_encode.specs.Failures.{Fails, error_of}
 use Rattle.scale_info_encode.specs.DefinitionWriters.{field, items, pairs}
-use Rattle.scale_info_encode.specs.Writings.{writings, part_within, pair_within}
+use Rattle.scale_info_encode.specs.Writings.{value_within, definition_within, part_within, pair_within}
 use Rattle.scale_info_encode.proofs.InTurn.{next_value, next_part, next_entry, no_next_value, first_of_all, alike, uneven, tail_whole, none_left}
 use Rattle.scale_info_encode.proofs.SoFar.{SoFar, appended, passed, both, fails, ends, done, goes_on, first_fails, next_fails, part_appended}
 use Rattle.scale_info_encode.proofs.Steps.{composite_is, tuple_is, counted_list, second_of_pair, variant_missing, variant_misnamed, variant_named, pair_is, field_named, field_misnamed}
@@ -37,8 +36,8 @@ tuple_value-returns-in-List-clause-err g t c =
 pub items-returns-clause-err : goal.items-returns-clause-err
 items-returns-clause-err g t c =
     subst (λ w. IfErr c.items_by.result (Fails w c.items_by.new.steps.items))
-    (sym (alike c.args.count (value_at writings (c.args.left - 1) (g.T.Definitions.table c.args.table.now) c.args.ty.now.id)
-    (defined_at writings (c.args.left - 1) (g.T.Definitions.table c.args.table.now) c.in-Ok.definition.now) c.args.values.now
+    (sym (alike c.args.count (value_within (c.args.left - 1) (g.T.Definitions.table c.args.table.now) c.args.ty.now.id)
+    (definition_within (c.args.left - 1) (g.T.Definitions.table c.args.table.now) c.in-Ok.definition.now) c.args.values.now
     (λ value. (c.in-Ok.ensures.known value).0)))
     c.items_by.ensures.err
 
@@ -47,13 +46,13 @@ items-returns-then-count-eq0-2-clause-err g t c =
     let apart : c.args.count ≡ 0 → length c.args.values.now ≡ 0 → ⊥ = λ n e. grind (arith, common_steps) in
     let some : (c.args.count ≡ 0) ⊎ (length c.args.values.now ≡ 0) = grind (arith, common_steps) in
     subst (λ w. Fails w c.mismatch.new.steps.items c.mismatch.result)
-    (sym (uneven c.args.count (item (value_at writings (c.args.left - 1)
+    (sym (uneven c.args.count (item (value_within (c.args.left - 1)
     (g.T.Definitions.table c.args.table.now) c.args.ty.now.id)) c.args.values.now apart some))
     c.mismatch.ensures
 
 pub items_by-returns-in_default-clause-err : goal.items_by-returns-in_default-clause-err
 items_by-returns-in_default-clause-err g t c =
-    let write = item (defined_at writings c.args.left (g.T.Definitions.table c.args.table.now) c.args.definition.now) in
+    let write = item (definition_within c.args.left (g.T.Definitions.table c.args.table.now) c.args.definition.now) in
     let e = error_of c.mismatch.new.steps.items c.mismatch.result in
     fails _ _ _ _ e c.loop-place.invariant
     (subst (λ w. Fails w c.mismatch.new.steps.items c.mismatch.result)
@@ -88,15 +87,15 @@ value_within-returns-in_err-definition-clause-err g t c =
 pub items-returns-in-Err-clause-err : goal.items-returns-in-Err-clause-err
 items-returns-in-Err-clause-err g t c =
     let some : 0 < length c.args.values.now = grind (arith, common_steps) in
-    first_of_all c.args.count (item (value_at writings (c.args.left - 1)
+    first_of_all c.args.count (item (value_within (c.args.left - 1)
     (g.T.Definitions.table c.args.table.now) c.args.ty.now.id)) c.args.values.now
     (error_of c.of_whole.new.steps.items c.of_whole.result) (omega arith) some
-    (λ value. c.of_whole.ensures (value_at writings (c.args.left - 1) (g.T.Definitions.table c.args.table.now) c.args.ty.now.id value)
+    (λ value. c.of_whole.ensures (value_within (c.args.left - 1) (g.T.Definitions.table c.args.table.now) c.args.ty.now.id value)
     (c.in-Err.ensures.unknown value _).0)
 
 pub items_by-returns-in-Err-clause-err : goal.items_by-returns-in-Err-clause-err
 items_by-returns-in-Err-clause-err g t c =
-    let write = defined_at writings c.args.left (g.T.Definitions.table c.args.table.now) c.args.definition.now in
+    let write = definition_within c.args.left (g.T.Definitions.table c.args.table.now) c.args.definition.now in
     next_fails _ _ _ _ _ _ (error_of c.of_whole.new.steps.items c.of_whole.result) c.loop-place.invariant
     (next_value c.args.count c.loop-place.place (item write) c.loop-place.rest.now c.value-item.result (omega arith)
     c.in-len1-up.len_at_least c.value-item.is)
@@ -104,7 +103,7 @@ items_by-returns-in-Err-clause-err g t c =
 
 pub items_by-loop-place-preserved : goal.items_by-loop-place-preserved
 items_by-loop-place-preserved g t c =
-    let write = defined_at writings c.args.left (g.T.Definitions.table c.args.table.now) c.args.definition.now in
+    let write = definition_within c.args.left (g.T.Definitions.table c.args.table.now) c.args.definition.now in
     let next =
     next_value c.args.count c.loop-place.place (item write) c.loop-place.rest.now c.value-item.result (omega arith)
     c.in-len1-up.len_at_least c.value-item.is in
@@ -123,7 +122,7 @@ members-returns-in-Err-clause-err g t c =
     (next_part (λ part. item part.value) (part_within c.args.left (g.T.Definitions.table c.args.table.now)) c.loop-place.place
     c.args.types.now ty
     c.loop-place.rest.now c.value-item.result (omega arith) c.index-types-place.is c.in-len1-up.len_at_least c.value-item.is)
-    (c.of_whole.ensures (value_at writings (c.args.left - 1) (g.T.Definitions.table c.args.table.now) ty.id c.value-item.result)
+    (c.of_whole.ensures (value_within (c.args.left - 1) (g.T.Definitions.table c.args.table.now) ty.id c.value-item.result)
     c.in-Err.ensures.err)
 
 pub fields-returns-then-ne-clause-err : goal.fields-returns-then-ne-clause-err
@@ -150,7 +149,7 @@ fields-returns-in-Err-clause-err g t c =
     c.args.all.now f c.loop-place.rest.now named (omega arith) c.index-all-place.is c.in-len1-up.len_at_least c.named-item.is)
     (subst (λ w. Fails w c.of_whole-in-Err.new.steps.items c.of_whole-in-Err.result)
     (sym (field_named c.args.left (g.T.Definitions.table c.args.table.now) f c.loop-place.place named same))
-    (c.of_whole-in-Err.ensures (value_at writings (c.args.left - 1) (g.T.Definitions.table c.args.table.now) f.ty.id named.1)
+    (c.of_whole-in-Err.ensures (value_within (c.args.left - 1) (g.T.Definitions.table c.args.table.now) f.ty.id named.1)
     c.in-Err.ensures.err))
 
 pub pairs-returns-in-Err-clause-err : goal.pairs-returns-in-Err-clause-err
@@ -168,7 +167,7 @@ pair-returns-in-Err-clause-err g t c =
     c.saturating_sub-inner.result
     c.in-List.both c.as_slice.result.now c.first-item.result c.in-List.is c.as_slice.ensures c.saturating_sub-inner.ensures
     c.in-len1-up.len_at_least c.first-item.is in
-    let write = value_at writings c.saturating_sub-inner.result (g.T.Definitions.table c.args.table.now) c.args.key.now.id in
+    let write = value_within c.saturating_sub-inner.result (g.T.Definitions.table c.args.table.now) c.args.key.now.id in
     subst (λ w. Fails w c.of_whole.new.steps.items c.of_whole.result) (sym whole)
     (first_fails _ _ (error_of c.of_whole.new.steps.items c.of_whole.result) (c.of_whole.ensures
     (write c.first-item.result) c.in-Err.ensures.err))
@@ -184,7 +183,7 @@ pair-returns-in-Err-value_within-clause-err g t c =
     refl c.in-len1-up-more.len_at_least c.second-item.is c.in_default-value_within.ensures.ok in
     next_fails _ _ _ _ _ _ (error_of c.of_whole-in-Err-value_within.new.steps.items c.of_whole-in-Err-value_within.result) s refl
     (c.of_whole-in-Err-value_within.ensures
-    (value_at writings levels (g.T.Definitions.table c.args.table.now) c.args.value.now.id c.second-item.result)
+    (value_within levels (g.T.Definitions.table c.args.table.now) c.args.value.now.id c.second-item.result)
     c.in-Err-value_within.ensures.err)
 
 pub pair-returns-clause-ok : goal.pair-returns-clause-ok

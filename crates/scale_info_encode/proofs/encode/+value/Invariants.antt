@@ -1,9 +1,8 @@
 use Rattle.std.proofs.Common.{◌-◌, drop, length, map, replicate}
 use Rattle.scale_info_value.proofs.Ranks.{calls_left}
-use Rattle.scale_info_value.specs.Readings.{defined_at}
 use Rattle.scale_info_encode.specs.Writers.{item, in_turn}
 use Rattle.scale_info_encode.specs.DefinitionWriters.{members, pairs}
-use Rattle.scale_info_encode.specs.Writings.{writings, part_within, fields_within, pair_within}
+use Rattle.scale_info_encode.specs.Writings.{definition_within, part_within, fields_within, pair_within}
 use Rattle.scale_info_encode.proofs.InTurn.{members_from, fields_from}
 use Rattle.scale_info_encode.proofs.SoFar.{SoFar}
 use Rattle.scale_info_encode.proofs.encode.+value.Given as goal
@@ -52,7 +51,7 @@ decreases-pair g l = calls_left 5 4 l.left
 
 abbrev pub invariant-items_by-loop-place : goal.invariant-items_by-loop-place
 invariant-items_by-loop-place g l =
-    let write = item (defined_at writings l.left (g.T.Definitions.table l.table) l.definition) in
+    let write = item (definition_within l.left (g.T.Definitions.table l.table) l.definition) in
     SoFar (in_turn 0 (replicate l.count write) l.values) (in_turn l.place (replicate (l.count - l.place) write) l.rest)
     l.fn.out.items l.out.items
 

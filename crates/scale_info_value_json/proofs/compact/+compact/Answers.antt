@@ -1,9 +1,8 @@
 use Rattle.std.proofs.Common.{◌∙◌, subst, sym}
 use Rattle.std.proofs.lemmas.Result.{IfOk-weaker, IfErr-weaker}
 use Rattle.serde_json.specs.Data.{Data}
-use Rattle.scale_info_value.specs.Readings.{compact_at}
 use Rattle.scale_info_value_json.specs.Takers.{IsErrorOf}
-use Rattle.scale_info_value_json.specs.Takings.{takings}
+use Rattle.scale_info_value_json.specs.Takings.{compact_within}
 use Rattle.scale_info_value_json.proofs.OneLevel.{compact_of_field}
 use Rattle.scale_info_value_json.proofs.SoFar.{passed_on}
 use Rattle.scale_info_value_json.proofs.compact.+compact.Goals as goal
@@ -11,7 +10,7 @@ use Rattle.scale_info_value_json.proofs.compact.+compact.Goals as goal
 pub returns-in_err-definition-clause-err : goal.returns-in_err-definition-clause-err
 returns-in_err-definition-clause-err g t c =
     passed_on c.from_residual.result c.in_err-definition.field-0.0
-    (λ why. (tree : Data) → IsErrorOf (compact_at takings c.args.left (g.T.Definitions.table c.args.table.now) c.args.id tree) why)
+    (λ why. (tree : Data) → IsErrorOf (compact_within c.args.left (g.T.Definitions.table c.args.table.now) c.args.id tree) why)
     c.from_residual.ensures.1 (λ tree. (c.in_err-definition.ensures.unknown tree).1)
 
 pub returns-in-len1 : goal.returns-in-len1

@@ -2,7 +2,7 @@ use Rattle.std.proofs.Common.{◌≡◌, ◌<◌, ◌≤◌, Some, true, false, 
 use Rattle.std.proofs.lemmas.Grind.{common_steps}
 use Rattle.scale_info_value_json.specs.Takers.{IsErrorOf, taken, if_found}
 use Rattle.scale_info_value_json.specs.Takings.{is_count_of, AtBytes}
-use Rattle.scale_info_value_json.specs.TreeParts.{bytes_in}
+use Rattle.scale_info_hexadecimal.specs.Digits.{bytes_by_digits}
 use Rattle.scale_info_value_json.proofs.SoFar.{passed_on, passes}
 use Rattle.scale_info_value_json.proofs.OneLevel.{no_bytes, bytes_miscounted, bytes_too_deep, bytes_taken, no_bytes_taken}
 use Rattle.scale_info_value_json.proofs.list.byte_list.Goals as goal
@@ -13,7 +13,7 @@ returns-in_err-bytes-clause-err c =
     let e = c.in_err-bytes.field-0.0 in
     passed_on c.from_residual.result e (λ d. AtBytes c.args.left c.args.count c.args.text.now (λ outcome. IsErrorOf outcome d))
     c.from_residual.ensures.1
-    (λ table ty of_bytes. passes (if_found (bytes_in c.args.text.now) taken) _ e
+    (λ table ty of_bytes. passes (if_found (bytes_by_digits c.args.text.now) taken) _ e
     (λ why r. no_bytes c.args.left table ty c.args.count c.args.text.now of_bytes why r) c.in_err-bytes.ensures.err)
 
 pub returns-then-not-is_count_of-clause-err : goal.returns-then-not-is_count_of-clause-err

@@ -1,4 +1,4 @@
-use Rattle.std.proofs.Common.{◌≡◌, ◌&&◌, drop, map}
+use Rattle.std.proofs.Common.{◌≡◌, drop, map}
 use Rattle.scale_info_value_json.specs.TreesOfTexts.{all_hold, fields_hold, has_own_names}
 use Rattle.scale_info_value_json.proofs.names.+own_names.Given as goal
 

@@ -1,5 +1,5 @@
-use Rattle.std.proofs.Common.{rules, refl, ◌≡◌, ◌∷◌, [], Some, true, false}
-use Rattle.std.proofs.Common.{sym, ap, ◌∙◌, cond, append-nil}
+use Rattle.std.proofs.Common.{rules, ◌≡◌, ◌∷◌, Some, true, false}
+use Rattle.std.proofs.Common.{sym, ap, ◌∙◌, cond}
 use Rattle.std.proofs.lemmas.Map.Text.{btree_map_updates_str}
 use Rattle.std.specs.Option.{is_some}
 use Rattle.std.specs.Str.{bytes_eq}

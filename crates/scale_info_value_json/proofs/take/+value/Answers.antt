@@ -6,8 +6,7 @@ use Rattle.serde_json.specs.View.{view}
 use Rattle.std.proofs.lemmas.Result.{IfOk-weaker}
 use Rattle.scale_info_value_json.specs.Takers.{taken, taken_map, if_found, in_turn, IsErrorOf}
 use Rattle.scale_info_value_json.specs.DefinitionTakers.{chosen}
-use Rattle.scale_info_value.specs.Readings.{defined_at}
-use Rattle.scale_info_value_json.specs.Takings.{takings, part_within, seen, fields_within, takers_within, variant_fields_within}
+use Rattle.scale_info_value_json.specs.Takings.{definition_within, part_within, seen, fields_within, takers_within, variant_fields_within}
 use Rattle.scale_info_value_json.proofs.ShownVariants.{variant_unmeant, variant_missing, variant_misnamed, variant_named}
 use Rattle.scale_info_value_json.proofs.SoFar.{passed, passes}
 use Rattle.scale_info_value_json.proofs.OneLevel.{object_is, array_items_are, no_array}
@@ -122,7 +121,7 @@ pub value_by-returns-in_err-kind-in-Compact-clause-err : goal.value_by-returns-i
 value_by-returns-in_err-kind-in-Compact-clause-err g t c =
     let why = c.in_err-kind-in-Compact.field-0.0 in
     passed c.from_residual.result why _ c.from_residual.ensures.1
-    (subst (λ d. IsErrorOf (defined_at takings c.args.left (g.T.Definitions.table c.args.table.now) d (view c.args.tree.now)) why)
+    (subst (λ d. IsErrorOf (definition_within c.args.left (g.T.Definitions.table c.args.table.now) d (view c.args.tree.now)) why)
     (sym c.in-Compact.is)
     (c.in_err-kind-in-Compact.ensures.err (view c.args.tree.now)))
 

@@ -2,8 +2,7 @@ use Rattle.std.proofs.Common.{◌-◌, ◌*◌, drop, map}
 use Rattle.serde_json.specs.View.{view}
 use Rattle.scale_info_value_json.specs.DefinitionTakers.{each}
 use Rattle.scale_info_value_json.specs.Takers.{in_turn}
-use Rattle.scale_info_value.specs.Readings.{value_at}
-use Rattle.scale_info_value_json.specs.Takings.{takings, takers_within, array_fields_within}
+use Rattle.scale_info_value_json.specs.Takings.{value_within, takers_within, array_fields_within}
 use Rattle.scale_info_value_json.specs.Takings.{named_fields_within, pair_within}
 use Rattle.scale_info_value_json.proofs.SoFar.{SoFar}
 use Rattle.scale_info_value_json.proofs.take.+value.Given as goal
@@ -55,7 +54,7 @@ decreases-pair g l = 7 * l.left - 4
 
 abbrev pub invariant-items-loop-tree : goal.invariant-items-loop-tree
 invariant-items-loop-tree g l =
-    let take = value_at takings (l.left - 1) (g.T.Definitions.table l.table) l.ty.id in
+    let take = value_within (l.left - 1) (g.T.Definitions.table l.table) l.ty.id in
     SoFar (each take (map view l.trees)) (each take (map view (drop l.tree-index l.trees))) l.values
 
 abbrev pub invariant-pairs-loop-tree : goal.invariant-pairs-loop-tree

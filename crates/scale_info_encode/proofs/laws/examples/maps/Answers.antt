@@ -1,10 +1,10 @@
 use Rattle.std.proofs.Common.{refl}
-use Rattle.scale_info_value.specs.Readings.{value_at, compact_at}
+use Rattle.scale_info_encode.specs.Writings.{value_within, compact_within}
 use Rattle.scale_info_encode.proofs.ValueKinds.{outs}
 use Rattle.scale_info_encode.proofs.laws.examples.maps.Goals as goal
 
 pub returns : goal.returns
-unfolding value_at compact_at
+unfolding value_within compact_within
 returns c = record {
   one = simp outs refl;
   deepest = simp outs refl;
