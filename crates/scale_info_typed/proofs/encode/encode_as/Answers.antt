@@ -23,11 +23,11 @@ read_as meant table id value bytes x e h =
 pub returns-clause-read : goal.returns-clause-read
 returns-clause-read g c =
     let value = c.in_ok-standing.standing in
-    let appended : OnOk c.map_err-2.result
+    let appended : OnOk c.map_err.result
     (Appends (writing (g.D.Definitions.table c.args.table.now) c.args.id 1 value) c.args.out.now.items c.encode_value.new.out.items) =
     search rules
     in
-    on_ok_weaker c.map_err-2.result
+    on_ok_weaker c.map_err.result
     (λ a. record {
       encoding = a.encoding;
       encodes =
