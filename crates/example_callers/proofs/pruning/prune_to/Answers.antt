@@ -8,15 +8,16 @@ use Rattle.example_callers.proofs.pruning.prune_to.Goals as goal
 
 pub returns-clause-ok : goal.returns-clause-ok
 returns-clause-ok c = IfOk-weaker c.prune.result _ _ (λ new_ids x.
-    let p = x.2 in (
+    let p = x.2 in
+    let q = p.pruned in (
       p.types,
-      p.roots,
+      q.roots,
       p.encodes,
-      p.are_roots,
+      q.are_roots,
       λ order numbering.
           let S = types_system p.types in
-          let same = one_numbering S p.roots x.0 order p.numbering numbering in (
+          let same = one_numbering S q.roots x.0 order q.numbering numbering in (
             subst (λ o. HasNewIds o new_ids) same x.1,
-            (p.kept, subst (λ o. IsTable S o (map entry_of p.kept)) same p.table, p.appends),
+            (q.kept, subst (λ o. IsTable S o (map entry_of q.kept)) same q.table, q.appends),
           ),
     )) c.prune.ensures.ok
