@@ -1,3 +1,4 @@
 pub mod Lines
 pub mod OneError
 pub mod Pieces
+pub mod Reports

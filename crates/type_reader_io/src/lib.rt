@@ -8,3 +8,4 @@ pub mod line;
 pub mod message;
 pub mod report;
 pub mod reporter;
+pub mod writing;

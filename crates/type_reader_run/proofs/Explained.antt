@@ -15,9 +15,10 @@ use Rattle.type_reader_io.specs.declared.command.Request.{Request}
 use Rattle.type_reader_io.specs.declared.command.Request.TheVariants as requests
 use Rattle.type_reader_io.specs.declared.error.ReaderError.{ReaderError}
 use Rattle.type_reader_io.specs.declared.error.ReaderError.TheVariants as errors
-use Rattle.type_reader_run.specs.Conversions.{Outcome, bad, made, reports_from}
+use Rattle.type_reader_lines.specs.Outcomes.{Outcome, bad, made, reports_from}
 use Rattle.type_reader_run.specs.Outputs.{OutputsOf, id_line}
-use Rattle.type_reader_run.specs.Runs.{Does, ExplainsStop, IsSo, Refuses, bad_lines}
+use Rattle.type_reader_run.specs.Runs.{Does, IsSo, Refuses, bad_lines}
+use Rattle.type_reader_lines.specs.Outcomes.{ExplainsStop}
 use Rattle.type_reader_run.specs.Runs.{has_changes, no_type, not_compared, stopped}
 use Rattle.type_table_io.specs.Reports.{AppendsPrefix, Reported}
 

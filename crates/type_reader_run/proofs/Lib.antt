@@ -1,11 +1,7 @@
 pub mod Differences
 pub mod Explained
-pub mod Faults
 pub mod Known
-pub mod Outcomes
-pub mod Reports
 pub mod Runs
 pub mod Selections
-pub mod Steps
 pub mod Tables
 pub mod Told

@@ -11,14 +11,15 @@ use Rattle.type_reader_io.specs.declared.command.Command.TheVariants as commands
 use Rattle.type_reader_io.specs.declared.command.Conversion.{Conversion}
 use Rattle.type_reader_io.specs.declared.error.ReaderError.{ReaderError}
 use Rattle.type_reader_io.specs.declared.error.ReaderError.TheVariants as errors
-use Rattle.type_reader_run.proofs.Reports.{each_and}
-use Rattle.type_reader_run.specs.Conversions.{AreOutcomes, HasOutcomes, HasType, IsTypeError}
-use Rattle.type_reader_run.specs.Conversions.{Outcome, reports_from}
+use Rattle.type_reader_io.proofs.Reports.{each_and}
+use Rattle.type_reader_lines.specs.Outcomes.{AreOutcomes}
+use Rattle.type_reader_run.specs.Conversions.{HasOutcomes, HasType, IsTypeError}
+use Rattle.type_reader_lines.specs.Outcomes.{Outcome, reports_from}
 use Rattle.type_reader_run.specs.Runs.{ConvertsAll, Does, Refuses, RefusesLines, StopsAfter}
 use Rattle.type_reader_run.specs.Runs.{bad_lines, has_changes, no_type, not_compared, stopped}
-use Rattle.type_reader_run.specs.Steps.{HasConvertedLines, HasStopped}
+use Rattle.type_reader_lines.specs.Outcomes.{HasConvertedLines, HasStopped}
 use Rattle.type_reader_run.specs.Tables.{input_bytes}
-use Rattle.type_reader_run.specs.declared.convert.Converter.{Converter}
+use Rattle.type_reader_lines.specs.declared.convert.Converter.{Converter}
 
 -- these come of the lines by the table of a known input
 have_outcomes :

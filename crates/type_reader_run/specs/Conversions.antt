@@ -1,37 +1,18 @@
--- Values of a type, converted: one that is given, or one for each line of the second input.
-use Rattle.std.specs.Prelude.{◌≡◌, ◌+◌, ◌++◌, ◌⊎◌, ℕ, List, [], ◌∷◌, Bool, true, false}
+-- Values of a type that a text gives, converted: one that is given, or one for each line of the
+-- second input.
+use Rattle.std.specs.Prelude.{◌≡◌, ◌⊎◌, ℕ, List, [], ◌∷◌}
 use Rattle.scale_info_grammar.specs.Ty.{EncodesTypes}
 use Rattle.scale_info_tables.specs.declared.portable.PortableRegistry.{PortableRegistry}
 use Rattle.scale_info_types.specs.declared.ty.PortableType.{PortableType}
-use Rattle.type_reader_io.specs.Lines.{bad_line}
 use Rattle.type_reader_io.specs.declared.command.Conversion.{Conversion}
-use Rattle.type_reader_io.specs.declared.command.Conversion.TheVariants as conversions
 use Rattle.type_reader_io.specs.declared.error.LineError.{LineError}
 use Rattle.type_reader_io.specs.declared.error.LineError.TheVariants as line_errors
 use Rattle.type_reader_io.specs.declared.error.ReaderError.{ReaderError}
 use Rattle.type_reader_io.specs.declared.error.ReaderError.TheVariants as errors
-use Rattle.type_reader_io.specs.declared.error.ValueFault.{ValueFault}
-use Rattle.type_reader_run.specs.Encodings.{IsEncodedLine, IsEncodingError}
+use Rattle.type_reader_lines.specs.Conversions.{IsLine, IsLineError}
+use Rattle.type_reader_lines.specs.Outcomes.{AreOutcomes, Outcome}
 use Rattle.type_reader_run.specs.Selections.{AreNamed, IsChoiceError}
 use Rattle.type_reader_run.specs.Tables.{HasTable, IsFoundError}
-use Rattle.type_reader_run.specs.Values.{IsValueError, IsValueLine}
-
--- a list of bytes grew by a line of which the fact holds
-pub record AppendsLine (IsTheLine : List ℕ → Type 0) (old new : List ℕ) : Type 0 where
-  pub line : List ℕ
-  pub is_line : IsTheLine line
-  pub parts : new ≡ old ++ line
-
--- the value, converted, is this line
-abbrev pub IsLine : Conversion → PortableRegistry → (id : ℕ) → (value line : List ℕ) → Type 0
-IsLine conversions.Decode table id value line = IsValueLine table id value line
-IsLine conversions.Encode table id value line = IsEncodedLine table id value line
-
--- why there is no line for the value; an allocation may fail
-abbrev pub IsLineError : Conversion → PortableRegistry → (id : ℕ) → (value : List ℕ) → LineError
-    → Type 0
-IsLineError conversions.Decode table id value error = IsValueError table id value error
-IsLineError conversions.Encode table id value error = IsEncodingError table id value error
 
 -- the text gives one type of the table, which is this one of these descriptions
 pub record GivesType (table text : List ℕ) (registry : PortableRegistry) (id : ℕ)
@@ -90,44 +71,6 @@ pub record HasNoType (bytes text : List ℕ) (error : ReaderError) : Type 0 wher
 abbrev pub IsTypeError : (bytes text : List ℕ) → ReaderError → Type 0
 IsTypeError bytes text error =
     (error ≡ errors.Memory) ⊎ (IsFoundError bytes error ⊎ HasNoType bytes text error)
-
--- what comes of a line of the second input: a line of output, or the reason why there is none
-pub data Outcome : Type 0 where
-  made : List ℕ → Outcome
-  bad : ValueFault → Outcome
-
--- this comes of the line, which is a value of the type
-abbrev pub IsOutcome : Conversion → PortableRegistry → (id : ℕ) → List ℕ → Outcome → Type 0
-IsOutcome conversion table id line (made output) = IsLine conversion table id line output
-IsOutcome conversion table id line (bad fault) =
-    IsLineError conversion table id line (line_errors.Fault fault)
-
--- these come of the lines, one of each
-abbrev pub AreOutcomes : Conversion → PortableRegistry → (id : ℕ) → List (List ℕ) → List Outcome
-    → Type 0
-AreOutcomes conversion table id [] [] = Unit {0}
-AreOutcomes conversion table id [] (outcome ∷ outcomes) = ⊥
-AreOutcomes conversion table id (line ∷ lines) [] = ⊥
-AreOutcomes conversion table id (line ∷ lines) (outcome ∷ outcomes) =
-    IsOutcome conversion table id line outcome × AreOutcomes conversion table id lines outcomes
-
--- the output of a line; nothing, where it is bad
-abbrev pub output_of : Outcome → List ℕ
-output_of (made output) = output
-output_of (bad fault) = []
-
--- whether no line is bad
-abbrev pub are_good : List Outcome → Bool
-are_good [] = true
-are_good (made output ∷ outcomes) = are_good outcomes
-are_good (bad fault ∷ outcomes) = false
-
--- the reports of the bad lines, each with its number; that of the first line is given
-abbrev pub reports_from : (number : ℕ) → List Outcome → List (List ℕ)
-reports_from number [] = []
-reports_from number (made output ∷ outcomes) = reports_from (number + 1) outcomes
-reports_from number (bad fault ∷ outcomes) =
-    bad_line number fault ∷ reports_from (number + 1) outcomes
 
 -- the bytes have a table, of which the text gives a type, and these come of the lines, which are
 -- values of it

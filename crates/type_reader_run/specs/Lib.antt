@@ -1,15 +1,11 @@
 pub mod Conversions
 pub mod Differences
-pub mod Encodings
-pub mod LineErrors
 pub mod Listings
 pub mod Outputs
 pub mod Refusals
 pub mod Runs
 pub mod Selections
-pub mod Steps
 pub mod Tables
-pub mod Values
 pub use Rattle.scale_info_grammar.specs.Ty
 pub use Rattle.scale_info_metadata.specs.TablesFound
 pub use Rattle.type_reader_io.specs.Commands

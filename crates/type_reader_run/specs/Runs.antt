@@ -14,14 +14,13 @@ use Rattle.type_reader_io.specs.declared.command.Request.{Request}
 use Rattle.type_reader_io.specs.declared.error.ReaderError.{ReaderError}
 use Rattle.type_reader_io.specs.declared.error.ReaderError.TheVariants as errors
 use Rattle.type_reader_io.specs.Lines.{HasSmallNumber, IsReportedAs, line_of}
-use Rattle.type_reader_run.specs.Conversions.{HasOutcomes, IsTypeError, Outcome, are_good}
-use Rattle.type_reader_run.specs.Conversions.{output_of, reports_from}
+use Rattle.type_reader_run.specs.Conversions.{HasOutcomes, IsTypeError}
+use Rattle.type_reader_lines.specs.Outcomes.{ExplainsStop, Outcome, are_good, output_of, reports_from}
 use Rattle.type_reader_run.specs.Differences.{ExplainsDiff, WritesChanges, WritesSomeChange}
 use Rattle.type_reader_run.specs.Outputs.{WritesWhole}
 use Rattle.type_reader_run.specs.Refusals.{Explains}
 use Rattle.type_reader_io.specs.Reports.{ReportsEach, texts_of}
 use Rattle.type_reader_run.specs.Tables.{input_bytes}
-use Rattle.type_table_io.specs.Reports.{AppendsPrefix}
 
 -- known bytes grow by the request's output for the whole input, and the notes on it were reported
 pub record DoesOnce (request : Request) (input old new : Option (List ℕ))
@@ -52,13 +51,6 @@ pub record ConvertsAll (conversion : Conversion) (text : List ℕ)
   pub appends : Appends old new (flat_map output_of outcomes)
   pub reports : IsReported (reports_from 1 outcomes)
   pub good : is_good ≡ are_good outcomes
-
--- what an error after some lines says of known bytes, where these are the outputs of the lines
-abbrev pub ExplainsStop : (old new : Option (List ℕ)) → (outputs : List ℕ) → ReaderError → Type 0
-ExplainsStop old new outputs errors.Memory = Appends old new outputs
-ExplainsStop old new outputs errors.Input = Appends old new outputs
-ExplainsStop old new outputs errors.Output = AppendsPrefix old new outputs
-ExplainsStop old new outputs error = ⊥
 
 -- There is no type to convert values of, for this error, and known bytes are as before.
 pub record IsWithoutType (text : List ℕ) (input old new : Option (List ℕ)) (error : ReaderError)

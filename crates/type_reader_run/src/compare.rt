@@ -6,11 +6,11 @@ ghost use Rattle.type_reader_run.specs.Differences.{WritesSomeChange};
 
 use crate::diff::lines_between;
 use crate::reading::read_whole;
-use crate::writing::write_output;
 use std::alloc::Global;
 use std::io::{Read, Write};
 use type_reader_io::command::Comparison;
 use type_reader_io::error::ReaderError;
+use type_reader_io::writing::write_output;
 
 /// Reads both inputs whole, and writes the lines of what changed between their tables. Whether
 /// nothing did.

@@ -4,9 +4,7 @@
 mod compare;
 mod convert;
 mod diff;
-mod encode;
 mod graph;
-mod lines;
 mod listing;
 mod output;
 mod program;
@@ -17,8 +15,6 @@ mod selection;
 mod source;
 mod strip;
 mod table;
-mod value;
-mod writing;
 
 pub use output::{Output, OutputBytes, output_of};
 pub use program::{run, run_with};

@@ -15,12 +15,10 @@ ghost use Rattle.type_reader_run.specs.Tables.{input_bytes};
 ghost use Rattle.type_table_io.specs.Reports.{AppendsPrefix, Reported};
 
 use crate::compare::compare;
-use crate::convert::Converter;
-use crate::lines::convert_lines;
+use crate::convert::converter_of;
 use crate::output::output_of;
 use crate::reading::{read_input, read_whole};
 use crate::table::{Input, input_of, table_in};
-use crate::writing::write_output;
 use scale_info_collections::text::Text;
 use std::alloc::Global;
 use std::io::{BufRead, Read, Write};
@@ -28,6 +26,8 @@ use type_reader_io::command::{Command, Conversion, Request, command_of};
 use type_reader_io::error::ReaderError;
 use type_reader_io::message::Message;
 use type_reader_io::reporter::{ErrorWriter, Reporter};
+use type_reader_io::writing::write_output;
+use type_reader_lines::{Converter, convert_lines};
 
 /// Reads the input whole, writes what the request writes for it, and returns the notes.
 ///
@@ -65,7 +65,7 @@ fn converter_in(
     ensures err { IfErr result (IsTypeError input.now.bytes.items text.now) }
 {
     let table = table_in(input)?;
-    Converter::new(alloc, conversion, table, text)
+    converter_of(alloc, conversion, table, text)
 }
 
 /// Reads the input whole; returns what converts values of the type that the text gives of its

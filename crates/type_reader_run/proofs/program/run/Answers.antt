@@ -1,6 +1,6 @@
 use Rattle.std.proofs.Common.{rules}
 use Rattle.type_reader_run.proofs.Explained.{explained}
-use Rattle.type_reader_run.proofs.Reports.{each_written}
+use Rattle.type_reader_io.proofs.Reports.{each_written}
 use Rattle.type_reader_run.proofs.Runs.{done_by, refused_by}
 use Rattle.type_reader_run.proofs.program.run.Goals as goal
 
