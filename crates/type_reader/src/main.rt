@@ -32,18 +32,18 @@ fn arguments_of(rt: &HostRuntime) -> io::Result<Vec<Text>> {
 /// Runs the command over these inputs and this output, and returns the exit code.
 fn run_to<S: BufRead, W: Write>(
     rt: &HostRuntime,
-    arguments: &[Text],
+    command: Option<&Command<'_>>,
     table: &mut Source,
     second: &mut S,
     output: &mut W,
 ) -> ExitCode {
     let mut errors = rt.stderr();
-    ExitCode::from(run(rt.alloc(), arguments, table, second, output, &mut errors))
+    ExitCode::from(run(rt.alloc(), command, table, second, output, &mut errors))
 }
 
 /// Whether the output is a terminal that shows types, and the variable `NO_COLOR` is not set.
-fn is_painted(rt: &HostRuntime, arguments: &[Text]) -> bool {
-    let is_list = matches!(command_of(arguments), Some(Command::Once(Request::List(_))));
+fn is_painted(rt: &HostRuntime, command: Option<&Command<'_>>) -> bool {
+    let is_list = matches!(command, Some(Command::Once(Request::List(_))));
     if !is_list || !rt.stdout().is_terminal() {
         return false;
     }
@@ -56,15 +56,15 @@ fn is_painted(rt: &HostRuntime, arguments: &[Text]) -> bool {
 /// Runs the command over these inputs, and returns the exit code.
 fn run_over<S: BufRead>(
     rt: &HostRuntime,
-    arguments: &[Text],
+    command: Option<&Command<'_>>,
     mut table: Source,
     second: &mut S,
 ) -> ExitCode {
-    if is_painted(rt, arguments) {
+    if is_painted(rt, command) {
         let mut output = Painter::new(rt.stdout());
-        return run_to(rt, arguments, &mut table, second, &mut output);
+        return run_to(rt, command, &mut table, second, &mut output);
     }
-    run_to(rt, arguments, &mut table, second, &mut rt.stdout())
+    run_to(rt, command, &mut table, second, &mut rt.stdout())
 }
 
 /// Says that an allocation failed, and returns the exit code.
@@ -74,10 +74,14 @@ fn out_of_memory(rt: &HostRuntime) -> ExitCode {
 }
 
 /// Runs the command that compares two tables, and returns the exit code.
-fn run_diff(rt: &HostRuntime, arguments: &[Text], comparison: &Comparison<'_>) -> ExitCode {
+fn run_diff(
+    rt: &HostRuntime,
+    command: Option<&Command<'_>>,
+    comparison: &Comparison<'_>,
+) -> ExitCode {
     let old = Source::of_name(rt, comparison.old.as_str());
     match BufReader::new(rt.alloc(), Source::of_name(rt, comparison.new.as_str())) {
-        Ok(mut new) => run_over(rt, arguments, old, &mut new),
+        Ok(mut new) => run_over(rt, command, old, &mut new),
         Err(_) => out_of_memory(rt),
     }
 }
@@ -93,17 +97,18 @@ fn main(rt: HostRuntime) -> ExitCode {
             Vec::new(rt.alloc())
         }
     };
-    let command = command_of(&arguments);
-    if let Some(Command::Diff(comparison)) = &command {
-        return run_diff(&rt, &arguments, comparison);
+    let found = command_of(&arguments);
+    let command = found.as_ref();
+    if let Some(Command::Diff(comparison)) = command {
+        return run_diff(&rt, command, comparison);
     }
-    let table = Source::of_arguments(&rt, &arguments);
+    let table = Source::of_arguments(&rt, &arguments, command);
     if matches!(command, Some(Command::Lines(..))) {
         let second = BufReader::with_capacity(rt.alloc(), BUFFER_SIZE, rt.stdin());
         if let Ok(mut second) = second {
-            return run_over(&rt, &arguments, table, &mut second);
+            return run_over(&rt, command, table, &mut second);
         }
     }
     // Nothing is read, or it is read without a buffer, where there is no memory for one.
-    run_over(&rt, &arguments, table, &mut rt.reader())
+    run_over(&rt, command, table, &mut rt.reader())
 }

@@ -4,7 +4,7 @@ use scale_info_collections::text::Text;
 use std::fs::File;
 use std::io;
 use std::io::{ErrorKind, Read, Stdin};
-use type_reader_io::command::command_of;
+use type_reader_io::command::Command;
 
 /// Where a table is read from.
 #[derive(Drop)]
@@ -19,13 +19,14 @@ pub enum Source {
 
 impl Source {
     /// The table that the second argument names: the standard input for `-`, and else a file. No
-    /// file is opened where the arguments are no command.
-    pub fn of_arguments(rt: &HostRuntime, arguments: &[Text]) -> Source {
+    /// file is opened where the arguments name no command.
+    pub fn of_arguments(
+        rt: &HostRuntime,
+        arguments: &[Text],
+        command: Option<&Command<'_>>,
+    ) -> Source {
         match arguments {
-            [_, table, ..] if command_of(arguments).is_some() => Source::of_name(
-                rt,
-                table.as_str(),
-            ),
+            [_, table, ..] if command.is_some() => Source::of_name(rt, table.as_str()),
             _ => Source::Missing,
         }
     }

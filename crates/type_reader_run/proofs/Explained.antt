@@ -1,12 +1,12 @@
 -- What a line on the writer for errors says.
 use Rattle.std.proofs.Common.{◌≡◌, ◌≢◌, ◌≤◌, ◌<◌, ◌+◌, ◌/◌, ◌%◌, ◌++◌, ℕ, zero, suc, List, [], ◌∷◌, Bool}
-use Rattle.std.proofs.Common.{Option, ap, arith, codes, cond, decimal, eqb, false, flat_map, get_or}
+use Rattle.std.proofs.Common.{Bor, None, Option, Some, ap, arith, codes, cond, decimal, eqb, false, flat_map, get_or}
 use Rattle.std.proofs.Common.{inl, inr, lt-ltb, mod-lt, refl, subst, sym, true}
 use Rattle.std.proofs.lemmas.List.Concat.{flat_map-cons}
+use Rattle.std.specs.Prelude.{IsSomeAnd}
 use Rattle.std.specs.Fmt.{digit_glyph, digits, digits_onto}
 use Rattle.type_reader_io.proofs.Pieces.{AreBadLines, Pieces, last_reported, not_bad_lines}
 use Rattle.type_reader_io.proofs.Pieces.{not_nothing, not_of_letter, reported_pieces}
-use Rattle.type_reader_io.specs.Commands.{HasCommand}
 use Rattle.type_reader_io.specs.Lines.{HasSmallNumber, line_of, usage_line}
 use Rattle.type_reader_io.specs.Reports.{ReportsEach, texts_of}
 use Rattle.type_reader_io.specs.declared.command.Command.{Command}
@@ -173,35 +173,30 @@ so_of_lines (commands.Diff comparison) input second old new told_old told_new er
 
 -- an error whose line was reported is so, by what is known of each status
 pub explained :
-    (status : ℕ) (arguments : List (List ℕ))
+    (status : ℕ) (command : Option (Bor Command))
     (input second old new told_old told_new : Option (List ℕ)) (error : ReaderError)
     → HasSmallNumber error → status ≤ 2
     → (status ≡ 0
-    → HasCommand arguments (λ command.
-    Does command input second old new (ReportsEach AppendsPrefix told_old told_new)))
+    → IsSomeAnd command (λ it.
+    Does it.now input second old new (ReportsEach AppendsPrefix told_old told_new)))
     → (status ≡ 1
-    → HasCommand arguments (λ command.
-    Refuses command input second old new (ReportsEach AppendsPrefix told_old told_new)))
+    → IsSomeAnd command (λ it.
+    Refuses it.now input second old new (ReportsEach AppendsPrefix told_old told_new)))
     → (status ≡ 2 → AppendsPrefix told_old told_new usage_line)
     → Reported told_old told_new (line_of error)
-    → HasCommand arguments (λ command. IsSo command input second old new error)
-explained zero arguments input second old new told_old told_new error small bound done refused usage reported =
-    let it = done refl in
-    absurd
-    (not_done it.command input second old new told_old told_new error it.holds reported)
-explained (suc zero) arguments input second old new told_old told_new error small bound done refused usage reported =
-    let it = refused refl in
-    record {
-      command = it.command;
-      names = it.names;
-      holds =
-          so_of_lines it.command input second old new told_old told_new error small it.holds
-          reported;
-    }
-explained (suc (suc zero)) arguments input second old new told_old told_new error small bound done refused usage reported =
+    → IsSomeAnd command (λ it. IsSo it.now input second old new error)
+explained zero None input second old new told_old told_new error small bound done refused usage reported =
+    absurd (done refl)
+explained zero (Some it) input second old new told_old told_new error small bound done refused usage reported =
+    absurd (not_done it.now input second old new told_old told_new error (done refl) reported)
+explained (suc zero) None input second old new told_old told_new error small bound done refused usage reported =
+    absurd (refused refl)
+explained (suc zero) (Some it) input second old new told_old told_new error small bound done refused usage reported =
+    so_of_lines it.now input second old new told_old told_new error small (refused refl) reported
+explained (suc (suc zero)) command input second old new told_old told_new error small bound done refused usage reported =
     absurd
     (not_of_letter error usage_line (λ h. omega (arith, h))
     (reported_pieces told_old told_new (usage_line ∷ []) (line_of error)
     (told_new, usage refl, refl) reported))
-explained (suc (suc (suc status))) arguments input second old new told_old told_new error small bound done refused usage reported =
+explained (suc (suc (suc status))) command input second old new told_old told_new error small bound done refused usage reported =
     absurd (omega (arith, bound))

@@ -1,9 +1,9 @@
 -- What a run did, with what is known of its converter, and by what else says of texts that they
 -- were reported.
 use Rattle.std.proofs.Common.{◌≡◌, ◌⊎◌, ◌++◌, ℕ, List, [], ◌∷◌, Bool, Option, None, Some}
-use Rattle.std.proofs.Common.{IfSome, refl, subst}
+use Rattle.std.proofs.Common.{Bor, IfSome, refl, subst}
+use Rattle.std.specs.Prelude.{IsSomeAnd}
 use Rattle.std.proofs.KnownBytes.{Keeps-refl}
-use Rattle.type_reader_io.specs.Commands.{HasCommand}
 use Rattle.type_reader_io.specs.Lines.{HasSmallNumber, line_of}
 use Rattle.type_reader_io.specs.Reports.{ReportsEach, texts_of}
 use Rattle.type_reader_io.specs.declared.command.Command.{Command}
@@ -156,27 +156,23 @@ refuses_by (commands.Diff comparison) input second old new P Q by (has_changes w
 refuses_by (commands.Diff comparison) input second old new P Q by (not_compared error small explains reports) =
     not_compared error small explains (by (line_of error ∷ []) reports)
 
--- of a command that the arguments name, by what follows from what holds of it
+-- of a command, if there is one, by what follows from what holds of it
 holds_by :
-    {arguments : List (List ℕ)} {P Q : Command → Type 0}
-    → ((command : Command) → P command → Q command) → HasCommand arguments P
-    → HasCommand arguments Q
-holds_by by h = record {
-  command = h.command;
-  names = h.names;
-  holds = by h.command h.holds;
-}
+    {A : Type 0} (command : Option A) {P Q : A → Type 0}
+    → ((it : A) → P it → Q it) → IsSomeAnd command P → IsSomeAnd command Q
+holds_by None by h = absurd h
+holds_by (Some it) by h = by it h
 
-module _ {arguments : List (List ℕ)} {input second old new : Option (List ℕ)}
+module _ (command : Option (Bor Command)) (input second old new : Option (List ℕ))
     (P Q : List (List ℕ) → Type 0) (by : (texts : List (List ℕ)) → P texts → Q texts) where
   -- what was done, by another word for what was reported
   pub done_by :
-      HasCommand arguments (λ command. Does command input second old new P)
-      → HasCommand arguments (λ command. Does command input second old new Q)
-  done_by h = holds_by (λ command. does_by command input second old new P Q by) h
+      IsSomeAnd command (λ it. Does it.now input second old new P)
+      → IsSomeAnd command (λ it. Does it.now input second old new Q)
+  done_by h = holds_by command (λ it. does_by it.now input second old new P Q by) h
 
   -- what was refused
   pub refused_by :
-      HasCommand arguments (λ command. Refuses command input second old new P)
-      → HasCommand arguments (λ command. Refuses command input second old new Q)
-  refused_by h = holds_by (λ command. refuses_by command input second old new P Q by) h
+      IsSomeAnd command (λ it. Refuses it.now input second old new P)
+      → IsSomeAnd command (λ it. Refuses it.now input second old new Q)
+  refused_by h = holds_by command (λ it. refuses_by it.now input second old new P Q by) h

@@ -1,7 +1,7 @@
 //! The program over any readers and any writers.
-ghost use Rattle.std.specs.Prelude.{◌≡◌, ◌≢◌, ◌≤◌, ◌⊎◌, IfSome, IfOk, IfErr, OnOk};
+ghost use Rattle.std.specs.Prelude.{◌≡◌, ◌≢◌, ◌≤◌, ◌⊎◌, IfSome, IfOk, IfErr, IsNone, IsSome};
+ghost use Rattle.std.specs.Prelude.{IsSomeAnd, OnOk};
 ghost use Rattle.std.specs.Io.KnownBytes.{IsAtEnd, Keeps};
-ghost use Rattle.type_reader_io.specs.Commands.{HasCommand, IsCommand};
 ghost use Rattle.type_reader_io.specs.Lines.{HasSmallNumber, line_of, usage_line};
 ghost use Rattle.type_reader_io.specs.declared.error.ReaderError.{ReaderError as ReaderErrorValue};
 ghost use Rattle.type_reader_io.specs.declared.error.ReaderError.TheVariants as reader_error;
@@ -22,7 +22,7 @@ use crate::table::{Input, input_of, table_in};
 use scale_info_collections::text::Text;
 use std::alloc::Global;
 use std::io::{BufRead, Read, Write};
-use type_reader_io::command::{Command, Conversion, Request, command_of};
+use type_reader_io::command::{Command, Conversion, Request};
 use type_reader_io::error::ReaderError;
 use type_reader_io::message::Message;
 use type_reader_io::reporter::{ErrorWriter, Reporter};
@@ -129,8 +129,8 @@ fn run_command<R: Read, S: BufRead, W: Write, T: Reporter<Message>>(
     }
 }
 
-/// Runs the command that the arguments name, as [`run`], and gives its messages to any reporter in
-/// the place of a writer for errors.
+/// Runs the command as [`run`], and gives its messages to any reporter in the place of a writer for
+/// errors.
 ///
 /// The status is that of [`run`]. The reporter is given [`Message::Usage`] at status 2, and at
 /// status 0 the notes, if there are any. At status 1 it is given [`Message::BadLine`] for each bad
@@ -138,7 +138,7 @@ fn run_command<R: Read, S: BufRead, W: Write, T: Reporter<Message>>(
 /// is given nothing.
 pub fn run_with<R: Read, S: BufRead, W: Write, T: Reporter<Message>>(
     alloc: Global,
-    arguments: &[Text],
+    command: Option<&Command<'_>>,
     reader: &mut R,
     second: &mut S,
     output: &mut W,
@@ -146,41 +146,38 @@ pub fn run_with<R: Read, S: BufRead, W: Write, T: Reporter<Message>>(
 ) -> u8
     ensures status { result ≤ 2 }
 
-    // Arguments that name no command: nothing is read, and nothing is written to the output.
-    ensures usage { result ≡ 2 → ¬ IsCommand arguments.now }
-    ensures command { result ≢ 2 → IsCommand arguments.now }
+    // No command: nothing is read, and nothing is written to the output.
+    ensures usage { result ≡ 2 → IsNone command.entry }
+    ensures command { result ≢ 2 → IsSome command.entry }
     ensures unread { result ≡ 2 → (reader.new ≡ reader.old) × (second.new ≡ second.old) }
     ensures unwritten { result ≡ 2 → output.new ≡ output.old }
     ensures usage_reported { result ≡ 2 → T.reported reporter.old reporter.new usage_line }
 
     // The second input is read only where the command has no last argument, or compares tables.
-    ensures second_unread { result ≢ 2 → HasCommand arguments.now
-        (λ command. KeepsSecond command second.old second.new) }
+    ensures second_unread { result ≢ 2 → IsSomeAnd command.entry
+        (λ command. KeepsSecond command.now second.old second.new) }
 
     // A command that was done: the inputs were read to their ends, the output grew by exactly what
     // the command writes for them, and the notes were reported.
     ensures read { result ≡ 0 → IsAtEnd (R.remaining reader.new) }
-    ensures second_read { result ≡ 0 → HasCommand arguments.now
-        (λ command. EndsSecond command (S.remaining second.old) (S.remaining second.new)) }
-    ensures done { result ≡ 0 → HasCommand arguments.now (λ command. Does command
+    ensures second_read { result ≡ 0 → IsSomeAnd command.entry
+        (λ command. EndsSecond command.now (S.remaining second.old) (S.remaining second.new)) }
+    ensures done { result ≡ 0 → IsSomeAnd command.entry (λ command. Does command.now
         (R.remaining reader.old) (S.remaining second.old)
         (W.contents output.old) (W.contents output.new)
         (ReportsEach T.reported reporter.old reporter.new)) }
 
     // A command that is refused, or of which lines are bad: what was reported is so.
-    ensures refused { result ≡ 1 → HasCommand arguments.now (λ command. Refuses command
+    ensures refused { result ≡ 1 → IsSomeAnd command.entry (λ command. Refuses command.now
         (R.remaining reader.old) (S.remaining second.old)
         (W.contents output.old) (W.contents output.new)
         (ReportsEach T.reported reporter.old reporter.new)) }
 {
-    let command = match command_of(arguments) {
-        Some(command) => command,
-        None => {
-            reporter.report(Message::Usage);
-            return 2;
-        }
+    let Some(command) = command else {
+        reporter.report(Message::Usage);
+        return 2;
     };
-    match run_command(alloc, &command, reader, second, output, reporter) {
+    match run_command(alloc, command, reader, second, output, reporter) {
         Ok(true) => 0,
         Ok(false) => 1,
         Err(error) => {
@@ -190,12 +187,12 @@ pub fn run_with<R: Read, S: BufRead, W: Write, T: Reporter<Message>>(
     }
 }
 
-/// Runs the command that the arguments name, and returns the status.
+/// Runs the command that the program's arguments name, as `command_of` finds it, and returns the
+/// status.
 ///
-/// The arguments are looked at before anything is read and before memory is asked for. The reader
-/// gives what TABLE or OLD names, which the caller has opened; it is read to its end. It must be a
-/// table, with nothing after it, or a node's metadata, or such bytes in hexadecimal digits. The
-/// commands:
+/// The reader gives what TABLE or OLD names, which the caller has opened; it is read to its end. It
+/// must be a table, with nothing after it, or a node's metadata, or such bytes in hexadecimal
+/// digits. The commands, by the arguments that name them:
 ///
 /// - `table TABLE`: the bytes of the table are written to the output, and a line that says what the
 ///   input is to `errors`.
@@ -231,8 +228,9 @@ pub fn run_with<R: Read, S: BufRead, W: Write, T: Reporter<Message>>(
 /// names, which is as OLD must be, and is read to its end; one of the two at most is `-`. The other
 /// commands read nothing of `second`.
 ///
-/// The status is 0 if that was done, no line was bad, and nothing changed. It is 2 if the arguments
-/// are not a command: then the usage line is written to `errors`. It is 1 if something changed, as
+/// The status is 0 if that was done, no line was bad, and nothing changed. It is 2 if there is no
+/// command: then nothing is read, no memory is asked for, and the usage line is written to `errors`.
+/// It is 1 if something changed, as
 /// the lines on the output say; or if a line was bad, or an error came up: then these lines are
 /// written to `errors`, and nothing to the output but what good lines give.
 ///
@@ -256,7 +254,7 @@ pub fn run_with<R: Read, S: BufRead, W: Write, T: Reporter<Message>>(
 /// Each line ends with a line feed. If it can't be written, the status is the same.
 pub fn run<R: Read, S: BufRead, W: Write, F: Write>(
     alloc: Global,
-    arguments: &[Text],
+    command: Option<&Command<'_>>,
     reader: &mut R,
     second: &mut S,
     output: &mut W,
@@ -264,42 +262,42 @@ pub fn run<R: Read, S: BufRead, W: Write, F: Write>(
 ) -> u8
     ensures status { result ≤ 2 }
 
-    // Arguments that name no command: nothing is read, and nothing is written but the usage line.
-    ensures usage { result ≡ 2 → ¬ IsCommand arguments.now }
-    ensures command { result ≢ 2 → IsCommand arguments.now }
+    // No command: nothing is read, and nothing is written but the usage line.
+    ensures usage { result ≡ 2 → IsNone command.entry }
+    ensures command { result ≢ 2 → IsSome command.entry }
     ensures unread { result ≡ 2 → (reader.new ≡ reader.old) × (second.new ≡ second.old) }
     ensures unwritten { result ≡ 2 → output.new ≡ output.old }
     ensures usage_reported { result ≡ 2
         → AppendsPrefix (F.contents errors.old) (F.contents errors.new) usage_line }
 
     // The second input is read only where the command has no last argument, or compares tables.
-    ensures second_unread { result ≢ 2 → HasCommand arguments.now
-        (λ command. KeepsSecond command second.old second.new) }
+    ensures second_unread { result ≢ 2 → IsSomeAnd command.entry
+        (λ command. KeepsSecond command.now second.old second.new) }
 
     // A command that was done: the inputs were read to their ends, the output grew by exactly what
     // the command writes for them, and `errors` by the notes, or a prefix of them.
     ensures read { result ≡ 0 → IsAtEnd (R.remaining reader.new) }
-    ensures second_read { result ≡ 0 → HasCommand arguments.now
-        (λ command. EndsSecond command (S.remaining second.old) (S.remaining second.new)) }
-    ensures done { result ≡ 0 → HasCommand arguments.now (λ command. Does command
+    ensures second_read { result ≡ 0 → IsSomeAnd command.entry
+        (λ command. EndsSecond command.now (S.remaining second.old) (S.remaining second.new)) }
+    ensures done { result ≡ 0 → IsSomeAnd command.entry (λ command. Does command.now
         (R.remaining reader.old) (S.remaining second.old)
         (W.contents output.old) (W.contents output.new)
         (ReportsEach AppendsPrefix (F.contents errors.old) (F.contents errors.new))) }
 
     // A command that is refused, or of which lines are bad: what is reported is so, and of each
     // text a prefix was written.
-    ensures refused { result ≡ 1 → HasCommand arguments.now (λ command. Refuses command
+    ensures refused { result ≡ 1 → IsSomeAnd command.entry (λ command. Refuses command.now
         (R.remaining reader.old) (S.remaining second.old)
         (W.contents output.old) (W.contents output.new)
         (ReportsEach AppendsPrefix (F.contents errors.old) (F.contents errors.new))) }
     ensures explained { (error : ReaderErrorValue) → HasSmallNumber error
         → Reported (F.contents errors.old) (F.contents errors.new) (line_of error)
-        → HasCommand arguments.now (λ command. IsSo command
+        → IsSomeAnd command.entry (λ command. IsSo command.now
         (R.remaining reader.old) (S.remaining second.old)
         (W.contents output.old) (W.contents output.new) error) }
 {
     let mut reporter = ErrorWriter { errors };
-    let status = run_with(alloc, arguments, reader, second, output, &mut reporter);
+    let status = run_with(alloc, command, reader, second, output, &mut reporter);
     // No effect at run time. The proof reads what `errors` holds from this use.
     let _ = &*reporter.errors;
     status

@@ -6,17 +6,17 @@ use Rattle.type_reader_run.proofs.program.run.Goals as goal
 
 pub returns-clause-done : goal.returns-clause-done
 returns-clause-done g c zero =
-    done_by _ _
+    done_by c.args.command _ _ _ _ _ _
     (each_written _ g.F.Write.contents _ _ _ (λ old new text r. r) (λ name. search rules))
     (c.run_with-status.ensures.done zero)
 
 pub returns-clause-refused : goal.returns-clause-refused
 returns-clause-refused g c one =
-    refused_by _ _
+    refused_by c.args.command _ _ _ _ _ _
     (each_written _ g.F.Write.contents _ _ _ (λ old new text r. r) (λ name. search rules))
     (c.run_with-status.ensures.refused one)
 
 pub returns-clause-explained : goal.returns-clause-explained
 returns-clause-explained g c error small reported =
-    explained c.run_with-status.result _ _ _ _ _ _ _ error small c.run_with-status.ensures.status
+    explained c.run_with-status.result c.args.command _ _ _ _ _ _ error small c.run_with-status.ensures.status
     (returns-clause-done g c) (returns-clause-refused g c) (search rules) reported
