@@ -44,6 +44,11 @@ fn a_mismatch_says_where_it_is(rt: HostRuntime) -> Result<(), Fail> {
         return Ok(assert!(rt; false));
     };
     let line = format!(in rt.alloc(); "{error}")?;
-    is(&rt, "line", line.as_str(), "Mismatch at calls.0.dest");
+    is(
+        &rt,
+        "line",
+        line.as_str(),
+        "the value does not fit its type at calls.0.dest",
+    );
     Ok(())
 }
