@@ -204,9 +204,9 @@ def run(row):
 
 CALLS = {
     "values.decode": decoded,
-    "values.decode_lent": borrowed,
-    "views.decode_lent_loaded": borrowed_loaded,
-    "values.to_dyn": lambda row: done(truth(Given(row).decoded())),
+    "values.decode_borrowed": borrowed,
+    "views.decode_borrowed_loaded": borrowed_loaded,
+    "values.to_value": lambda row: done(truth(Given(row).decoded())),
     "values.encode": encoded,
     "values.skip": skipped,
     "visits.events": visited,

@@ -1,6 +1,6 @@
 -- What a visitor that sums up transfers has after some events.
 use Rattle.std.proofs.Common.{◌≡◌, ◌+◌, ◌++◌, ◌≤◌, ◌^◌, ℕ, List, [], ◌∷◌, ap, ◌∙◌, arith}
-use Rattle.scale_info.specs.Types.{Dyn, VisitError}
+use Rattle.scale_info.specs.Types.{Value, VisitError}
 use Rattle.scale_info.specs.VisitErrors as error
 use Rattle.scale_info.specs.Outcomes.{Outcome, decoded}
 use Rattle.scale_info.specs.Events.{Event}
@@ -44,9 +44,9 @@ moves_too_much es fs a e c h =
 
 -- the error of a visit, as that of summing up, where of a value its events are read
 pub is_moved_error :
-    (all : List Event) (events : Dyn → List Event) (outcome : Outcome Dyn) (a c : Transfers) (e : VisitError TooMuch)
+    (all : List Event) (events : Value → List Event) (outcome : Outcome Value) (a c : Transfers) (e : VisitError TooMuch)
     → a.total ≡ 0 → place a ≡ outside
-    → ((value : Dyn) (rest : List ℕ) → outcome ≡ decoded value rest → all ≡ events value)
+    → ((value : Value) (rest : List ℕ) → outcome ≡ decoded value rest → all ≡ events value)
     → IsVisitErrorOf (TakesEach Adds) (RefusesLast Adds AddsTooMuch) all outcome a c e → IsMovedError events outcome e
 is_moved_error all events outcome a c (error.Failed why) none out read h = h.read
 is_moved_error all events outcome a c (error.Stopped e) none out read h = λ value rest is.

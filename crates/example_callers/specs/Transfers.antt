@@ -2,7 +2,7 @@
 use Rattle.std.specs.Prelude.{◌≡◌, ◌≤◌, ◌^◌, ℕ, ◌+◌, Bool, false, ◌&&◌, cond, List, [], ◌∷◌}
 use Rattle.std.specs.Prelude.{Option, Some, None, codes}
 use Rattle.std.specs.Str.{bytes_eq}
-use Rattle.scale_info.specs.Types.{Dyn}
+use Rattle.scale_info.specs.Types.{Value}
 use Rattle.scale_info.specs.Events.{Event, unsigned, begin_variant, field}
 use Rattle.scale_info.specs.Outcomes.{Outcome, decoded, failed}
 use Rattle.scale_info.specs.Types.{VisitError}
@@ -57,15 +57,15 @@ abbrev pub AddsTooMuch : Event → Transfers → TooMuch → Transfers → Type 
 AddsTooMuch event old why new = 2 ^ 128 ≤ old.total + amount event (place old)
 
 -- the outcome is some value, and its transfers move this much
-pub record HasMoved (events : Dyn → List Event) (outcome : Outcome Dyn) (total : ℕ) : Type 0 where
-  pub value : Dyn
+pub record HasMoved (events : Value → List Event) (outcome : Outcome Value) (total : ℕ) : Type 0 where
+  pub value : Value
   pub rest : List ℕ
   pub read : outcome ≡ decoded value rest
   pub sum : total ≡ moved outside (events value)
 
 -- the error is the failure of the outcome, or the transfers of its value move too much
-abbrev pub IsMovedError : (Dyn → List Event) → Outcome Dyn → VisitError TooMuch → Type 0
+abbrev pub IsMovedError : (Value → List Event) → Outcome Value → VisitError TooMuch → Type 0
 IsMovedError events outcome (error.Failed why) = outcome ≡ failed why
 IsMovedError events outcome (error.Stopped e) =
-    (value : Dyn) (rest : List ℕ) → outcome ≡ decoded value rest
+    (value : Value) (rest : List ℕ) → outcome ≡ decoded value rest
     → 2 ^ 128 ≤ moved outside (events value)

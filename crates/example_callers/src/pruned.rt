@@ -9,7 +9,7 @@ ghost use Rattle.scale_info.specs.Readings.{reading};
 
 use scale_info::PortableRegistry;
 use scale_info::laws::reads_alike;
-use scale_info::value::{Dyn, ValueError, decode_value};
+use scale_info::value::{Value, ValueError, decode_value};
 use std::alloc::Global;
 
 /// Decodes by a pruned table. For each table that it was pruned from, the value, the rest and the
@@ -19,7 +19,7 @@ pub fn decode_by_pruned<'a>(
     pruned: &PortableRegistry,
     index: u32,
     input: &'a [u8],
-) -> Result<(Dyn, &'a [u8]), ValueError>
+) -> Result<(Value, &'a [u8]), ValueError>
     ensures ok { (whole : PortableRegistry) (kept : List ℕ) (id : ℕ)
         → IsTable (system_of whole) kept (map entry_of pruned.now.types)
         → slice_get kept index ≡ Some id
@@ -40,7 +40,7 @@ pub fn keep_and_decode<'a>(
     table: &mut PortableRegistry,
     id: u32,
     input: &'a [u8],
-) -> anyhow::Result<(Dyn, &'a [u8])>
+) -> anyhow::Result<(Value, &'a [u8])>
     ensures { IfOk result
         (λ found. reading table.old id 1 input.now ≡ decoded found.0 found.1.now) }
 {

@@ -6,7 +6,7 @@ ghost use Rattle.example_callers.specs.Transfers.{is_amount};
 use anyhow::{Result, bail};
 use scale_info::laws::read_back;
 use scale_info::loaded::LoadedTypes;
-use scale_info::value::{Definitions, Dyn, decode_value, encode_value};
+use scale_info::value::{Definitions, Value, decode_value, encode_value};
 use scale_info::view::TableView;
 use scale_info::{Items, Text};
 use std::alloc::{AllocError, Global};
@@ -22,12 +22,12 @@ fn is_amount(name: &Option<Text>) -> bool
 }
 
 /// The field, with this amount if it is one.
-fn field_with(field: (Option<Text>, Dyn), amount: u128) -> (Option<Text>, Dyn)
+fn field_with(field: (Option<Text>, Value), amount: u128) -> (Option<Text>, Value)
     ensures { result ≡ with_amount amount field }
 {
     let (name, value) = field;
     if is_amount(&name) {
-        return (name, Dyn::Unsigned(amount));
+        return (name, Value::Unsigned(amount));
     }
     (name, value)
 }
@@ -35,9 +35,9 @@ fn field_with(field: (Option<Text>, Dyn), amount: u128) -> (Option<Text>, Dyn)
 /// The fields, each amount among them this one.
 fn fields_with(
     alloc: Global,
-    fields: Vec<(Option<Text>, Dyn)>,
+    fields: Vec<(Option<Text>, Value)>,
     amount: u128,
-) -> Result<Items<(Option<Text>, Dyn)>, AllocError>
+) -> Result<Items<(Option<Text>, Value)>, AllocError>
     ensures { IfOk result (λ changed. changed ≡ map (with_amount amount) fields.items) }
 {
     let mut changed = Items::with_capacity(alloc, fields.len())?;
@@ -48,10 +48,10 @@ fn fields_with(
 }
 
 /// The call, each amount among its fields this one.
-fn changed(alloc: Global, call: Dyn, amount: u128) -> Result<Dyn>
+fn changed(alloc: Global, call: Value, amount: u128) -> Result<Value>
     ensures { IfOk result (λ new. HasAmount amount call new) }
 {
-    let Dyn::Variant {
+    let Value::Variant {
         name,
         index,
         fields,
@@ -59,7 +59,7 @@ fn changed(alloc: Global, call: Dyn, amount: u128) -> Result<Dyn>
     else {
         bail!("a call is a variant");
     };
-    Ok(Dyn::Variant {
+    Ok(Value::Variant {
         name,
         index,
         fields: fields_with(alloc, fields.into_vec(), amount)?,

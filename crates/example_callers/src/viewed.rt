@@ -5,7 +5,7 @@ ghost use Rattle.scale_info.specs.Readings.{reading};
 ghost use Rattle.scale_info.specs.ValueTexts.{AppendsText};
 
 use scale_info::loaded::LoadedTypes;
-use scale_info::value::{Dyn, decode_value};
+use scale_info::value::{Value, decode_value};
 use scale_info::value_text::append_value_json;
 use scale_info::view::TableView;
 use std::alloc::Global;
@@ -17,7 +17,7 @@ pub fn decode_by_view<'a>(
     view: &TableView<'_>,
     id: u32,
     input: &'a [u8],
-) -> anyhow::Result<(Dyn, &'a [u8])>
+) -> anyhow::Result<(Value, &'a [u8])>
     ensures { IfOk result
         (λ found. reading view.now id 1 input.now ≡ decoded found.0 found.1.now) }
 {

@@ -1,4 +1,4 @@
-//! A program that describes its own types and registers them: `docs/TUTORIAL.md` shows it.
+//! A program that describes its own types and registers them: `docs/OWN_TYPES.md` shows it.
 #![tactic(auto)]
 
 mod types;

@@ -1,4 +1,4 @@
 //! The table inside a node's metadata.
 
-pub use scale_info_metadata::hexadecimal::bytes_of_text;
-pub use scale_info_metadata::metadata::{MetadataError, Source, table_of};
+pub use scale_info_table_metadata::hexadecimal::bytes_of_text;
+pub use scale_info_table_metadata::metadata::{MetadataError, Source, table_of};

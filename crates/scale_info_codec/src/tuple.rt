@@ -25,57 +25,6 @@ pub(crate) fn encode_two<A: Scale, B: Scale>(
     truncate_on_err(out, start, written)
 }
 
-/// Appends three values. On an Err the output is as before.
-pub(crate) fn encode_three<A: Scale, B: Scale, C: Scale>(
-    first: &A,
-    second: &B,
-    third: &C,
-    out: &mut Vec<u8>,
-) -> Result<(), EncodeError>
-    ensures ok { OnOk result
-        (AppendsEncoding
-        (EncodesPair A.encodes (EncodesPair B.encodes C.encodes)
-        (first.now, (second.now, third.now)))
-        out.old.items out.new.items) }
-    ensures err { OnErr result (out.new.items ≡ out.old.items) }
-    ensures too_long { IfErr result
-        (IfTooLong
-        (HasNoEncoding
-        (EncodesPair A.encodes (EncodesPair B.encodes C.encodes)
-        (first.now, (second.now, third.now))))) }
-{
-    let start = out.len();
-    first.encode_to(out)?;
-    let written = encode_two(second, third, out);
-    truncate_on_err(out, start, written)
-}
-
-/// Appends four values. On an Err the output is as before.
-pub(crate) fn encode_four<A: Scale, B: Scale, C: Scale, D: Scale>(
-    first: &A,
-    second: &B,
-    third: &C,
-    fourth: &D,
-    out: &mut Vec<u8>,
-) -> Result<(), EncodeError>
-    ensures ok { OnOk result
-        (AppendsEncoding
-        (EncodesPair A.encodes (EncodesPair B.encodes (EncodesPair C.encodes D.encodes))
-        (first.now, (second.now, (third.now, fourth.now))))
-        out.old.items out.new.items) }
-    ensures err { OnErr result (out.new.items ≡ out.old.items) }
-    ensures too_long { IfErr result
-        (IfTooLong
-        (HasNoEncoding
-        (EncodesPair A.encodes (EncodesPair B.encodes (EncodesPair C.encodes D.encodes))
-        (first.now, (second.now, (third.now, fourth.now)))))) }
-{
-    let start = out.len();
-    first.encode_to(out)?;
-    let written = encode_three(second, third, fourth, out);
-    truncate_on_err(out, start, written)
-}
-
 /// Appends an index byte and a value. On an Err the output is as before.
 pub(crate) fn encode_with_index<T: Scale>(
     index: u8,

@@ -15,17 +15,17 @@ use Rattle.scale_info_numberings.proofs.Places.{contains_cases, place_of}
 use Rattle.scale_info_numberings.proofs.Pruned.{pruned_reading, pruned_numbering, pruned_table}
 use Rattle.scale_info_numberings.proofs.Tables.{closed}
 use Rattle.scale_info_numberings.proofs.Zip.{zip_right, zip_turned}
-use Rattle.scale_info_tables.specs.declared.portable.PortableRegistry.{PortableRegistry}
+use Rattle.scale_info_table.specs.declared.portable.PortableRegistry.{PortableRegistry}
 use Rattle.scale_info_types.specs.Shapes.{Shape}
 use Rattle.scale_info_types.specs.declared.ty.PortableType.{PortableType}
-use Rattle.scale_info_tables.specs.Pruned.{IsChosen, IsPruned, IsRetainError}
+use Rattle.scale_info_table.specs.Pruned.{IsChosen, IsPruned, IsRetainError}
 use Rattle.scale_info_walk.specs.declared.walk.RetainError.{RetainError}
 use Rattle.scale_info_walk.specs.declared.walk.RetainError.TheVariants as retain
 use Rattle.scale_info_walk.specs.TypeSystems.{entry_of, types_system}
 use Rattle.scale_info_bytes.specs.Encodings.{HasNoEncoding, IfTooLong}
 use Rattle.scale_info_bytes.specs.declared.error.EncodeError.{EncodeError}
 use Rattle.scale_info_bytes.specs.declared.error.EncodeError.TheVariants as encode
-use Rattle.scale_info_tables.specs.TableEncoding.{EncodesRegistry}
+use Rattle.scale_info_table.specs.TableEncoding.{EncodesRegistry}
 use Rattle.scale_info_export.specs.Exports.{IsExportError, IsExported, IsRegisteredTable}
 use Rattle.scale_info_export.specs.Exports.{of_encode}
 

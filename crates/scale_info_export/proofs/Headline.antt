@@ -22,10 +22,10 @@ use Rattle.scale_info_registry.specs.Registrations.{
   registered,
   step_roots,
 }
-use Rattle.scale_info_tables.specs.BuiltTables.{numbered_from}
-use Rattle.scale_info_tables.specs.TableEncoding.{EncodesRegistry}
-use Rattle.scale_info_tables.specs.TableSystems.{system_of}
-use Rattle.scale_info_tables.specs.declared.portable.PortableRegistry.{PortableRegistry}
+use Rattle.scale_info_table.specs.BuiltTables.{numbered_from}
+use Rattle.scale_info_table.specs.TableEncoding.{EncodesRegistry}
+use Rattle.scale_info_table.specs.TableSystems.{system_of}
+use Rattle.scale_info_table.specs.declared.portable.PortableRegistry.{PortableRegistry}
 use Rattle.scale_info_export.proofs.NumberedEntries.{numbered_entries}
 use Rattle.scale_info_types.specs.Portable.{Description}
 use Rattle.scale_info_types.specs.Shapes.{Shape}
@@ -35,7 +35,7 @@ use Rattle.scale_info_export.specs.Headline.{AreAccepted, AreChosenTypes, AreNew
 use Rattle.scale_info_export.specs.Headline.{IsTableOf}
 use Rattle.scale_info_export.specs.Headline.{IsWritten, Pruning, catalogue_of, registry_of}
 use Rattle.scale_info_export.proofs.Exported.{one_system}
-use Rattle.scale_info_prune.proofs.SameTables.{PartsLaw, same_types}
+use Rattle.scale_info_table_prune.proofs.SameTables.{PartsLaw, same_types}
 
 -- numbered entries have their indices as ids
 numbered_ids :

@@ -1,4 +1,4 @@
+pub mod BorrowedEntries
 pub mod Exported
 pub mod Headline
-pub mod LentEntries
 pub mod NumberedEntries

@@ -3,7 +3,7 @@ use Rattle.std.proofs.Common.{◌≡◌, ℕ, ◌+◌, List, [], ◌∷◌, map,
 use Rattle.scale_info_registry.specs.Registrations.{portable_entry}
 use Rattle.scale_info_types.specs.Portable.{Description}
 use Rattle.scale_info_walk.specs.TypeSystems.{entry_of}
-use Rattle.scale_info_tables.specs.BuiltTables.{numbered_from}
+use Rattle.scale_info_table.specs.BuiltTables.{numbered_from}
 
 -- as nodes of a system numbered entries are what the descriptions are
 pub numbered_entries :

@@ -12,11 +12,11 @@ use Rattle.scale_info_numberings.specs.Tables.{ArePlaces, IsTable}
 use Rattle.scale_info_catalogue.specs.Discoveries.{IsCause}
 use Rattle.scale_info_catalogue.specs.declared.discovery.RegisterError.{RegisterError}
 use Rattle.scale_info_catalogue.specs.declared.discovery.RegisterError.TheVariants as register
-use Rattle.scale_info_tables.specs.TableEncoding.{EncodesRegistry}
-use Rattle.scale_info_tables.specs.declared.portable.PortableRegistry.{PortableRegistry}
+use Rattle.scale_info_table.specs.TableEncoding.{EncodesRegistry}
+use Rattle.scale_info_table.specs.declared.portable.PortableRegistry.{PortableRegistry}
 use Rattle.scale_info_types.specs.Shapes.{Shape}
 use Rattle.scale_info_types.specs.declared.ty.PortableType.{PortableType}
-use Rattle.scale_info_tables.specs.Pruned.{IsChosen}
+use Rattle.scale_info_table.specs.Pruned.{IsChosen}
 use Rattle.scale_info_walk.specs.TypeSystems.{entry_of}
 use Rattle.scale_info_export.specs.declared.export.ExportError.{ExportError}
 use Rattle.scale_info_export.specs.declared.export.ExportError.TheVariants.{Undescribed, Full}

@@ -9,11 +9,11 @@ use Rattle.scale_info_numberings.specs.Tables.{ArePlaces}
 use Rattle.scale_info_registry.specs.Registrations.{AreSteps, IsRegistration, Registered, Step}
 use Rattle.scale_info_catalogue.specs.Discoveries.{nodes_of}
 use Rattle.scale_info_registry.specs.Registrations.{last_step, registered}
-use Rattle.scale_info_tables.specs.BuiltTables.{numbered_from}
-use Rattle.scale_info_tables.specs.TableEncoding.{EncodesRegistry}
-use Rattle.scale_info_tables.specs.declared.portable.PortableRegistry.{PortableRegistry}
+use Rattle.scale_info_table.specs.BuiltTables.{numbered_from}
+use Rattle.scale_info_table.specs.TableEncoding.{EncodesRegistry}
+use Rattle.scale_info_table.specs.declared.portable.PortableRegistry.{PortableRegistry}
 use Rattle.scale_info_types.specs.Shapes.{Shape}
-use Rattle.scale_info_tables.specs.Pruned.{IsPruned}
+use Rattle.scale_info_table.specs.Pruned.{IsPruned}
 
 -- A table that was pruned, and the bytes of what was kept: the ids that were chosen, the map from
 -- old ids to new ones, the kept table and its encoding.

@@ -1,4 +1,4 @@
+pub mod BorrowedEntries
+pub mod BorrowedLaws
 pub mod Exports
 pub mod Headline
-pub mod LentEntries
-pub mod LentLaws

@@ -6,15 +6,15 @@ ghost use Rattle.scale_info_export.specs.Exports.{of_encode, of_register};
 ghost use Rattle.scale_info_export.specs.declared.export.ExportError.TheVariants as export_error;
 ghost use Rattle.scale_info_catalogue.specs.CatalogueSystems.{catalogue_system};
 ghost use Rattle.scale_info_catalogue.specs.Discoveries.{roots_of};
-ghost use Rattle.scale_info_tables.specs.TableEncoding.{EncodesRegistry};
-ghost use Rattle.scale_info_tables.specs.declared.portable.PortableRegistry as tables;
+ghost use Rattle.scale_info_table.specs.TableEncoding.{EncodesRegistry};
+ghost use Rattle.scale_info_table.specs.declared.portable.PortableRegistry as tables;
 
+use crate::borrowed::{BorrowedEntries, encode_kept, number_kept};
 use crate::laws::registered_tables;
-use crate::lent::{LentEntries, encode_kept, number_kept};
 use scale_info_bytes::error::EncodeError;
 use scale_info_catalogue::catalogue::Catalogue;
 use scale_info_identities::type_id::TypeId;
-use scale_info_registry::registry::{RegisterError, lend_types};
+use scale_info_registry::registry::{RegisterError, borrow_types};
 use scale_info_types::meta_type::MetaType;
 use scale_info_walk::walk::RetainError;
 use std::alloc::{AllocError, AllocFailed, Global};
@@ -121,11 +121,11 @@ pub fn export<F: FnMut(u32) -> bool>(
     ensures cause { IfErr result
         (IsExportError (catalogue_system catalogue.now) (roots_of types.now) F.step filter) }
 {
-    export_lent(alloc, catalogue, types, filter, out)
+    export_borrowed(alloc, catalogue, types, filter, out)
 }
 
-/// The same, where the catalogue and the types are lent for one time.
-fn export_lent<'c, F: FnMut(u32) -> bool>(
+/// The same, where the catalogue and the types are borrowed for one time.
+fn export_borrowed<'c, F: FnMut(u32) -> bool>(
     alloc: Global,
     catalogue: &'c Catalogue,
     types: &'c [MetaType],
@@ -142,18 +142,18 @@ fn export_lent<'c, F: FnMut(u32) -> bool>(
         (IsExportError (catalogue_system catalogue.now) (roots_of types.now) F.step filter) }
 {
     registered_tables();
-    let found = lend_types(alloc, types, catalogue)?;
-    let lent = LentEntries {
+    let found = borrow_types(alloc, types, catalogue)?;
+    let borrowed = BorrowedEntries {
         numbers: found.numbers,
         descriptions: found.descriptions,
     };
-    let kept = match number_kept(alloc, &lent, filter) {
+    let kept = match number_kept(alloc, &borrowed, filter) {
         Ok(kept) => kept,
         Err(RetainError::Memory) => return Err(ExportError::Memory),
         Err(RetainError::Dangling { .. }) => unreachable!(),
         Err(RetainError::TooManyTypes) => unreachable!(),
     };
-    encode_kept(&lent, &kept.order, &kept.numbers, out)?;
+    encode_kept(&borrowed, &kept.order, &kept.numbers, out)?;
     Ok(Exported {
         ids: found.ids,
         map: kept.map,

@@ -11,14 +11,14 @@ ghost use Rattle.scale_info_numberings.specs.Systems.{IsReached, System};
 ghost use Rattle.scale_info_numberings.specs.Tables.{IsTable};
 ghost use Rattle.scale_info_registry.specs.Registrations.{IsRegistration, Registered};
 ghost use Rattle.scale_info_registry.specs.Registrations.{registered};
-ghost use Rattle.scale_info_tables.specs.TableEncoding.{EncodesRegistry};
-ghost use Rattle.scale_info_tables.specs.TableSystems.{system_of};
-ghost use Rattle.scale_info_tables.specs.declared.portable.PortableRegistry as tables;
+ghost use Rattle.scale_info_table.specs.TableEncoding.{EncodesRegistry};
+ghost use Rattle.scale_info_table.specs.TableSystems.{system_of};
+ghost use Rattle.scale_info_table.specs.declared.portable.PortableRegistry as tables;
 ghost use Rattle.scale_info_types.specs.Shapes.{Shape};
 ghost use Rattle.scale_info_walk.specs.TypeSystems.{entry_of};
 
 use scale_info_registry::laws::{registered_afresh, registrations_afresh};
-use scale_info_tables::laws::one_text;
+use scale_info_table::laws::one_text;
 use scale_info_types::laws::shape_and_references;
 
 mod equalities;

@@ -1,4 +1,4 @@
-//! Bytes that the digits of many texts write, one text after another, in the same room.
+//! Bytes that the digits of many texts write, one text after another, in the same buffers.
 //!
 //! [`decode`](crate::decode::decode) says the same of one text. Here digits are taken many at a
 //! time: a proof says that nothing else is read.
@@ -13,7 +13,7 @@ use std::alloc::{AllocError, Global};
 /// What stands for the value of a byte that is no digit.
 const NO_VALUE: u8 = 255;
 
-/// Room that is used again for the digits of one value after another.
+/// Buffers that are used again for the digits of one value after another.
 #[derive(Drop)]
 pub struct Digits {
     /// The value of each digit.
@@ -67,7 +67,7 @@ fn put_bytes(values: &[u8], bytes: &mut [u8])
 }
 
 impl Digits {
-    /// Room of which nothing is used yet. Does not allocate.
+    /// Buffers of which nothing is used yet. Does not allocate.
     pub fn new(alloc: Global) -> Digits {
         Digits {
             values: Vec::new(alloc),

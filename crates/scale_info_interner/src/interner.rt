@@ -8,7 +8,7 @@ ghost use Rattle.scale_info_interner.specs.Interned.{IsIndexOf, IsKnown, IsNew, 
 ghost use Rattle.scale_info_interner.specs.ElementOrders.{IsElementOrder, IsGapFor};
 ghost use Rattle.scale_info_interner.specs.declared.interner.InternError.TheVariants as error;
 
-use crate::order::{Place, find, insert, locate, merge_small, remove, split_full};
+use crate::order::{OrderPlace, find, insert, locate, merge_small, remove, split_full};
 use crate::rooms::{narrow, widen};
 use scale_info_collections::failure::AllocationFailure;
 use scale_info_collections::try_clone::TryClone;
@@ -212,7 +212,7 @@ impl<T: Ord + TryClone> Interner<T> {
         Ok((true, symbol))
     }
 
-    /// The same for a value that is lent: it is searched once, and copied only where it is new.
+    /// The same for a borrowed value: it is searched once, and copied only where it is new.
     ///
     /// Errors: as those of [`Interner::intern_or_get`], where the copy is an allocation too.
     pub fn intern_copy(&mut self, value: &T) -> Result<(bool, UntrackedSymbol<T>), InternError>
@@ -265,7 +265,7 @@ fn push_new<T: Ord + TryClone>(
     chunks: &mut Vec<Vec<u32>>,
     bounds: &mut Vec<T>,
     rooms: &mut Vec<Vec<Vec<u32>>>,
-    place: Place,
+    place: OrderPlace,
     value: T,
 ) -> Result<UntrackedSymbol<T>, InternError>
     requires order { IsElementOrder T.cmp elements.old.items

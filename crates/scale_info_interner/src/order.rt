@@ -22,7 +22,7 @@ const FULL: usize = 64;
 
 /// A place in an order: the number of a chunk, and where in it.
 #[derive(Clone, Copy)]
-pub struct Place {
+pub struct OrderPlace {
     /// The chunk.
     pub chunk: usize,
     /// The number of indices before the place, in its chunk.
@@ -96,7 +96,11 @@ fn search<T: Ord>(elements: &[T], chunk: &[u32], value: &T) -> Result<usize, usi
 }
 
 /// The place of the index whose element is equal to a value; else where one would go.
-fn find_by_halves<T: Ord>(elements: &[T], chunks: &[Vec<u32>], value: &T) -> Result<Place, Place>
+fn find_by_halves<T: Ord>(
+    elements: &[T],
+    chunks: &[Vec<u32>],
+    value: &T,
+) -> Result<OrderPlace, OrderPlace>
     requires { IsElementOrder T.cmp elements.now (map (λ v. v.items) chunks.now) }
     ensures found { IfOk result (λ place. IsFoundAt T.cmp elements.now
         (map (λ v. v.items) chunks.now) value.now place.chunk place.at) }
@@ -104,11 +108,11 @@ fn find_by_halves<T: Ord>(elements: &[T], chunks: &[Vec<u32>], value: &T) -> Res
         (map (λ v. v.items) chunks.now) value.now place.chunk place.at) }
 {
     let Some(chunk) = chunks_before(elements, chunks, value).checked_sub(1) else {
-        return Err(Place { chunk: 0, at: 0 });
+        return Err(OrderPlace { chunk: 0, at: 0 });
     };
     match search(elements, &chunks[chunk], value) {
-        Ok(at) => Ok(Place { chunk, at }),
-        Err(at) => Err(Place { chunk, at }),
+        Ok(at) => Ok(OrderPlace { chunk, at }),
+        Err(at) => Err(OrderPlace { chunk, at }),
     }
 }
 
@@ -132,7 +136,7 @@ fn find_in<T: Ord>(
     chunks: &[Vec<u32>],
     chunk: usize,
     value: &T,
-) -> Option<Result<Place, Place>>
+) -> Option<Result<OrderPlace, OrderPlace>>
     requires { IsElementOrder T.cmp elements.now (map (λ v. v.items) chunks.now) }
     ensures found { IfSome result (λ found. IfOk found (λ place. IsFoundAt T.cmp elements.now
         (map (λ v. v.items) chunks.now) value.now place.chunk place.at)) }
@@ -141,12 +145,12 @@ fn find_in<T: Ord>(
 {
     let indices = chunks.get(chunk)?;
     let at = match search(elements, indices, value) {
-        Ok(at) => return Some(Ok(Place { chunk, at })),
+        Ok(at) => return Some(Ok(OrderPlace { chunk, at })),
         Err(at) => at,
     };
     let is_above_others = chunk == 0 || at > 0;
     if is_above_others && (at < indices.len() || ends_below(elements, chunks, chunk, value)) {
-        return Some(Err(Place { chunk, at }));
+        return Some(Err(OrderPlace { chunk, at }));
     }
     None
 }
@@ -157,7 +161,7 @@ pub fn find<T: Ord>(
     chunks: &[Vec<u32>],
     bounds: &[T],
     value: &T,
-) -> Result<Place, Place>
+) -> Result<OrderPlace, OrderPlace>
     requires { IsElementOrder T.cmp elements.now (map (λ v. v.items) chunks.now) }
     ensures found { IfOk result (λ place. IsFoundAt T.cmp elements.now
         (map (λ v. v.items) chunks.now) value.now place.chunk place.at) }
@@ -176,7 +180,7 @@ pub fn locate<T: Ord>(
     chunks: &[Vec<u32>],
     bounds: &[T],
     value: &T,
-) -> Result<u32, Place>
+) -> Result<u32, OrderPlace>
     requires { IsElementOrder T.cmp elements.now (map (λ v. v.items) chunks.now) }
     ensures found { IfOk result (λ index. IsIndexOf T.eq elements.now value.now index) }
     ensures one { (i : _) → IsIndexOf T.eq elements.now value.now i
@@ -195,7 +199,7 @@ pub fn locate<T: Ord>(
 pub fn insert(
     alloc: Global,
     chunks: &mut Vec<Vec<u32>>,
-    place: Place,
+    place: OrderPlace,
     index: u32,
 ) -> Result<(), AllocError>
     requires { (chunk : List ℕ)
@@ -284,7 +288,7 @@ pub fn split_full<T: TryClone>(
 }
 
 /// Takes the index at a place out, and drops a chunk that is then empty.
-pub fn remove<T: Drop>(chunks: &mut Vec<Vec<u32>>, bounds: &mut Vec<T>, place: Place)
+pub fn remove<T: Drop>(chunks: &mut Vec<Vec<u32>>, bounds: &mut Vec<T>, place: OrderPlace)
     requires { (chunk : List ℕ) × (slice_get (map (λ v. v.items) chunks.old.items) place.chunk
         ≡ Some chunk) × (place.at < length chunk) }
     ensures joined { (index : ℕ) (rest : List ℕ)

@@ -8,7 +8,7 @@ use Rattle.json.specs.declared.token.Token.TheVariants as token
 use Rattle.serde_json.specs.Data.{Data, array}
 use Rattle.serde_json.specs.View.{items_of}
 use Rattle.scale_info_json_trees.specs.Meaning.{MeansEach, MeansList}
-use Rattle.scale_info_json.specs.Laws.{same_items}
+use Rattle.scale_info_json_tree.specs.Laws.{same_items}
 use Rattle.scale_info_json_text.specs.Readings.{IsMeant, Reads, ReadsItems, with_last}
 use Rattle.scale_info_json_text.proofs.Trees.{array_reads}
 

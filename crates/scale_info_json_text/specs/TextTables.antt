@@ -2,9 +2,9 @@
 use Rattle.std.specs.Prelude.{◌≡◌, ℕ, List, Some, None}
 use Rattle.serde_json.specs.Data.{Data}
 use Rattle.serde_json.specs.Read.{read}
-use Rattle.scale_info_json.specs.JsonTables.{MeansTable}
+use Rattle.scale_info_json_tree.specs.JsonTables.{MeansTable}
 use Rattle.scale_info_json_trees.specs.Meaning.{IsMeaningless}
-use Rattle.scale_info_tables.specs.declared.portable.PortableRegistry.{PortableRegistry}
+use Rattle.scale_info_table.specs.declared.portable.PortableRegistry.{PortableRegistry}
 use Rattle.scale_info_json_text.specs.declared.error.JsonTextError.{JsonTextError}
 use Rattle.scale_info_json_text.specs.declared.error.JsonTextError.TheVariants as error
 use Rattle.scale_info_json_text.specs.declared.stop.Stop.{Stop}

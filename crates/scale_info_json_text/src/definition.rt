@@ -10,7 +10,7 @@ use crate::found::Found;
 use crate::json_text::{JsonText, read_value};
 use crate::object::{JsonObject, read_object};
 use crate::pass::pass_value;
-use crate::source::{Reading, Source};
+use crate::source::{Reading, TextSource};
 use crate::stop::Stop;
 use json::Token;
 use scale_info_types::form::PortableForm;
@@ -56,7 +56,7 @@ fn known_key(key: &str) -> Option<&'static str>
 ///
 /// Errors: `Syntax`, where no tree's text comes next; `Memory`, if an allocation failed.
 fn read_kind<T: JsonText + Into<TypeDef<PortableForm>>>(
-    source: &mut Source<'_>,
+    source: &mut TextSource<'_>,
     depth: usize,
 ) -> Reading<TypeDef<PortableForm>>
     ensures ok { IfOk result (λ found. Reads
@@ -75,7 +75,7 @@ fn read_kind<T: JsonText + Into<TypeDef<PortableForm>>>(
 /// Errors: `Syntax`, where no tree's text comes next; `Memory`, if an allocation failed.
 fn read_definition(
     key: &str,
-    source: &mut Source<'_>,
+    source: &mut TextSource<'_>,
     depth: usize,
 ) -> Reading<TypeDef<PortableForm>>
     ensures ok { IfOk result (λ found. Reads (λ tree. IsMeant (MeansUnder key.now tree) found) depth
@@ -136,7 +136,7 @@ impl Found for FoundDefinition {
         &mut self,
         _keys: (),
         key: &str,
-        source: &mut Source<'_>,
+        source: &mut TextSource<'_>,
         depth: usize,
     ) -> Result<bool, Stop> {
         match known_key(key) {
@@ -173,7 +173,7 @@ impl JsonObject<FoundDefinition> for TypeDef<PortableForm> {
 impl JsonText for TypeDef<PortableForm> {
     ghost meant = { MeansTypeDef };
 
-    fn from_token(token: Token<'_>, source: &mut Source<'_>, depth: usize) -> Reading<Self> {
+    fn from_token(token: Token<'_>, source: &mut TextSource<'_>, depth: usize) -> Reading<Self> {
         read_object::<FoundDefinition, Self>((), token, source, depth)
     }
 }

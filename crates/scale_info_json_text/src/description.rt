@@ -11,7 +11,7 @@ ghost use Rattle.scale_info_json_text.specs.Members.{HoldsBoth, HoldsTwo};
 use crate::json_text::JsonText;
 use crate::member::{Member, list_or_empty, required, value_or_none};
 use crate::object::{JsonObject, read_object};
-use crate::source::{Reading, Source};
+use crate::source::{Reading, TextSource};
 use json::Token;
 use scale_info_collections::items::Items;
 use scale_info_collections::text::Text;
@@ -44,7 +44,7 @@ impl JsonObject<FoundParameter> for TypeParameter<PortableForm> {
 impl JsonText for TypeParameter<PortableForm> {
     ghost meant = { MeansParameter };
 
-    fn from_token(token: Token<'_>, source: &mut Source<'_>, depth: usize) -> Reading<Self> {
+    fn from_token(token: Token<'_>, source: &mut TextSource<'_>, depth: usize) -> Reading<Self> {
         read_object::<FoundParameter, Self>(("name", "type"), token, source, depth)
     }
 }
@@ -85,7 +85,7 @@ impl JsonObject<FoundField> for Field<PortableForm> {
 impl JsonText for Field<PortableForm> {
     ghost meant = { MeansField };
 
-    fn from_token(token: Token<'_>, source: &mut Source<'_>, depth: usize) -> Reading<Self> {
+    fn from_token(token: Token<'_>, source: &mut TextSource<'_>, depth: usize) -> Reading<Self> {
         read_object::<FoundField, Self>(FIELD_KEYS, token, source, depth)
     }
 }
@@ -126,7 +126,7 @@ impl JsonObject<FoundVariant> for Variant<PortableForm> {
 impl JsonText for Variant<PortableForm> {
     ghost meant = { MeansVariant };
 
-    fn from_token(token: Token<'_>, source: &mut Source<'_>, depth: usize) -> Reading<Self> {
+    fn from_token(token: Token<'_>, source: &mut TextSource<'_>, depth: usize) -> Reading<Self> {
         read_object::<FoundVariant, Self>(VARIANT_KEYS, token, source, depth)
     }
 }
@@ -171,7 +171,7 @@ impl JsonObject<FoundDescription> for Description<PortableForm> {
 impl JsonText for Description<PortableForm> {
     ghost meant = { MeansDescription };
 
-    fn from_token(token: Token<'_>, source: &mut Source<'_>, depth: usize) -> Reading<Self> {
+    fn from_token(token: Token<'_>, source: &mut TextSource<'_>, depth: usize) -> Reading<Self> {
         read_object::<FoundDescription, Self>(DESCRIPTION_KEYS, token, source, depth)
     }
 }
@@ -196,7 +196,7 @@ impl JsonObject<FoundEntry> for PortableType {
 impl JsonText for PortableType {
     ghost meant = { MeansEntry };
 
-    fn from_token(token: Token<'_>, source: &mut Source<'_>, depth: usize) -> Reading<Self> {
+    fn from_token(token: Token<'_>, source: &mut TextSource<'_>, depth: usize) -> Reading<Self> {
         read_object::<FoundEntry, Self>(("id", "type"), token, source, depth)
     }
 }

@@ -7,7 +7,7 @@ ghost use Rattle.scale_info_json_text.specs.Readings.{IfSyntax, HasNoTree};
 ghost use Rattle.scale_info_json_text.specs.Readings.{ReadsMembers, HasNoMembers};
 
 use crate::pass::pass_value;
-use crate::source::Source;
+use crate::source::TextSource;
 use crate::stop::Stop;
 
 /// What is read of the members of an object: under one key, or under all keys of a pair. Where a
@@ -37,7 +37,7 @@ pub trait Found: Drop {
         &mut self,
         keys: Self::Keys,
         key: &str,
-        source: &mut Source<'_>,
+        source: &mut TextSource<'_>,
         depth: usize,
     ) -> Result<bool, Stop>
         requires { distinct keys }
@@ -72,7 +72,7 @@ impl<A: Found, B: Found> Found for (A, B) {
         &mut self,
         keys: (A::Keys, B::Keys),
         key: &str,
-        source: &mut Source<'_>,
+        source: &mut TextSource<'_>,
         depth: usize,
     ) -> Result<bool, Stop> {
         if self.0.read_member(keys.0, key, source, depth)? {
@@ -96,7 +96,7 @@ fn read_or_pass<F: Found>(
     found: &mut F,
     keys: F::Keys,
     key: &str,
-    source: &mut Source<'_>,
+    source: &mut TextSource<'_>,
     depth: usize,
 ) -> Result<(), Stop>
     requires { F.distinct keys }
@@ -115,7 +115,7 @@ fn read_or_pass<F: Found>(
 /// Errors: `Syntax`, where something else comes next; `Memory`, if an allocation failed.
 pub fn read_members<F: Found>(
     keys: F::Keys,
-    source: &mut Source<'_>,
+    source: &mut TextSource<'_>,
     depth: usize,
 ) -> Result<F, Stop>
     requires { F.distinct keys }

@@ -8,7 +8,7 @@ ghost use Rattle.scale_info_json_text.specs.Readings.{IfSyntax, IsMeant, Reads, 
 use crate::json_text::JsonText;
 use crate::number::unsigned;
 use crate::pass::pass_rest;
-use crate::source::{Reading, Source};
+use crate::source::{Reading, TextSource};
 use json::{Reader, Token};
 use scale_info_identities::symbol::UntrackedSymbol;
 use scale_info_identities::type_id::TypeId;
@@ -36,7 +36,7 @@ fn number_below(limit: u64, token: Token<'_>, reader: &mut Reader<'_>, depth: us
 impl JsonText for u32 {
     ghost meant = { MeansNumber (2 ^ 32) };
 
-    fn from_token(token: Token<'_>, source: &mut Source<'_>, depth: usize) -> Reading<Self> {
+    fn from_token(token: Token<'_>, source: &mut TextSource<'_>, depth: usize) -> Reading<Self> {
         match number_below(4294967296, token, &mut source.reader, depth)? {
             Some(number) => Ok(Some(number as u32)),
             None => Ok(None),
@@ -47,7 +47,7 @@ impl JsonText for u32 {
 impl JsonText for u8 {
     ghost meant = { MeansNumber 256 };
 
-    fn from_token(token: Token<'_>, source: &mut Source<'_>, depth: usize) -> Reading<Self> {
+    fn from_token(token: Token<'_>, source: &mut TextSource<'_>, depth: usize) -> Reading<Self> {
         match number_below(256, token, &mut source.reader, depth)? {
             Some(number) => Ok(Some(number as u8)),
             None => Ok(None),
@@ -58,7 +58,7 @@ impl JsonText for u8 {
 impl JsonText for UntrackedSymbol<TypeId> {
     ghost meant = { MeansId };
 
-    fn from_token(token: Token<'_>, source: &mut Source<'_>, depth: usize) -> Reading<Self> {
+    fn from_token(token: Token<'_>, source: &mut TextSource<'_>, depth: usize) -> Reading<Self> {
         match u32::from_token(token, source, depth)? {
             Some(id) => Ok(Some(UntrackedSymbol::from(id))),
             None => Ok(None),

@@ -4,7 +4,7 @@ ghost use Rattle.json.specs.Reads.{token_of};
 ghost use Rattle.serde_json.specs.Data.{Data};
 ghost use Rattle.scale_info_json_text.specs.Readings.{IfSyntax, IsMeant, Reads, HasNoTree};
 
-use crate::source::{Reading, Source};
+use crate::source::{Reading, TextSource};
 use crate::stop::Stop;
 use json::Token;
 
@@ -17,7 +17,7 @@ pub trait JsonText: Drop {
     /// where the tree means none. Arrays and objects nest as deep as `depth` says.
     ///
     /// Errors: `Syntax`, where no tree's text begins so; `Memory`, if an allocation failed.
-    fn from_token(token: Token<'_>, source: &mut Source<'_>, depth: usize) -> Reading<Self>
+    fn from_token(token: Token<'_>, source: &mut TextSource<'_>, depth: usize) -> Reading<Self>
         ensures ok { IfOk result (λ found. Reads (λ tree. IsMeant (meant tree) found) depth
             (token_of token.entry ∷ source.old.reader) source.new.reader) }
         ensures syntax { IfErr result
@@ -27,7 +27,7 @@ pub trait JsonText: Drop {
 /// Reads the value that the tree of the text which comes next means; None where it means none.
 ///
 /// Errors: `Syntax`, where no tree's text comes next; `Memory`, if an allocation failed.
-pub fn read_value<T: JsonText>(source: &mut Source<'_>, depth: usize) -> Reading<T>
+pub fn read_value<T: JsonText>(source: &mut TextSource<'_>, depth: usize) -> Reading<T>
     ensures ok { IfOk result (λ found. Reads (λ tree. IsMeant (T.meant tree) found) depth
         source.old.reader source.new.reader) }
     ensures syntax { IfErr result (IfSyntax (HasNoTree depth source.old.reader)) }

@@ -6,7 +6,7 @@ ghost use Rattle.scale_info_json_text.specs.Readings.{with_last};
 
 use crate::json_text::{JsonText, read_value};
 use crate::pass::pass_rest;
-use crate::source::{Reading, Source};
+use crate::source::{Reading, TextSource};
 use crate::stop::Stop;
 use json::Token;
 use scale_info_collections::items::Items;
@@ -16,7 +16,7 @@ use std::alloc::AllocError;
 /// means none.
 ///
 /// Errors: `Syntax`, where something else comes next; `Memory`, if an allocation failed.
-fn read_items<T: JsonText>(source: &mut Source<'_>, depth: usize) -> Reading<Items<T>>
+fn read_items<T: JsonText>(source: &mut TextSource<'_>, depth: usize) -> Reading<Items<T>>
     ensures ok { IfOk result (λ found. ReadsItems
         (λ trees. IsMeant (MeansEach T.meant trees) found) depth
         source.old.reader source.new.reader) }
@@ -51,7 +51,7 @@ fn with_item<T: Drop>(
 impl<T: JsonText> JsonText for Items<T> {
     ghost meant = { MeansList T.meant };
 
-    fn from_token(token: Token<'_>, source: &mut Source<'_>, depth: usize) -> Reading<Self> {
+    fn from_token(token: Token<'_>, source: &mut TextSource<'_>, depth: usize) -> Reading<Self> {
         if let Token::BeginArray = token {
             if depth == 0 {
                 return Err(Stop::Syntax);

@@ -10,7 +10,7 @@ ghost use Rattle.scale_info_json_text.specs.MemberLaws.{put_elsewhere};
 
 use crate::found::Found;
 use crate::json_text::{JsonText, read_value};
-use crate::source::Source;
+use crate::source::TextSource;
 use crate::stop::Stop;
 use scale_info_collections::items::Items;
 use std::alloc::Global;
@@ -31,7 +31,7 @@ pub enum Member<T> {
 /// Errors: `Syntax`, where no tree's text comes next; `Memory`, if an allocation failed.
 fn read_under<T: JsonText>(
     found: &mut Member<T>,
-    source: &mut Source<'_>,
+    source: &mut TextSource<'_>,
     depth: usize,
 ) -> Result<(), Stop>
     ensures ok { OnOk result (Reads (λ tree. HoldsAt T.meant found.new (Some tree)) depth
@@ -63,7 +63,7 @@ impl<T: JsonText> Found for Member<T> {
         &mut self,
         wanted: &'static str,
         key: &str,
-        source: &mut Source<'_>,
+        source: &mut TextSource<'_>,
         depth: usize,
     ) -> Result<bool, Stop> {
         if key == wanted {

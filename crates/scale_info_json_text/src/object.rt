@@ -7,7 +7,7 @@ ghost use Rattle.scale_info_json_text.specs.Readings.{IfSyntax, IsMeant, Reads, 
 
 use crate::found::{Found, read_members};
 use crate::pass::pass_rest;
-use crate::source::{Reading, Source};
+use crate::source::{Reading, TextSource};
 use crate::stop::Stop;
 use json::Token;
 use std::alloc::Global;
@@ -35,7 +35,7 @@ pub trait JsonObject<F>: Drop {
 pub fn read_object<F: Found, T: JsonObject<F>>(
     keys: F::Keys,
     token: Token<'_>,
-    source: &mut Source<'_>,
+    source: &mut TextSource<'_>,
     depth: usize,
 ) -> Reading<T>
     requires distinct { F.distinct keys }

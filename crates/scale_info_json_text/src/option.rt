@@ -2,14 +2,14 @@
 ghost use Rattle.scale_info_json_trees.specs.Meaning.{MeansOrNull};
 
 use crate::json_text::JsonText;
-use crate::source::{Reading, Source};
+use crate::source::{Reading, TextSource};
 use json::Token;
 
 /// None is null.
 impl<T: JsonText> JsonText for Option<T> {
     ghost meant = { MeansOrNull T.meant };
 
-    fn from_token(token: Token<'_>, source: &mut Source<'_>, depth: usize) -> Reading<Self> {
+    fn from_token(token: Token<'_>, source: &mut TextSource<'_>, depth: usize) -> Reading<Self> {
         if let Token::Null = token {
             return Ok(Some(None));
         }

@@ -11,7 +11,7 @@ ghost use Rattle.scale_info_json_text.specs.Members.{HoldsOne, HoldsTwo};
 use crate::json_text::JsonText;
 use crate::member::{Member, list_or_empty, required};
 use crate::object::{JsonObject, read_object};
-use crate::source::{Reading, Source};
+use crate::source::{Reading, TextSource};
 use json::Token;
 use scale_info_collections::items::Items;
 use scale_info_identities::symbol::UntrackedSymbol;
@@ -47,7 +47,7 @@ impl JsonObject<Member<Items<Field<PortableForm>>>> for TypeDefComposite<Portabl
 impl JsonText for TypeDefComposite<PortableForm> {
     ghost meant = { MeansComposite };
 
-    fn from_token(token: Token<'_>, source: &mut Source<'_>, depth: usize) -> Reading<Self> {
+    fn from_token(token: Token<'_>, source: &mut TextSource<'_>, depth: usize) -> Reading<Self> {
         read_object::<Member<Items<Field<PortableForm>>>, Self>("fields", token, source, depth)
     }
 }
@@ -71,7 +71,7 @@ impl JsonObject<Member<Items<Variant<PortableForm>>>> for TypeDefVariant<Portabl
 impl JsonText for TypeDefVariant<PortableForm> {
     ghost meant = { MeansVariantType };
 
-    fn from_token(token: Token<'_>, source: &mut Source<'_>, depth: usize) -> Reading<Self> {
+    fn from_token(token: Token<'_>, source: &mut TextSource<'_>, depth: usize) -> Reading<Self> {
         read_object::<Member<Items<Variant<PortableForm>>>, Self>("variants", token, source, depth)
     }
 }
@@ -91,7 +91,7 @@ impl JsonObject<FoundId> for TypeDefSequence<PortableForm> {
 impl JsonText for TypeDefSequence<PortableForm> {
     ghost meant = { MeansSequence };
 
-    fn from_token(token: Token<'_>, source: &mut Source<'_>, depth: usize) -> Reading<Self> {
+    fn from_token(token: Token<'_>, source: &mut TextSource<'_>, depth: usize) -> Reading<Self> {
         read_object::<FoundId, Self>("type", token, source, depth)
     }
 }
@@ -113,7 +113,7 @@ impl JsonObject<(Member<u32>, FoundId)> for TypeDefArray<PortableForm> {
 impl JsonText for TypeDefArray<PortableForm> {
     ghost meant = { MeansArray };
 
-    fn from_token(token: Token<'_>, source: &mut Source<'_>, depth: usize) -> Reading<Self> {
+    fn from_token(token: Token<'_>, source: &mut TextSource<'_>, depth: usize) -> Reading<Self> {
         read_object::<(Member<u32>, FoundId), Self>(("len", "type"), token, source, depth)
     }
 }
@@ -121,7 +121,7 @@ impl JsonText for TypeDefArray<PortableForm> {
 impl JsonText for TypeDefTuple<PortableForm> {
     ghost meant = { λ tree v. MeansList MeansId tree v.fields };
 
-    fn from_token(token: Token<'_>, source: &mut Source<'_>, depth: usize) -> Reading<Self> {
+    fn from_token(token: Token<'_>, source: &mut TextSource<'_>, depth: usize) -> Reading<Self> {
         let fields: Option<Items<UntrackedSymbol<TypeId>>> = Items::from_token(
             token, source, depth,
         )?;
@@ -147,7 +147,7 @@ impl JsonObject<FoundId> for TypeDefCompact<PortableForm> {
 impl JsonText for TypeDefCompact<PortableForm> {
     ghost meant = { MeansCompact };
 
-    fn from_token(token: Token<'_>, source: &mut Source<'_>, depth: usize) -> Reading<Self> {
+    fn from_token(token: Token<'_>, source: &mut TextSource<'_>, depth: usize) -> Reading<Self> {
         read_object::<FoundId, Self>("type", token, source, depth)
     }
 }
@@ -172,7 +172,7 @@ impl JsonObject<(FoundId, FoundId)> for TypeDefBitSequence<PortableForm> {
 impl JsonText for TypeDefBitSequence<PortableForm> {
     ghost meant = { MeansBitSequence };
 
-    fn from_token(token: Token<'_>, source: &mut Source<'_>, depth: usize) -> Reading<Self> {
+    fn from_token(token: Token<'_>, source: &mut TextSource<'_>, depth: usize) -> Reading<Self> {
         read_object::<(FoundId, FoundId), Self>(
             ("bit_store_type", "bit_order_type"),
             token,
@@ -199,7 +199,7 @@ impl JsonObject<(FoundId, FoundId)> for TypeDefMap<PortableForm> {
 impl JsonText for TypeDefMap<PortableForm> {
     ghost meant = { MeansMap };
 
-    fn from_token(token: Token<'_>, source: &mut Source<'_>, depth: usize) -> Reading<Self> {
+    fn from_token(token: Token<'_>, source: &mut TextSource<'_>, depth: usize) -> Reading<Self> {
         read_object::<(FoundId, FoundId), Self>(("key", "value"), token, source, depth)
     }
 }

@@ -2,7 +2,7 @@
 ghost use Rattle.std.specs.Prelude.{◌≡◌, codes, Some, None, IfOk, IfErr};
 ghost use Rattle.serde_json.specs.Data.{Data};
 ghost use Rattle.serde_json.specs.Read.{read};
-ghost use Rattle.scale_info_json.specs.JsonTables.{MeansTable};
+ghost use Rattle.scale_info_json_tree.specs.JsonTables.{MeansTable};
 ghost use Rattle.scale_info_json_trees.specs.EntryTrees.{MeansEntry};
 ghost use Rattle.scale_info_json_trees.specs.Meaning.{MeansList};
 ghost use Rattle.scale_info_json_text.specs.Members.{HoldsOne};
@@ -13,11 +13,11 @@ use crate::error::JsonTextError;
 use crate::json_text::{JsonText, read_value};
 use crate::member::{Member, required};
 use crate::object::{JsonObject, read_object};
-use crate::source::{Reading, Source};
+use crate::source::{Reading, TextSource};
 use crate::stop::Stop;
 use json::{Reader, Scratch, Token};
 use scale_info_collections::items::Items;
-use scale_info_tables::portable::PortableRegistry;
+use scale_info_table::portable::PortableRegistry;
 use scale_info_types::ty::PortableType;
 use std::alloc::Global;
 
@@ -40,7 +40,7 @@ impl JsonObject<Member<Items<PortableType>>> for PortableRegistry {
 impl JsonText for PortableRegistry {
     ghost meant = { MeansTable };
 
-    fn from_token(token: Token<'_>, source: &mut Source<'_>, depth: usize) -> Reading<Self> {
+    fn from_token(token: Token<'_>, source: &mut TextSource<'_>, depth: usize) -> Reading<Self> {
         read_object::<Member<Items<PortableType>>, Self>("types", token, source, depth)
     }
 }
@@ -54,7 +54,7 @@ fn read_whole(alloc: Global, text: &str, scratch: &mut Scratch) -> Reading<Porta
     ensures syntax { IfErr result (IfSyntax (read text.now ≡ None)) }
 {
     let reader = Reader::new(text, scratch)?;
-    let mut source = Source { reader, alloc };
+    let mut source = TextSource { reader, alloc };
     let found = read_value(&mut source, MAX_DEPTH)?;
     match source.reader.next() {
         Some(_) => Err(Stop::Syntax),

@@ -5,7 +5,7 @@ use std::alloc::Global;
 
 /// A text that is being read, and where the values that it means are made.
 #[derive(Drop)]
-pub struct Source<'a> {
+pub struct TextSource<'a> {
     /// What is left of the text.
     pub reader: Reader<'a>,
     /// The allocator of the values.

@@ -6,8 +6,8 @@
 #![tactic(auto)]
 
 pub mod entries;
+mod id;
 mod integer;
-mod interner;
 mod list;
 mod option;
 mod pair;

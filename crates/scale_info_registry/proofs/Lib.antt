@@ -1,7 +1,7 @@
+mod BorrowedTypes
 mod Composed
 mod Conversions
 pub mod Enumerated
-mod LentTypes
 mod Numbered
 mod Registered
 mod Steps

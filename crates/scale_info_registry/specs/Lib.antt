@@ -1,4 +1,4 @@
 pub mod RegistryParts
 pub mod Registrations
 pub mod RegistryLaws
-pub mod LentTypes
+pub mod BorrowedTypes

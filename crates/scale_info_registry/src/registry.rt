@@ -67,15 +67,15 @@ use scale_info_types::ty::Type;
 use std::alloc::{AllocError, Global};
 use std::marker::Model;
 
+mod borrowed;
 mod closed;
 mod conversion;
 mod equality;
 mod into_portable;
-mod lent;
 mod registry_types;
 
+pub use borrowed::{BorrowedTypes, TypeNumbers, borrow_types};
 pub use into_portable::IntoPortable;
-pub use lent::{LentTypes, TypeNumbers, lend_types};
 pub use registry_types::RegistryTypes;
 pub use scale_info_catalogue::discovery::RegisterError;
 

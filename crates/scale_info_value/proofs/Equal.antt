@@ -6,18 +6,18 @@ use Rattle.std.specs.Option.{option_eq}
 use lib.IntN.{ℤ}
 use lib.Pointwise.{pointwise}
 use mathlib.Core.Bool.{beq}
-use Rattle.scale_info_value.specs.declared.value.Dyn.{Dyn}
-use Rattle.scale_info_value.specs.declared.value.Dyn.TheOpen.{Dyn-F}
-use Rattle.scale_info_value.specs.declared.value.Dyn.TheOpen as layer
-use Rattle.scale_info_value.specs.declared.value.Dyn.TheViews.{out-Dyn, roll-Dyn, out-roll-Dyn}
-use Rattle.scale_info_value.specs.declared.value.Dyn.TheViews.{roll-out-Dyn}
-use Rattle.scale_info_value.specs.contracts.value.DynPartialEq.TheImpl.Laws.{is, unfolded}
-use Rattle.scale_info_value.specs.contracts.value.DynPartialEq.TheImpl.{ghosts}
+use Rattle.scale_info_value.specs.declared.value.Value.{Value}
+use Rattle.scale_info_value.specs.declared.value.Value.TheOpen.{Value-F}
+use Rattle.scale_info_value.specs.declared.value.Value.TheOpen as layer
+use Rattle.scale_info_value.specs.declared.value.Value.TheViews.{out-Value, roll-Value, out-roll-Value}
+use Rattle.scale_info_value.specs.declared.value.Value.TheViews.{roll-out-Value}
+use Rattle.scale_info_value.specs.contracts.value.ValuePartialEq.TheImpl.Laws.{is, unfolded}
+use Rattle.scale_info_value.specs.contracts.value.ValuePartialEq.TheImpl.{ghosts}
 use Rattle.scale_info_value.proofs.ByLayers.{Known, lower, by_layers}
 
 -- nothing else is equal to this value
-abbrev Same : Dyn → Type 0
-Same d = (e : Dyn) → IsTrue (ghosts.eq d e) → d ≡ e
+abbrev Same : Value → Type 0
+Same d = (e : Value) → IsTrue (ghosts.eq d e) → d ≡ e
 
 both : (p q : Bool) → IsTrue (p && q) → IsTrue p × IsTrue q
 both true q h = (refl, h)
@@ -60,14 +60,14 @@ same_list f eq law (k ∷ ks) (x ∷ xs) h =
 abbrev Fields : Type 0 → Type 0
 Fields X = List (Option (List ℕ) × X)
 
-abbrev field_eq : Option (List ℕ) × Dyn → Option (List ℕ) × Dyn → Bool
+abbrev field_eq : Option (List ℕ) × Value → Option (List ℕ) × Value → Bool
 field_eq a b = option_eq (pointwise ◌==◌) a.0 b.0 && ghosts.eq a.1 b.1
 
-abbrev fields : Fields (Known Same) → Fields Dyn
+abbrev fields : Fields (Known Same) → Fields Value
 fields known = map (λ field. (field.0, field.1.0)) known
 
 same_fields :
-    (ks : Fields (Known Same)) (xs : Fields Dyn) → IsTrue (pointwise field_eq (fields ks) xs)
+    (ks : Fields (Known Same)) (xs : Fields Value) → IsTrue (pointwise field_eq (fields ks) xs)
     → fields ks ≡ xs
 same_fields ks xs =
     same_list (λ (field : Option (List ℕ) × Known Same). (field.0, field.1.0)) field_eq
@@ -75,7 +75,7 @@ same_fields ks xs =
 
 -- layers of equal values are one layer
 forward :
-    (y : Dyn-F (Known Same)) (z : Dyn-F Dyn) (d e : Dyn) → out-Dyn d ≡ lower Same y → out-Dyn e ≡ z
+    (y : Value-F (Known Same)) (z : Value-F Value) (d e : Value) → out-Value d ≡ lower Same y → out-Value e ≡ z
     → IsTrue (unfolded d e) → lower Same y ≡ z
 forward (layer.Bool a) (layer.Bool b) d e p q = rw (p, q) (λ h. ap layer.Bool (same_truth a b h))
 forward (layer.Unsigned a) (layer.Unsigned b) d e p q =
@@ -95,9 +95,9 @@ forward (layer.Variant n i f) (layer.Variant m j g) d e p q =
 forward y z d e p q = rw (p, q) (λ h. cc)
 
 -- equal values are one
-pub one_value : (d e : Dyn) → IsTrue (ghosts.eq d e) → d ≡ e
+pub one_value : (d e : Value) → IsTrue (ghosts.eq d e) → d ≡ e
 one_value =
     by_layers Same (λ y e h.
-    let d = roll-Dyn (lower Same y) in
-    ap roll-Dyn (forward y (out-Dyn e) d e (out-roll-Dyn (lower Same y)) refl (subst IsTrue (is d e) h))
-    ∙ roll-out-Dyn e)
+    let d = roll-Value (lower Same y) in
+    ap roll-Value (forward y (out-Value e) d e (out-roll-Value (lower Same y)) refl (subst IsTrue (is d e) h))
+    ∙ roll-out-Value e)

@@ -8,8 +8,8 @@ use Rattle.std.proofs.Math.Nat.{mul-le-mul_left, suc-mul, pow-succ'}
 use Rattle.std.specs.Int.{w16, w32, w64, from_le_bytes, byte_len, cast_signed}
 use Rattle.std.specs.Prelude.{if◌then◌else◌}
 use Rattle.scale_info_value.specs.declared.integer.IntegerWidth.{IntegerWidth}
-use Rattle.scale_info_value.specs.declared.value.Dyn.{Dyn}
-use Rattle.scale_info_value.specs.declared.value.Dyn.TheVariants as dyn
+use Rattle.scale_info_value.specs.declared.value.Value.{Value}
+use Rattle.scale_info_value.specs.declared.value.Value.TheVariants as Values
 use Rattle.scale_info_value.specs.Outcomes.{Outcome, Decoder, decoded, failed, malformed, and_then, outcome_map}
 use Rattle.scale_info_value.specs.Outcomes.{in_turn}
 use Rattle.scale_info_value.specs.IntegerDecoders.{bytes, integer, little_endian}
@@ -41,7 +41,7 @@ value_read f width input value front back long is e g =
 
 -- an integer that was read so
 pub integer_read :
-    (w : IntegerWidth) (signed : Bool) (width : ℕ) (input : List ℕ) (value : Dyn) (front back : List ℕ)
+    (w : IntegerWidth) (signed : Bool) (width : ℕ) (input : List ℕ) (value : Value) (front back : List ℕ)
     → width ≤ length input → width ≡ byte_len (width_of w) → value ≡ integer_of w signed front
     → front ≡ take width input → back ≡ drop width input
     → integer_within w signed input ≡ decoded value back
@@ -77,14 +77,14 @@ values_missing f (suc n) width input h =
 
 -- a failure after a truth value, or in its place
 then_fails :
-    (zero_there one_there : Bool) (input : List ℕ) (next : Decoder (List Dyn)) → next input ≡ failed malformed
+    (zero_there one_there : Bool) (input : List ℕ) (next : Decoder (List Value)) → next input ≡ failed malformed
     → and_then
-    (if zero_there then decoded (dyn.Bool false) input
-    else if one_there then decoded (dyn.Bool true) input else failed malformed)
+    (if zero_there then decoded (Values.Bool false) input
+    else if one_there then decoded (Values.Bool true) input else failed malformed)
     (λ value rest. outcome_map (λ values. value ∷ values) (next rest))
     ≡ failed malformed
-then_fails true one_there input next e = ap (λ o. outcome_map (λ values. dyn.Bool false ∷ values) o) e
-then_fails false true input next e = ap (λ o. outcome_map (λ values. dyn.Bool true ∷ values) o) e
+then_fails true one_there input next e = ap (λ o. outcome_map (λ values. Values.Bool false ∷ values) o) e
+then_fails false true input next e = ap (λ o. outcome_map (λ values. Values.Bool true ∷ values) o) e
 then_fails false false input next e = refl
 
 -- where there are not so many bytes, there are not so many truth values
@@ -199,13 +199,13 @@ by_bytes f (failed why) = refl
 -- an integer without a sign
 pub unsigned_within :
     (w : IntegerWidth) (input : List ℕ)
-    → outcome_map dyn.Unsigned (integer (byte_len (width_of w)) input) ≡ integer_within w false input
-unsigned_within w input = by_bytes dyn.Unsigned (bytes (byte_len (width_of w)) input)
+    → outcome_map Values.Unsigned (integer (byte_len (width_of w)) input) ≡ integer_within w false input
+unsigned_within w input = by_bytes Values.Unsigned (bytes (byte_len (width_of w)) input)
 
 -- and one with a sign
 pub signed_within :
     (w : IntegerWidth) (input : List ℕ)
-    → outcome_map (λ n. dyn.Signed (cast_signed (width_of w) n)) (integer (byte_len (width_of w)) input)
+    → outcome_map (λ n. Values.Signed (cast_signed (width_of w) n)) (integer (byte_len (width_of w)) input)
     ≡ integer_within w true input
 signed_within w input =
-    by_bytes (λ n. dyn.Signed (cast_signed (width_of w) n)) (bytes (byte_len (width_of w)) input)
+    by_bytes (λ n. Values.Signed (cast_signed (width_of w) n)) (bytes (byte_len (width_of w)) input)

@@ -5,7 +5,7 @@ use Rattle.std.proofs.Common.{option_map, refl, ap, sym, ◌∙◌, arith}
 use Rattle.scale_info_types.specs.Portable.{Text, TypeDef, Description}
 use Rattle.scale_info_types.specs.declared.ty.TypeDef.{TypeDef as AnyTypeDef}
 use Rattle.scale_info_types.specs.Shapes.{map_definition}
-use Rattle.scale_info_tables.specs.declared.portable.PortableRegistry.{PortableRegistry}
+use Rattle.scale_info_table.specs.declared.portable.PortableRegistry.{PortableRegistry}
 use Rattle.scale_info_value.specs.Readings.{type_at, by_type}
 
 -- What comes of a value, a `V`, and of a compact integer, a `C`: where no level is left, at an id

@@ -5,9 +5,9 @@ use Rattle.std.proofs.Common.{cond, Bool, true, false, option_map, refl, ap, sym
 use Rattle.scale_info_types.specs.Portable.{Id, Field, Variant, TypeDef, TypeDefComposite}
 use Rattle.scale_info_types.specs.Shapes.{map_variant}
 use Rattle.scale_info_types.specs.declared.ty.TypeDef.TheVariants as def
-use Rattle.scale_info_tables.specs.declared.portable.PortableRegistry.{PortableRegistry}
-use Rattle.scale_info_value.specs.declared.value.Dyn.{Dyn}
-use Rattle.scale_info_value.specs.declared.value.Dyn.TheVariants as dyn
+use Rattle.scale_info_table.specs.declared.portable.PortableRegistry.{PortableRegistry}
+use Rattle.scale_info_value.specs.declared.value.Value.{Value}
+use Rattle.scale_info_value.specs.declared.value.Value.TheVariants as Values
 use Rattle.scale_info_value.specs.Outcomes.{Decoder, decoded, failed, too_deep, no_such_type, malformed}
 use Rattle.scale_info_value.specs.Outcomes.{and_then, outcome_map, in_turn}
 use Rattle.scale_info_value.specs.IntegerDecoders.{byte}
@@ -19,7 +19,7 @@ use Rattle.scale_info_value.specs.Readings.{fields_within, part_within, variant_
 use Rattle.scale_info_value.proofs.Levels.{Levels, both_at, levels_end, levels_missing, levels_known}
 
 -- readings are levels
-unfoldable pub readings : Levels (Decoder Dyn) (Decoder ℕ) Part
+unfoldable pub readings : Levels (Decoder Value) (Decoder ℕ) Part
 unfolding value_within compact_within
 readings = record {
   deep = λ input. failed too_deep;
@@ -84,8 +84,8 @@ pub composite_is :
     (left : ℕ) (table : PortableRegistry) (composite : TypeDefComposite) (fs : List Field) (input : List ℕ)
     → fs ≡ composite.fields
     → definition_within left table (def.Composite composite) input
-    ≡ outcome_map dyn.Record (fields_within left table fs input)
-composite_is left table composite fs input f = ap (λ l. outcome_map dyn.Record (fields_within left table l input)) (sym f)
+    ≡ outcome_map Values.Record (fields_within left table fs input)
+composite_is left table composite fs input f = ap (λ l. outcome_map Values.Record (fields_within left table l input)) (sym f)
 
 -- after an index byte, an enum goes by the first variant with that index
 variant_by :
@@ -115,11 +115,11 @@ pub variant_found :
     (fs : List Field)
     → byte input ≡ decoded index rest → find (λ v. v.index == index) vs ≡ Some v → fs ≡ v.fields
     → variant_within left table vs input
-    ≡ outcome_map (λ values. dyn.Variant v.name index values) (fields_within left table fs rest)
+    ≡ outcome_map (λ values. Values.Variant v.name index values) (fields_within left table fs rest)
 variant_found left table vs input rest index v fs f g h =
     variant_by left table vs input rest index f
     ∙ ap (λ o. fields_of index (option_map (map_variant {G = Unit {0}} (part_within left table) (λ t. t)) o) rest) g
-    ∙ ap (λ l. outcome_map (λ values. dyn.Variant v.name index values) (fields_within left table l rest)) (sym h)
+    ∙ ap (λ l. outcome_map (λ values. Values.Variant v.name index values) (fields_within left table l rest)) (sym h)
 
 -- so many values of a primitive
 pub primitives_are :

@@ -13,8 +13,8 @@ use Rattle.scale_info_bytes.specs.Encodings.{HasPrefix, IsByte}
 use Rattle.scale_info_bytes.specs.Integers.{EncodesCompact}
 use Rattle.scale_info_bytes.specs.PartLaws.{concatenation}
 use Rattle.scale_info_bytes.specs.Strings.{EncodesText}
-use Rattle.scale_info_value.specs.declared.value.Dyn.{Dyn}
-use Rattle.scale_info_value.specs.declared.value.Dyn.TheVariants as dyn
+use Rattle.scale_info_value.specs.declared.value.Value.{Value}
+use Rattle.scale_info_value.specs.declared.value.Value.TheVariants as Values
 use Rattle.scale_info_value.specs.Outcomes.{Outcome, decoded, failed, malformed, and_then}
 use Rattle.scale_info_value.specs.IntegerDecoders.{bytes, count}
 use Rattle.scale_info_value.specs.ValueDefinitions.{text}
@@ -22,8 +22,8 @@ use Rattle.scale_info_value.proofs.Counts as counts
 use Rattle.scale_info_value.proofs.Decoded as decoded_counts
 
 -- the text, if the bytes were found to be UTF-8
-if_utf8 : Bool → List ℕ → List ℕ → Outcome Dyn
-if_utf8 b all after = if b then decoded (dyn.Text all) after else failed malformed
+if_utf8 : Bool → List ℕ → List ℕ → Outcome Value
+if_utf8 b all after = if b then decoded (Values.Text all) after else failed malformed
 
 not_utf8 : (b : Bool) (all after : List ℕ) → (b ≡ true → ⊥) → if_utf8 b all after ≡ failed malformed
 unfolding if_utf8
@@ -42,11 +42,11 @@ by_bytes input rest all after n e f =
 pub text_decoded :
     (input rest all after : List ℕ) (n : ℕ) (copy : List ℕ)
     → count input ≡ decoded n rest → bytes n rest ≡ decoded all after → IsUtf8 all → copy ≡ all
-    → text input ≡ decoded (dyn.Text copy) after
+    → text input ≡ decoded (Values.Text copy) after
 unfolding if_utf8
 text_decoded input rest all after n copy e f u h =
     by_bytes input rest all after n e f ∙ ap (λ b. if_utf8 b all after) (is_utf8-from_IsUtf8 all u)
-    ∙ ap (λ t. decoded (dyn.Text t) after) (sym h)
+    ∙ ap (λ t. decoded (Values.Text t) after) (sym h)
 
 -- other bytes are none
 pub text_failed :
@@ -72,7 +72,7 @@ bytes_of t rest =
 
 -- each encoding of a text is decoded, whatever follows it
 pub encoded :
-    (t b rest : List ℕ) → EncodesText t b → text (b ++ rest) ≡ decoded (dyn.Text t) rest
+    (t b rest : List ℕ) → EncodesText t b → text (b ++ rest) ≡ decoded (Values.Text t) rest
 encoded t b rest e =
     let c = e.counted in
     let parts : b ≡ c.first ++ t = c.parts ∙ ap (λ s. c.first ++ s) c.encodes_second in
@@ -93,7 +93,7 @@ bytes_inverse n rest t after e =
     (ap length (sym p) ∙ length-take-le n rest long, (λ i. sym p i ++ sym q i) ∙ take-append-drop n rest)
 
 utf8_parts :
-    (b : Bool) (all after t s : List ℕ) → if_utf8 b all after ≡ decoded (dyn.Text t) s
+    (b : Bool) (all after t s : List ℕ) → if_utf8 b all after ≡ decoded (Values.Text t) s
     → (b ≡ true) × (all ≡ t) × (after ≡ s)
 unfolding if_utf8
 utf8_parts true all after t s e =
@@ -104,7 +104,7 @@ utf8_parts false all after t s e = cc
 
 bytes_parts :
     (o : Outcome (List ℕ)) (t s : List ℕ)
-    → and_then o (λ all after. if_utf8 (is_utf8 all) all after) ≡ decoded (dyn.Text t) s
+    → and_then o (λ all after. if_utf8 (is_utf8 all) all after) ≡ decoded (Values.Text t) s
     → (o ≡ decoded t s) × IsUtf8 t
 bytes_parts (decoded all after) t s e =
     let p = utf8_parts (is_utf8 all) all after t s e in
@@ -114,7 +114,7 @@ bytes_parts (failed why) t s e = cc
 text_parts :
     (o : Outcome ℕ) (t s : List ℕ)
     → and_then o (λ n rest. and_then (bytes n rest) (λ all after. if_utf8 (is_utf8 all) all after))
-    ≡ decoded (dyn.Text t) s
+    ≡ decoded (Values.Text t) s
     → (n : ℕ) × (rest : List ℕ) × (o ≡ decoded n rest) × (bytes n rest ≡ decoded t s) × IsUtf8 t
 text_parts (decoded n rest) t s e =
     let p = bytes_parts (bytes n rest) t s e in
@@ -123,7 +123,7 @@ text_parts (failed why) t s e = cc
 
 -- what is decoded as a text is an encoding of it
 pub nothing_else :
-    (input rest t : List ℕ) → AllByRecursion IsByte input → text input ≡ decoded (dyn.Text t) rest
+    (input rest t : List ℕ) → AllByRecursion IsByte input → text input ≡ decoded (Values.Text t) rest
     → HasPrefix (EncodesText t) input rest
 unfolding if_utf8
 nothing_else input rest t all e =

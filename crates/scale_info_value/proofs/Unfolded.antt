@@ -11,9 +11,9 @@ use Rattle.scale_info_types.specs.References.{references}
 use Rattle.scale_info_types.specs.declared.ty.PortableType.{PortableType}
 use Rattle.scale_info_numberings.specs.Systems.{Entry, System}
 use Rattle.scale_info_numberings.specs.Unfoldings.{Tree, node, tree, trees, tree_of, unfold_to}
-use Rattle.scale_info_tables.specs.TableSystems.{system_of}
+use Rattle.scale_info_table.specs.TableSystems.{system_of}
 use Rattle.scale_info_walk.specs.TypeSystems.{entry_of}
-use Rattle.scale_info_tables.specs.declared.portable.PortableRegistry.{PortableRegistry}
+use Rattle.scale_info_table.specs.declared.portable.PortableRegistry.{PortableRegistry}
 use Rattle.scale_info_value.specs.Readings.{by_type, reading, value_within, compact_within}
 use Rattle.scale_info_value.proofs.Levels.{Levels}
 use Rattle.scale_info_value.proofs.Steps.{readings}

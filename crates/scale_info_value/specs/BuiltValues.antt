@@ -4,16 +4,16 @@ use Rattle.std.specs.Borrow.{Bor}
 use Rattle.std.specs.Str.{bytes_eq}
 use Rattle.scale_info_types.specs.Portable.{Text, TypeDef}
 use Rattle.scale_info_types.specs.declared.ty.TypeDef.TheVariants as def
-use Rattle.scale_info_tables.specs.declared.portable.PortableRegistry.{PortableRegistry}
-use Rattle.scale_info_value.specs.declared.value.Dyn.{Dyn}
+use Rattle.scale_info_table.specs.declared.portable.PortableRegistry.{PortableRegistry}
+use Rattle.scale_info_value.specs.declared.value.Value.{Value}
 use Rattle.scale_info_value.specs.Readings.{type_at}
 
 -- the fields, each under its name
-abbrev pub named : List (Bor (List ℕ) × Dyn) → List (Option Text × Dyn)
+abbrev pub named : List (Bor (List ℕ) × Value) → List (Option Text × Value)
 named fields = map (λ field. (Some field.0.now, field.1)) fields
 
 -- the values as fields without names
-abbrev pub unnamed : List Dyn → List (Option Text × Dyn)
+abbrev pub unnamed : List Value → List (Option Text × Value)
 unnamed values = map (λ value. (None, value)) values
 
 -- the index of the first variant with that name, if this is an enum that has one

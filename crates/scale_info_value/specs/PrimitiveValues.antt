@@ -1,17 +1,17 @@
 -- Values of primitive types, as values.
 use Rattle.std.specs.Prelude.{FitsSigned}
 use Rattle.std.specs.Int.{w128}
-use Rattle.scale_info_value.specs.declared.value.Dyn.{Dyn}
-use Rattle.scale_info_value.specs.declared.value.Dyn.TheVariants as dyn
+use Rattle.scale_info_value.specs.declared.value.Value.{Value}
+use Rattle.scale_info_value.specs.declared.value.Value.TheVariants as Values
 use Rattle.scale_info_value.specs.declared.primitive.PrimitiveValue.{PrimitiveValue}
 use Rattle.scale_info_value.specs.declared.primitive.PrimitiveValue.TheVariants as primitive_value
 
 -- the value that has no parts
-abbrev pub dyn_of : PrimitiveValue → Dyn
-dyn_of (primitive_value.Bool b) = dyn.Bool b
-dyn_of (primitive_value.Unsigned n) = dyn.Unsigned n
-dyn_of (primitive_value.Signed n) = dyn.Signed n
-dyn_of (primitive_value.Text t) = dyn.Text t.now
+abbrev pub owned_value : PrimitiveValue → Value
+owned_value (primitive_value.Bool b) = Values.Bool b
+owned_value (primitive_value.Unsigned n) = Values.Unsigned n
+owned_value (primitive_value.Signed n) = Values.Signed n
+owned_value (primitive_value.Text t) = Values.Text t.now
 
 -- an integer with a sign has no more than 128 bits
 abbrev pub IsInRange : PrimitiveValue → Type 0

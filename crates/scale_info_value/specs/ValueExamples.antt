@@ -6,7 +6,7 @@ use Rattle.scale_info_types.specs.Portable.{TypeDef, Variant}
 use Rattle.scale_info_types.specs.declared.ty.TypeDef.TheVariants as def
 use Rattle.scale_info_primitives.specs.declared.primitive.TypeDefPrimitive.{TypeDefPrimitive}
 use Rattle.scale_info_primitives.specs.declared.primitive.TypeDefPrimitive.TheVariants as kind
-use Rattle.scale_info_tables.specs.declared.portable.PortableRegistry.{PortableRegistry}
+use Rattle.scale_info_table.specs.declared.portable.PortableRegistry.{PortableRegistry}
 
 -- the table of these definitions; its `id` fields are all 0, since nothing goes by them
 abbrev pub table_of : List TypeDef → PortableRegistry

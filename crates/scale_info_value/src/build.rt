@@ -4,24 +4,24 @@
 //! made of their parts:
 //!
 //! ```text
-//! let dest = Dyn::bytes(alloc, &account)?;
+//! let dest = Value::bytes(alloc, &account)?;
 //! let fields = vec![in alloc; ("dest", dest), ("amount", 5u128.into())]?;
-//! let call = Dyn::variant("transfer", 3, fields)?;
+//! let call = Value::variant("transfer", 3, fields)?;
 //! ```
 ghost use Rattle.std.specs.Prelude.{◌≡◌, IfOk, map, string_bytes};
-ghost use Rattle.scale_info_value.specs.declared.value.Dyn.TheVariants as dyn;
+ghost use Rattle.scale_info_value.specs.declared.value.Value.TheVariants as Values;
 ghost use Rattle.scale_info_value.specs.BuiltValues.{named, unnamed};
 
-use crate::value::Dyn;
+use crate::value::Value;
 use scale_info_collections::items::Items;
 use scale_info_collections::text::Text;
 use std::alloc::{AllocError, Global};
 
 /// The fields of a record or a variant, each with its name, if it has one.
-type Fields = Items<(Option<Text>, Dyn)>;
+type Fields = Items<(Option<Text>, Value)>;
 
 /// Fields under copies of their names.
-fn named_fields(fields: Vec<(&str, Dyn)>) -> Result<Fields, AllocError>
+fn named_fields(fields: Vec<(&str, Value)>) -> Result<Fields, AllocError>
     ensures { IfOk result (λ all. all ≡ named fields.entry.items) }
 {
     let alloc = *fields.allocator();
@@ -33,7 +33,7 @@ fn named_fields(fields: Vec<(&str, Dyn)>) -> Result<Fields, AllocError>
 }
 
 /// Fields without names.
-fn unnamed_fields(values: Vec<Dyn>) -> Result<Fields, AllocError>
+fn unnamed_fields(values: Vec<Value>) -> Result<Fields, AllocError>
     ensures { IfOk result (λ all. all ≡ unnamed values.items) }
 {
     let mut all = Items::with_capacity(*values.allocator(), values.len())?;
@@ -43,18 +43,18 @@ fn unnamed_fields(values: Vec<Dyn>) -> Result<Fields, AllocError>
     Ok(all)
 }
 
-impl Dyn {
+impl Value {
     /// A value of a struct whose fields have names, in the order of the type's fields.
     ///
     /// Errors: `AllocError`, if an allocation failed.
     ///
     /// ```text
-    /// let point = Dyn::record(vec![in alloc; ("x", 1u32.into()), ("y", 2u32.into())]?)?;
+    /// let point = Value::record(vec![in alloc; ("x", 1u32.into()), ("y", 2u32.into())]?)?;
     /// ```
-    pub fn record(fields: Vec<(&str, Dyn)>) -> Result<Dyn, AllocError>
-        ensures { IfOk result (λ value. value ≡ dyn.Record (named fields.entry.items)) }
+    pub fn record(fields: Vec<(&str, Value)>) -> Result<Value, AllocError>
+        ensures { IfOk result (λ value. value ≡ Values.Record (named fields.entry.items)) }
     {
-        Ok(Dyn::Record(named_fields(fields)?))
+        Ok(Value::Record(named_fields(fields)?))
     }
 
     /// A value of a struct whose fields have no names, as `struct Pair(u32, bool)`.
@@ -62,12 +62,12 @@ impl Dyn {
     /// Errors: `AllocError`, if an allocation failed.
     ///
     /// ```text
-    /// let pair = Dyn::unnamed(vec![in alloc; 1u32.into(), true.into()]?)?;
+    /// let pair = Value::unnamed(vec![in alloc; 1u32.into(), true.into()]?)?;
     /// ```
-    pub fn unnamed(values: Vec<Dyn>) -> Result<Dyn, AllocError>
-        ensures { IfOk result (λ value. value ≡ dyn.Record (unnamed values.items)) }
+    pub fn unnamed(values: Vec<Value>) -> Result<Value, AllocError>
+        ensures { IfOk result (λ value. value ≡ Values.Record (unnamed values.items)) }
     {
-        Ok(Dyn::Record(unnamed_fields(values)?))
+        Ok(Value::Record(unnamed_fields(values)?))
     }
 
     /// A variant whose fields have names, or that has none: then `fields` is `Vec::new(alloc)`.
@@ -80,13 +80,13 @@ impl Dyn {
     ///
     /// ```text
     /// let fields = vec![in alloc; ("dest", dest), ("amount", 5u128.into())]?;
-    /// let call = Dyn::variant("transfer", 3, fields)?;
+    /// let call = Value::variant("transfer", 3, fields)?;
     /// ```
-    pub fn variant(name: &str, index: u8, fields: Vec<(&str, Dyn)>) -> Result<Dyn, AllocError>
+    pub fn variant(name: &str, index: u8, fields: Vec<(&str, Value)>) -> Result<Value, AllocError>
         ensures { IfOk result
-            (λ value. value ≡ dyn.Variant name.now index (named fields.entry.items)) }
+            (λ value. value ≡ Values.Variant name.now index (named fields.entry.items)) }
     {
-        Ok(Dyn::Variant {
+        Ok(Value::Variant {
             name: Text::from_str(*fields.allocator(), name)?,
             index,
             fields: named_fields(fields)?,
@@ -94,18 +94,18 @@ impl Dyn {
     }
 
     /// A variant whose fields have no names, as `Some(5)`. It takes the index as
-    /// [`variant`](Dyn::variant) does.
+    /// [`variant`](Value::variant) does.
     ///
     /// Errors: `AllocError`, if an allocation failed.
     ///
     /// ```text
-    /// let some = Dyn::unnamed_variant("Some", 1, vec![in alloc; 5u32.into()]?)?;
+    /// let some = Value::unnamed_variant("Some", 1, vec![in alloc; 5u32.into()]?)?;
     /// ```
-    pub fn unnamed_variant(name: &str, index: u8, values: Vec<Dyn>) -> Result<Dyn, AllocError>
+    pub fn unnamed_variant(name: &str, index: u8, values: Vec<Value>) -> Result<Value, AllocError>
         ensures { IfOk result
-            (λ value. value ≡ dyn.Variant name.now index (unnamed values.items)) }
+            (λ value. value ≡ Values.Variant name.now index (unnamed values.items)) }
     {
-        Ok(Dyn::Variant {
+        Ok(Value::Variant {
             name: Text::from_str(*values.allocator(), name)?,
             index,
             fields: unnamed_fields(values)?,
@@ -116,12 +116,12 @@ impl Dyn {
     /// key and a value.
     ///
     /// ```text
-    /// let pair = Dyn::list(vec![in alloc; 1u32.into(), true.into()]?);
+    /// let pair = Value::list(vec![in alloc; 1u32.into(), true.into()]?);
     /// ```
-    pub fn list(values: Vec<Dyn>) -> Dyn
-        ensures { result ≡ dyn.List values.items }
+    pub fn list(values: Vec<Value>) -> Value
+        ensures { result ≡ Values.List values.items }
     {
-        Dyn::List(Items::from(values))
+        Value::List(Items::from(values))
     }
 
     /// A text.
@@ -129,12 +129,12 @@ impl Dyn {
     /// Errors: `AllocError`, if an allocation failed.
     ///
     /// ```text
-    /// let name = Dyn::text(alloc, "Alice")?;
+    /// let name = Value::text(alloc, "Alice")?;
     /// ```
-    pub fn text(alloc: Global, text: &str) -> Result<Dyn, AllocError>
-        ensures { IfOk result (λ value. value ≡ dyn.Text text.now) }
+    pub fn text(alloc: Global, text: &str) -> Result<Value, AllocError>
+        ensures { IfOk result (λ value. value ≡ Values.Text text.now) }
     {
-        Ok(Dyn::Text(Text::from_str(alloc, text)?))
+        Ok(Value::Text(Text::from_str(alloc, text)?))
     }
 
     /// Bytes: the list of their integers, as a value of `Vec<u8>` or `[u8; 32]` is.
@@ -142,119 +142,119 @@ impl Dyn {
     /// Errors: `AllocError`, if an allocation failed.
     ///
     /// ```text
-    /// let account = Dyn::bytes(alloc, &[1; 32])?;
+    /// let account = Value::bytes(alloc, &[1; 32])?;
     /// ```
-    pub fn bytes(alloc: Global, bytes: &[u8]) -> Result<Dyn, AllocError>
-        ensures { IfOk result (λ value. value ≡ dyn.List (map dyn.Unsigned bytes.now)) }
+    pub fn bytes(alloc: Global, bytes: &[u8]) -> Result<Value, AllocError>
+        ensures { IfOk result (λ value. value ≡ Values.List (map Values.Unsigned bytes.now)) }
     {
         let mut values = Items::with_capacity(alloc, bytes.len())?;
         for byte in bytes {
-            values.push(Dyn::from(*byte))?;
+            values.push(Value::from(*byte))?;
         }
-        Ok(Dyn::List(values))
+        Ok(Value::List(values))
     }
 }
 
-impl From<bool> for Dyn {
-    ghost from_gives = { λ truth value. value ≡ dyn.Bool truth };
+impl From<bool> for Value {
+    ghost from_gives = { λ truth value. value ≡ Values.Bool truth };
 
-    fn from(truth: bool) -> Dyn {
-        Dyn::Bool(truth)
+    fn from(truth: bool) -> Value {
+        Value::Bool(truth)
     }
 }
 
-impl From<u8> for Dyn {
-    ghost from_gives = { λ n value. value ≡ dyn.Unsigned n };
+impl From<u8> for Value {
+    ghost from_gives = { λ n value. value ≡ Values.Unsigned n };
 
-    fn from(n: u8) -> Dyn {
-        Dyn::Unsigned(u128::from(n))
+    fn from(n: u8) -> Value {
+        Value::Unsigned(u128::from(n))
     }
 }
 
-impl From<u16> for Dyn {
-    ghost from_gives = { λ n value. value ≡ dyn.Unsigned n };
+impl From<u16> for Value {
+    ghost from_gives = { λ n value. value ≡ Values.Unsigned n };
 
-    fn from(n: u16) -> Dyn {
-        Dyn::Unsigned(u128::from(n))
+    fn from(n: u16) -> Value {
+        Value::Unsigned(u128::from(n))
     }
 }
 
-impl From<u32> for Dyn {
-    ghost from_gives = { λ n value. value ≡ dyn.Unsigned n };
+impl From<u32> for Value {
+    ghost from_gives = { λ n value. value ≡ Values.Unsigned n };
 
-    fn from(n: u32) -> Dyn {
-        Dyn::Unsigned(u128::from(n))
+    fn from(n: u32) -> Value {
+        Value::Unsigned(u128::from(n))
     }
 }
 
-impl From<u64> for Dyn {
-    ghost from_gives = { λ n value. value ≡ dyn.Unsigned n };
+impl From<u64> for Value {
+    ghost from_gives = { λ n value. value ≡ Values.Unsigned n };
 
-    fn from(n: u64) -> Dyn {
-        Dyn::Unsigned(u128::from(n))
+    fn from(n: u64) -> Value {
+        Value::Unsigned(u128::from(n))
     }
 }
 
-impl From<u128> for Dyn {
-    ghost from_gives = { λ n value. value ≡ dyn.Unsigned n };
+impl From<u128> for Value {
+    ghost from_gives = { λ n value. value ≡ Values.Unsigned n };
 
-    fn from(n: u128) -> Dyn {
-        Dyn::Unsigned(n)
+    fn from(n: u128) -> Value {
+        Value::Unsigned(n)
     }
 }
 
-impl From<i8> for Dyn {
-    ghost from_gives = { λ n value. value ≡ dyn.Signed n };
+impl From<i8> for Value {
+    ghost from_gives = { λ n value. value ≡ Values.Signed n };
 
-    fn from(n: i8) -> Dyn {
-        Dyn::Signed(i128::from(n))
+    fn from(n: i8) -> Value {
+        Value::Signed(i128::from(n))
     }
 }
 
-impl From<i16> for Dyn {
-    ghost from_gives = { λ n value. value ≡ dyn.Signed n };
+impl From<i16> for Value {
+    ghost from_gives = { λ n value. value ≡ Values.Signed n };
 
-    fn from(n: i16) -> Dyn {
-        Dyn::Signed(i128::from(n))
+    fn from(n: i16) -> Value {
+        Value::Signed(i128::from(n))
     }
 }
 
-impl From<i32> for Dyn {
-    ghost from_gives = { λ n value. value ≡ dyn.Signed n };
+impl From<i32> for Value {
+    ghost from_gives = { λ n value. value ≡ Values.Signed n };
 
-    fn from(n: i32) -> Dyn {
-        Dyn::Signed(i128::from(n))
+    fn from(n: i32) -> Value {
+        Value::Signed(i128::from(n))
     }
 }
 
-impl From<i64> for Dyn {
-    ghost from_gives = { λ n value. value ≡ dyn.Signed n };
+impl From<i64> for Value {
+    ghost from_gives = { λ n value. value ≡ Values.Signed n };
 
-    fn from(n: i64) -> Dyn {
-        Dyn::Signed(i128::from(n))
+    fn from(n: i64) -> Value {
+        Value::Signed(i128::from(n))
     }
 }
 
-impl From<i128> for Dyn {
-    ghost from_gives = { λ n value. value ≡ dyn.Signed n };
+impl From<i128> for Value {
+    ghost from_gives = { λ n value. value ≡ Values.Signed n };
 
-    fn from(n: i128) -> Dyn {
-        Dyn::Signed(n)
+    fn from(n: i128) -> Value {
+        Value::Signed(n)
     }
 }
 
-impl From<Text> for Dyn {
-    ghost from_gives = { λ text value. value ≡ dyn.Text text };
+impl From<Text> for Value {
+    ghost from_gives = { λ text value. value ≡ Values.Text text };
 
-    fn from(text: Text) -> Dyn {
-        Dyn::Text(text)
+    fn from(text: Text) -> Value {
+        Value::Text(text)
     }
 }
 
-impl From<String> for Dyn {
-    ghost from_gives = { λ chars value. value ≡ dyn.Text (string_bytes chars) };
+impl From<String> for Value {
+    ghost from_gives = { λ chars value. value ≡ Values.Text (string_bytes chars) };
 
-    fn from(chars: String) -> Dyn {
-        Dyn::Text(Text::from(chars))
+    fn from(chars: String) -> Value {
+        Value::Text(Text::from(chars))
     }
 }

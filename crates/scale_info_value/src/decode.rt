@@ -1,7 +1,7 @@
 //! Values decoded by the definitions of their types.
 ghost use Rattle.std.specs.Prelude.{◌≡◌, ◌≤◌, ◌∷◌, [], IfOk, IfErr, replicate};
 ghost use Rattle.scale_info_types.specs.declared.ty.TypeDef.TheVariants as def;
-ghost use Rattle.scale_info_value.specs.declared.value.Dyn.TheVariants as dyn;
+ghost use Rattle.scale_info_value.specs.declared.value.Value.TheVariants as Values;
 ghost use Rattle.scale_info_value.specs.declared.value.ValueError.TheVariants as error;
 ghost use Rattle.scale_info_value.specs.Outcomes.{decoded, in_turn, IsErrorOf};
 ghost use Rattle.scale_info_value.specs.Readings.{value_within, definition_within, fields_within};
@@ -13,7 +13,7 @@ use crate::definition::{Definitions, definition_of};
 use crate::integer::{byte, count};
 use crate::list::primitives;
 use crate::primitive::primitive;
-use crate::value::{Dyn, ValueError};
+use crate::value::{Value, ValueError};
 use crate::variants::variant_with_index;
 use scale_info_collections::items::Items;
 use scale_info_collections::text::Text;
@@ -31,7 +31,7 @@ use std::alloc::Global;
 /// rest.
 ///
 /// An id is an index of the table that `table` stands for: a
-/// [`PortableRegistry`](scale_info_tables::portable::PortableRegistry) stands for itself, and what
+/// [`PortableRegistry`](scale_info_table::portable::PortableRegistry) stands for itself, and what
 /// was loaded of a table for that table (see [`Definitions`]). The parts of a value are decoded in
 /// order, and the first error is returned. Allocates for parts already decoded, and for the
 /// integers of a list once all their bytes are there, never for an announced count.
@@ -56,7 +56,7 @@ pub fn decode_value<'a, T: Definitions>(
     table: &T,
     id: u32,
     input: &'a [u8],
-) -> Result<(Dyn, &'a [u8]), ValueError>
+) -> Result<(Value, &'a [u8]), ValueError>
     ensures ok { IfOk result
         (λ found. reading (T.table table.now) id 1 input.now ≡ decoded found.0 found.1.now) }
     ensures err { IfErr result (IsErrorOf (reading (T.table table.now) id 1 input.now)) }
@@ -73,7 +73,7 @@ fn value_within<'a, T: Definitions>(
     id: u32,
     left: u8,
     input: &'a [u8],
-) -> Result<(Dyn, &'a [u8]), ValueError>
+) -> Result<(Value, &'a [u8]), ValueError>
     ensures ok { IfOk result
         (λ found. value_within left (T.table table.now) id input.now
         ≡ decoded found.0 found.1.now) }
@@ -95,7 +95,7 @@ fn value_by<'a, T: Definitions>(
     definition: &TypeDef<PortableForm>,
     left: u8,
     input: &'a [u8],
-) -> Result<(Dyn, &'a [u8]), ValueError>
+) -> Result<(Value, &'a [u8]), ValueError>
     requires { 1 ≤ left }
     ensures ok { IfOk result
         (λ found. definition_within left (T.table table.now) definition.now input.now
@@ -123,7 +123,7 @@ fn compact_value<'a, T: Definitions>(
     compact: &TypeDefCompact<PortableForm>,
     left: u8,
     input: &'a [u8],
-) -> Result<(Dyn, &'a [u8]), ValueError>
+) -> Result<(Value, &'a [u8]), ValueError>
     ensures ok { IfOk result
         (λ found. definition_within left (T.table table.now) (def.Compact compact.now) input.now
         ≡ decoded found.0 found.1.now) }
@@ -132,7 +132,7 @@ fn compact_value<'a, T: Definitions>(
         input.now)) }
 {
     let (integer, rest) = compact_within(table, compact.type_param.id, left, input)?;
-    Ok((Dyn::Unsigned(integer), rest))
+    Ok((Value::Unsigned(integer), rest))
 }
 
 /// A value of a struct, and the rest.
@@ -144,7 +144,7 @@ fn composite_value<'a, T: Definitions>(
     composite: &TypeDefComposite<PortableForm>,
     left: u8,
     input: &'a [u8],
-) -> Result<(Dyn, &'a [u8]), ValueError>
+) -> Result<(Value, &'a [u8]), ValueError>
     requires { 1 ≤ left }
     ensures ok { IfOk result
         (λ found. definition_within left (T.table table.now) (def.Composite composite.now) input.now
@@ -154,7 +154,7 @@ fn composite_value<'a, T: Definitions>(
         input.now)) }
 {
     let (values, rest) = fields(alloc, table, composite.fields.as_slice(), left, input)?;
-    Ok((Dyn::Record(values), rest))
+    Ok((Value::Record(values), rest))
 }
 
 /// A value of an enum, and the rest.
@@ -166,7 +166,7 @@ fn variant_value<'a, T: Definitions>(
     choice: &TypeDefVariant<PortableForm>,
     left: u8,
     input: &'a [u8],
-) -> Result<(Dyn, &'a [u8]), ValueError>
+) -> Result<(Value, &'a [u8]), ValueError>
     requires { 1 ≤ left }
     ensures ok { IfOk result
         (λ found. variant_within left (T.table table.now) choice.now.variants input.now
@@ -180,7 +180,7 @@ fn variant_value<'a, T: Definitions>(
         Some(variant) => {
             let (fields, rest) = fields(alloc, table, variant.fields.as_slice(), left, rest)?;
             let name = variant.name.try_clone(alloc)?;
-            let value = Dyn::Variant {
+            let value = Value::Variant {
                 name,
                 index,
                 fields,
@@ -199,7 +199,7 @@ fn sequence_value<'a, T: Definitions>(
     sequence: &TypeDefSequence<PortableForm>,
     left: u8,
     input: &'a [u8],
-) -> Result<(Dyn, &'a [u8]), ValueError>
+) -> Result<(Value, &'a [u8]), ValueError>
     requires { 1 ≤ left }
     ensures ok { IfOk result
         (λ found. definition_within left (T.table table.now) (def.Sequence sequence.now) input.now
@@ -210,7 +210,7 @@ fn sequence_value<'a, T: Definitions>(
 {
     let (count, rest) = count(input)?;
     let (values, rest) = items(alloc, table, &sequence.type_param, count, left, rest)?;
-    Ok((Dyn::List(values), rest))
+    Ok((Value::List(values), rest))
 }
 
 /// A value of an array, and the rest.
@@ -222,7 +222,7 @@ fn array_value<'a, T: Definitions>(
     array: &TypeDefArray<PortableForm>,
     left: u8,
     input: &'a [u8],
-) -> Result<(Dyn, &'a [u8]), ValueError>
+) -> Result<(Value, &'a [u8]), ValueError>
     requires { 1 ≤ left }
     ensures ok { IfOk result
         (λ found. definition_within left (T.table table.now) (def.Array array.now) input.now
@@ -231,7 +231,7 @@ fn array_value<'a, T: Definitions>(
         (IsErrorOf (definition_within left (T.table table.now) (def.Array array.now) input.now)) }
 {
     let (values, rest) = items(alloc, table, &array.type_param, array.len, left, input)?;
-    Ok((Dyn::List(values), rest))
+    Ok((Value::List(values), rest))
 }
 
 /// So many values of one type, and the rest. The type is looked up once for all of them.
@@ -244,7 +244,7 @@ fn items<'a, T: Definitions>(
     count: u32,
     left: u8,
     input: &'a [u8],
-) -> Result<(Items<Dyn>, &'a [u8]), ValueError>
+) -> Result<(Items<Value>, &'a [u8]), ValueError>
     requires { 1 ≤ left }
     ensures ok { IfOk result
         (λ found. items_within left (T.table table.now) ty.now count input.now
@@ -269,7 +269,7 @@ fn items_by<'a, T: Definitions>(
     count: u32,
     left: u8,
     input: &'a [u8],
-) -> Result<(Items<Dyn>, &'a [u8]), ValueError>
+) -> Result<(Items<Value>, &'a [u8]), ValueError>
     requires { 1 ≤ left }
     ensures ok { IfOk result
         (λ found.
@@ -301,7 +301,7 @@ fn tuple_value<'a, T: Definitions>(
     tuple: &TypeDefTuple<PortableForm>,
     left: u8,
     input: &'a [u8],
-) -> Result<(Dyn, &'a [u8]), ValueError>
+) -> Result<(Value, &'a [u8]), ValueError>
     requires { 1 ≤ left }
     ensures ok { IfOk result
         (λ found. definition_within left (T.table table.now) (def.Tuple tuple.now) input.now
@@ -310,7 +310,7 @@ fn tuple_value<'a, T: Definitions>(
         (IsErrorOf (definition_within left (T.table table.now) (def.Tuple tuple.now) input.now)) }
 {
     let (values, rest) = members(alloc, table, tuple.fields.as_slice(), left, input)?;
-    Ok((Dyn::List(values), rest))
+    Ok((Value::List(values), rest))
 }
 
 /// A value of each type in order, and the rest.
@@ -322,7 +322,7 @@ fn members<'a, T: Definitions>(
     types: &[UntrackedSymbol<TypeId>],
     left: u8,
     input: &'a [u8],
-) -> Result<(Items<Dyn>, &'a [u8]), ValueError>
+) -> Result<(Items<Value>, &'a [u8]), ValueError>
     requires { 1 ≤ left }
     ensures ok { IfOk result
         (λ found. members_within left (T.table table.now) types.now input.now
@@ -349,7 +349,7 @@ fn fields<'a, T: Definitions>(
     all: &[Field<PortableForm>],
     left: u8,
     input: &'a [u8],
-) -> Result<(Items<(Option<Text>, Dyn)>, &'a [u8]), ValueError>
+) -> Result<(Items<(Option<Text>, Value)>, &'a [u8]), ValueError>
     requires { 1 ≤ left }
     ensures ok { IfOk result
         (λ found. fields_within left (T.table table.now) all.now input.now
@@ -376,7 +376,7 @@ fn map_value<'a, T: Definitions>(
     map: &TypeDefMap<PortableForm>,
     left: u8,
     input: &'a [u8],
-) -> Result<(Dyn, &'a [u8]), ValueError>
+) -> Result<(Value, &'a [u8]), ValueError>
     requires { 1 ≤ left }
     ensures ok { IfOk result
         (λ found. definition_within left (T.table table.now) (def.Map map.now) input.now
@@ -386,7 +386,7 @@ fn map_value<'a, T: Definitions>(
 {
     let (count, rest) = count(input)?;
     let (values, rest) = pairs(alloc, table, map, count, left, rest)?;
-    Ok((Dyn::List(values), rest))
+    Ok((Value::List(values), rest))
 }
 
 /// So many pairs of a key and a value, each a list of two, and the rest.
@@ -399,7 +399,7 @@ fn pairs<'a, T: Definitions>(
     count: u32,
     left: u8,
     input: &'a [u8],
-) -> Result<(Items<Dyn>, &'a [u8]), ValueError>
+) -> Result<(Items<Value>, &'a [u8]), ValueError>
     requires { 1 ≤ left }
     ensures ok { IfOk result
         (λ found. pairs_within left (T.table table.now) map.now.key map.now.value count input.now
@@ -420,11 +420,11 @@ fn pairs<'a, T: Definitions>(
 
 /// The list of a key and a value.
 #[inline(never)]
-fn list_of_two(alloc: Global, key: Dyn, value: Dyn) -> Result<Dyn, ValueError>
-    ensures ok { IfOk result (λ pair. pair ≡ dyn.List (key ∷ value ∷ [])) }
+fn list_of_two(alloc: Global, key: Value, value: Value) -> Result<Value, ValueError>
+    ensures ok { IfOk result (λ pair. pair ≡ Values.List (key ∷ value ∷ [])) }
     ensures err { IfErr result (λ e. e ≡ error.Memory) }
 {
-    Ok(Dyn::list(vec![in alloc; key, value]?))
+    Ok(Value::list(vec![in alloc; key, value]?))
 }
 
 /// A key and a value, and the rest.
@@ -435,7 +435,7 @@ fn pair<'a, T: Definitions>(
     map: &TypeDefMap<PortableForm>,
     left: u8,
     input: &'a [u8],
-) -> Result<(Dyn, &'a [u8]), ValueError>
+) -> Result<(Value, &'a [u8]), ValueError>
     requires { 1 ≤ left }
     ensures ok { IfOk result
         (λ found. pair_within left (T.table table.now) map.now.key map.now.value input.now

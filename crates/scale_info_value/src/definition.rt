@@ -5,7 +5,7 @@ ghost use Rattle.scale_info_value.specs.Readings.{type_at, value_within, compact
 ghost use Rattle.scale_info_value.specs.Readings.{definition_within, compact_definition_within};
 
 use crate::value::Failure;
-pub use scale_info_tables::definitions::Definitions;
+pub use scale_info_table::definitions::Definitions;
 use scale_info_types::form::PortableForm;
 use scale_info_types::ty::TypeDef;
 

@@ -7,10 +7,10 @@ ghost use Rattle.scale_info_bytes.specs.Integers.{EncodesCompact};
 ghost use Rattle.scale_info_bytes.specs.Strings.{EncodesText};
 ghost use Rattle.scale_info_numberings.specs.Tables.{IsTable};
 ghost use Rattle.scale_info_numberings.specs.Unfoldings.{unfold_to};
-ghost use Rattle.scale_info_tables.specs.TableSystems.{system_of};
+ghost use Rattle.scale_info_table.specs.TableSystems.{system_of};
 ghost use Rattle.scale_info_walk.specs.TypeSystems.{entry_of};
-ghost use Rattle.scale_info_tables.specs.declared.portable.PortableRegistry.{PortableRegistry};
-ghost use Rattle.scale_info_value.specs.declared.value.Dyn.TheVariants as dyn;
+ghost use Rattle.scale_info_table.specs.declared.portable.PortableRegistry.{PortableRegistry};
+ghost use Rattle.scale_info_value.specs.declared.value.Value.TheVariants as Values;
 ghost use Rattle.scale_info_value.specs.Equalities.{DecidesValues};
 ghost use Rattle.scale_info_value.specs.ValueDefinitions.{text};
 ghost use Rattle.scale_info_value.specs.IntegerDecoders.{count};
@@ -19,7 +19,7 @@ ghost use Rattle.scale_info_value.specs.Readings.{reading};
 
 pub mod examples;
 
-use crate::value::{Dyn, Failure, ValueError};
+use crate::value::{Failure, Value, ValueError};
 
 /// What is decoded at an id depends on nothing but what the id unfolds to: where two ids, in one
 /// table or in two, unfold to the same tree, each input is decoded alike at both. At depth 1 the
@@ -65,16 +65,16 @@ pub fn counts_as_in_tables()
 /// `08 68 69` is `hi` in both.
 pub fn texts_as_in_tables()
     ensures encodings { (t b rest : List ℕ)
-        → EncodesText t b → text (b ++ rest) ≡ decoded (dyn.Text t) rest }
+        → EncodesText t b → text (b ++ rest) ≡ decoded (Values.Text t) rest }
     ensures nothing_else { (input rest t : List ℕ) → AllByRecursion IsByte input
-        → text input ≡ decoded (dyn.Text t) rest → HasPrefix (EncodesText t) input rest }
+        → text input ≡ decoded (Values.Text t) rest → HasPrefix (EncodesText t) input rest }
 {}
 
 /// Decoded values are equal exactly where they are one value.
 pub fn equal_values()
-    ensures { DecidesValues ⟦<Dyn as PartialEq>⟧.eq }
+    ensures { DecidesValues ⟦<Value as PartialEq>⟧.eq }
 {
-    equals_itself::<Dyn>()
+    equals_itself::<Value>()
 }
 
 /// A value equals itself.

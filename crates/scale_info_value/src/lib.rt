@@ -1,8 +1,8 @@
 //! Values decoded from SCALE bytes by a table of types.
 //!
 //! [`value::decode_value`] decodes a value of a type that the program knows only from a table, and
-//! returns it as a [`value::Dyn`]. A program makes values of its own by the functions of `Dyn`, as
-//! `Dyn::record`.
+//! returns it as a [`value::Value`]. A program makes values of its own by the functions of `Value`,
+//! as `Value::record`.
 #![tactic(auto)]
 
 mod build;

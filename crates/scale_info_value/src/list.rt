@@ -7,14 +7,14 @@ ghost use Rattle.scale_info_value.specs.ValueDefinitions.{truth, primitive};
 
 use crate::integer::{IntegerWidth, at_once, little_endian, with_sign};
 use crate::primitive::{primitive, truth};
-use crate::value::{Dyn, ValueError};
+use crate::value::{Value, ValueError};
 use scale_info_collections::items::Items;
 use scale_info_types::ty::TypeDefPrimitive;
 use std::alloc::Global;
 
 /// The integer in these bytes, the lowest first; in two's complement where it has a sign.
 #[inline(always)]
-fn number(width: IntegerWidth, signed: bool, bytes: &[u8]) -> Dyn
+fn number(width: IntegerWidth, signed: bool, bytes: &[u8]) -> Value
     requires { length bytes.now ≡ byte_len (width_of width) }
     ensures { result ≡ integer_of width signed bytes.now }
 {
@@ -23,9 +23,9 @@ fn number(width: IntegerWidth, signed: bool, bytes: &[u8]) -> Dyn
         None => little_endian(bytes),
     };
     if signed {
-        Dyn::Signed(with_sign(width, integer))
+        Value::Signed(with_sign(width, integer))
     } else {
-        Dyn::Unsigned(integer)
+        Value::Unsigned(integer)
     }
 }
 
@@ -39,7 +39,7 @@ fn integers<'a>(
     signed: bool,
     count: u32,
     input: &'a [u8],
-) -> Result<(Items<Dyn>, &'a [u8]), ValueError>
+) -> Result<(Items<Value>, &'a [u8]), ValueError>
     requires { (bytes : List ℕ) → primitive kind.now bytes ≡ integer_within form signed bytes }
     ensures ok { IfOk result (IsValueOf
         (in_turn (replicate count (primitive kind.now)) input.now)) }
@@ -62,7 +62,7 @@ fn integers<'a>(
 
 /// So many truth values, and the rest. The room is bounded by the input, as that of integers is.
 #[inline(always)]
-fn truths(alloc: Global, count: u32, input: &[u8]) -> Result<(Items<Dyn>, &[u8]), ValueError>
+fn truths(alloc: Global, count: u32, input: &[u8]) -> Result<(Items<Value>, &[u8]), ValueError>
     ensures ok { IfOk result (IsValueOf (in_turn (replicate count truth) input.now)) }
     ensures err { IfErr result (IsErrorOf (in_turn (replicate count truth) input.now)) }
 {
@@ -73,7 +73,7 @@ fn truths(alloc: Global, count: u32, input: &[u8]) -> Result<(Items<Dyn>, &[u8])
     let mut rest = input;
     for _ in 0..count {
         let (value, after) = truth(rest)?;
-        values.push_reserved(Dyn::Bool(value));
+        values.push_reserved(Value::Bool(value));
         rest = after;
     }
     Ok((Items::from(values), rest))
@@ -85,7 +85,7 @@ fn each<'a>(
     kind: &TypeDefPrimitive,
     count: u32,
     input: &'a [u8],
-) -> Result<(Items<Dyn>, &'a [u8]), ValueError>
+) -> Result<(Items<Value>, &'a [u8]), ValueError>
     ensures ok { IfOk result (IsValueOf
         (in_turn (replicate count (primitive kind.now)) input.now)) }
     ensures err { IfErr result
@@ -109,7 +109,7 @@ pub(crate) fn primitives<'a>(
     kind: &TypeDefPrimitive,
     count: u32,
     input: &'a [u8],
-) -> Result<(Items<Dyn>, &'a [u8]), ValueError>
+) -> Result<(Items<Value>, &'a [u8]), ValueError>
     ensures ok { IfOk result (λ found.
         in_turn (replicate count (primitive kind.now)) input.now ≡ decoded found.0 found.1.now) }
     ensures err { IfErr result

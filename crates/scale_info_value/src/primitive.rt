@@ -1,14 +1,14 @@
 //! Values of primitive types, which have no parts.
 ghost use Rattle.std.specs.Prelude.{◌≡◌, ◌≤◌, ◌+◌, length, IfOk, IfErr};
 ghost use Rattle.std.specs.Int.{byte_len};
-ghost use Rattle.scale_info_value.specs.declared.value.Dyn.TheVariants as dyn;
+ghost use Rattle.scale_info_value.specs.declared.value.Value.TheVariants as Values;
 ghost use Rattle.scale_info_value.specs.Outcomes.{decoded, failed, IsErrorOf};
 ghost use Rattle.scale_info_value.specs.IntegerWidths.{width_of, integer_of, integer_within};
 ghost use Rattle.scale_info_value.specs.ValueDefinitions.{truth, text, primitive};
-ghost use Rattle.scale_info_value.specs.PrimitiveValues.{dyn_of, IsInRange};
+ghost use Rattle.scale_info_value.specs.PrimitiveValues.{owned_value, IsInRange};
 
 use crate::integer::{IntegerWidth, byte, bytes, count, little_endian, with_sign};
-use crate::value::{Dyn, Failure, ValueError};
+use crate::value::{Failure, Value, ValueError};
 use scale_info_bytes::utf8::from_utf8;
 use scale_info_collections::text::Text;
 use scale_info_types::ty::TypeDefPrimitive;
@@ -30,7 +30,7 @@ pub enum PrimitiveValue<'a> {
 /// A text, and the rest.
 fn text(input: &[u8]) -> Result<(PrimitiveValue<'_>, &[u8]), Failure>
     ensures ok { IfOk result
-        (λ found. text input.now ≡ decoded (dyn_of found.0) found.1.now) }
+        (λ found. text input.now ≡ decoded (owned_value found.0) found.1.now) }
     ensures range { IfOk result (λ found. IsInRange found.0) }
     ensures err { IfErr result (λ why. text input.now ≡ failed why) }
 {
@@ -47,7 +47,7 @@ fn text(input: &[u8]) -> Result<(PrimitiveValue<'_>, &[u8]), Failure>
 #[inline(always)]
 pub fn truth(input: &[u8]) -> Result<(bool, &[u8]), Failure>
     ensures ok { IfOk result
-        (λ found. truth input.now ≡ decoded (dyn.Bool found.0) found.1.now) }
+        (λ found. truth input.now ≡ decoded (Values.Bool found.0) found.1.now) }
     ensures err { IfErr result (λ why. truth input.now ≡ failed why) }
 {
     let (byte, rest) = byte(input)?;
@@ -62,7 +62,7 @@ pub fn truth(input: &[u8]) -> Result<(bool, &[u8]), Failure>
 #[inline(always)]
 fn integer_of<'a>(width: IntegerWidth, signed: bool, bytes: &[u8]) -> PrimitiveValue<'a>
     requires { length bytes.now ≡ byte_len (width_of width) }
-    ensures value { dyn_of result ≡ integer_of width signed bytes.now }
+    ensures value { owned_value result ≡ integer_of width signed bytes.now }
     ensures range { IsInRange result }
 {
     let integer = little_endian(bytes);
@@ -78,7 +78,7 @@ fn integer_of<'a>(width: IntegerWidth, signed: bool, bytes: &[u8]) -> PrimitiveV
 pub fn split_integer(width: IntegerWidth, signed: bool, input: &[u8]) -> (PrimitiveValue<'_>, &[u8])
     requires { byte_len (width_of width) ≤ length input.now }
     ensures value { integer_within width signed input.now
-        ≡ decoded (dyn_of result.0) result.1.now }
+        ≡ decoded (owned_value result.0) result.1.now }
     ensures range { IsInRange result.0 }
     ensures rest { length result.1.now + byte_len (width_of width) ≡ length input.now }
 {
@@ -94,7 +94,7 @@ fn integer(
     input: &[u8],
 ) -> Result<(PrimitiveValue<'_>, &[u8]), Failure>
     ensures ok { IfOk result (λ found.
-        integer_within width signed input.now ≡ decoded (dyn_of found.0) found.1.now) }
+        integer_within width signed input.now ≡ decoded (owned_value found.0) found.1.now) }
     ensures range { IfOk result (λ found. IsInRange found.0) }
     ensures err { IfErr result (λ why. integer_within width signed input.now ≡ failed why) }
 {
@@ -114,7 +114,7 @@ pub fn read_primitive<'a>(
     input: &'a [u8],
 ) -> Result<(PrimitiveValue<'a>, &'a [u8]), Failure>
     ensures ok { IfOk result
-        (λ found. primitive kind.now input.now ≡ decoded (dyn_of found.0) found.1.now) }
+        (λ found. primitive kind.now input.now ≡ decoded (owned_value found.0) found.1.now) }
     ensures range { IfOk result (λ found. IsInRange found.0) }
     ensures err { IfErr result (λ why. primitive kind.now input.now ≡ failed why) }
 {
@@ -142,15 +142,15 @@ pub fn read_primitive<'a>(
 
 /// The value, with a text of its own.
 #[inline(always)]
-fn owned(alloc: Global, value: PrimitiveValue<'_>) -> Result<Dyn, AllocError>
+fn owned(alloc: Global, value: PrimitiveValue<'_>) -> Result<Value, AllocError>
     requires { IsInRange value }
-    ensures { IfOk result (λ copy. copy ≡ dyn_of value.entry) }
+    ensures { IfOk result (λ copy. copy ≡ owned_value value.entry) }
 {
     match value {
-        PrimitiveValue::Bool(v) => Ok(Dyn::Bool(v)),
-        PrimitiveValue::Unsigned(v) => Ok(Dyn::Unsigned(v)),
-        PrimitiveValue::Signed(v) => Ok(Dyn::Signed(v)),
-        PrimitiveValue::Text(v) => Ok(Dyn::Text(Text::from(String::from_str(alloc, v)?))),
+        PrimitiveValue::Bool(v) => Ok(Value::Bool(v)),
+        PrimitiveValue::Unsigned(v) => Ok(Value::Unsigned(v)),
+        PrimitiveValue::Signed(v) => Ok(Value::Signed(v)),
+        PrimitiveValue::Text(v) => Ok(Value::Text(Text::from(String::from_str(alloc, v)?))),
     }
 }
 
@@ -161,7 +161,7 @@ pub(crate) fn primitive<'a>(
     alloc: Global,
     kind: &TypeDefPrimitive,
     input: &'a [u8],
-) -> Result<(Dyn, &'a [u8]), ValueError>
+) -> Result<(Value, &'a [u8]), ValueError>
     ensures ok { IfOk result (λ found. primitive kind.now input.now ≡ decoded found.0 found.1.now) }
     ensures err { IfErr result (IsErrorOf (primitive kind.now input.now)) }
 {

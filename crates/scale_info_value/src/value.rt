@@ -11,7 +11,7 @@ use thiserror::Error;
 
 /// A value of some type, without the type.
 #[derive(Drop, PartialEq, Eq)]
-pub enum Dyn {
+pub enum Value {
     /// A truth value.
     Bool(bool),
     /// An integer of an unsigned type, compact or not.
@@ -22,9 +22,9 @@ pub enum Dyn {
     Text(Text),
     /// The items of a sequence or an array, the members of a tuple, or the pairs of a map, each a
     /// list of a key and a value.
-    List(Items<Dyn>),
+    List(Items<Value>),
     /// The fields of a composite, each with its name, if it has one.
-    Record(Items<(Option<Text>, Dyn)>),
+    Record(Items<(Option<Text>, Value)>),
     /// A variant of an enum.
     Variant {
         /// The variant's name.
@@ -32,7 +32,7 @@ pub enum Dyn {
         /// The variant's index.
         index: u8,
         /// The variant's fields, each with its name, if it has one.
-        fields: Items<(Option<Text>, Dyn)>,
+        fields: Items<(Option<Text>, Value)>,
     },
 }
 

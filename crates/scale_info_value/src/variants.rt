@@ -49,7 +49,7 @@ fn index_with_name(variants: &[Variant<PortableForm>], name: &str) -> Option<u8>
 ///
 /// ```text
 /// let Some(index) = variant_index(&table, calls, "transfer") else { .. };
-/// let call = Dyn::variant("transfer", index, vec![in alloc; ("amount", 5u128.into())]?)?;
+/// let call = Value::variant("transfer", index, vec![in alloc; ("amount", 5u128.into())]?)?;
 /// ```
 pub fn variant_index<T: Definitions>(types: &T, id: u32, name: &str) -> Option<u8>
     ensures { result ≡ variant_index (T.table types.now) id name.now }

@@ -1,13 +1,13 @@
 -- Takings are levels.
 use Rattle.std.proofs.Common.{refl}
-use Rattle.scale_info_value.specs.declared.value.Dyn.{Dyn}
+use Rattle.scale_info_value.specs.declared.value.Value.{Value}
 use Rattle.scale_info_value.proofs.Levels.{Levels}
-use Rattle.scale_info_visit.specs.Events.{definition_at, is_byte}
+use Rattle.scale_info_value_visit.specs.Events.{definition_at, is_byte}
 use Rattle.scale_info_value_json.specs.Takers.{Taker, refused, too_deep}
 use Rattle.scale_info_value_json.specs.DefinitionTakers.{Takers, value_by, compact_by}
 use Rattle.scale_info_value_json.specs.Takings.{missing, value_within, compact_within}
 
-unfoldable pub takings : Levels (Taker Dyn) (Taker Dyn) Takers
+unfoldable pub takings : Levels (Taker Value) (Taker Value) Takers
 unfolding value_within compact_within
 takings = record {
   deep = λ tree. refused too_deep;

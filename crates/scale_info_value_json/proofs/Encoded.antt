@@ -15,23 +15,23 @@ use Rattle.scale_info_types.specs.declared.ty.TypeDef.TheVariants as def
 use Rattle.scale_info_types.specs.Shapes.{map_definition, map_field, map_variant}
 use Rattle.scale_info_primitives.specs.declared.primitive.TypeDefPrimitive.{TypeDefPrimitive}
 use Rattle.scale_info_primitives.specs.declared.primitive.TypeDefPrimitive.TheVariants as kind
-use Rattle.scale_info_tables.specs.declared.portable.PortableRegistry.{PortableRegistry}
-use Rattle.scale_info_value.specs.declared.value.Dyn.{Dyn}
-use Rattle.scale_info_value.specs.declared.value.Dyn.TheOpen.{Dyn-F}
-use Rattle.scale_info_value.specs.declared.value.Dyn.TheVariants as dyn
+use Rattle.scale_info_table.specs.declared.portable.PortableRegistry.{PortableRegistry}
+use Rattle.scale_info_value.specs.declared.value.Value.{Value}
+use Rattle.scale_info_value.specs.declared.value.Value.TheOpen.{Value-F}
+use Rattle.scale_info_value.specs.declared.value.Value.TheVariants as Values
 use Rattle.scale_info_value.specs.Outcomes.{decoded}
 use Rattle.scale_info_value.specs.Readings.{type_at, reading}
-use Rattle.scale_info_encode.specs.Writers as writing
-use Rattle.scale_info_encode.specs.declared.path.Step.{Step}
-use Rattle.scale_info_encode.specs.declared.path.Step.TheVariants as step
-use Rattle.scale_info_encode.specs.Writers.{Written, Writer, written, refused, if_fits, followed_by, of_part, step_to, item}
-use Rattle.scale_info_encode.specs.IntegerWriters.{count, compact_bytes, is_signed_of}
-use Rattle.scale_info_encode.specs.DefinitionWriters as writers
-use Rattle.scale_info_encode.specs.DefinitionWriters.{Writers, held, if_found as if_held, list_in as list_held, record_in, unsigned_in, signed_in, truth_in, text_in, variant_in as variant_held}
-use Rattle.scale_info_encode.specs.Writings as written_values
-use Rattle.scale_info_encode.proofs.Levels.{read_back}
-use Rattle.scale_info_encode.proofs.ValueKinds.{IsKind, lists, records, truths, texts, unsigned_integers, signed_integers, variants, chosen as made_variant}
-use Rattle.scale_info_visit.specs.Events.{definition_at, is_byte}
+use Rattle.scale_info_value_encode.specs.Writers as writing
+use Rattle.scale_info_value_encode.specs.declared.path.Step.{Step}
+use Rattle.scale_info_value_encode.specs.declared.path.Step.TheVariants as step
+use Rattle.scale_info_value_encode.specs.Writers.{Written, Writer, written, refused, if_fits, followed_by, of_part, step_to, item}
+use Rattle.scale_info_value_encode.specs.IntegerWriters.{count, compact_bytes, is_signed_of}
+use Rattle.scale_info_value_encode.specs.DefinitionWriters as writers
+use Rattle.scale_info_value_encode.specs.DefinitionWriters.{Writers, held, if_found as if_held, list_in as list_held, record_in, unsigned_in, signed_in, truth_in, text_in, variant_in as variant_held}
+use Rattle.scale_info_value_encode.specs.Writings as written_values
+use Rattle.scale_info_value_encode.proofs.Levels.{read_back}
+use Rattle.scale_info_value_encode.proofs.ValueKinds.{IsKind, lists, records, truths, texts, unsigned_integers, signed_integers, variants, chosen as made_variant}
+use Rattle.scale_info_value_visit.specs.Events.{definition_at, is_byte}
 use Rattle.scale_info_value_json.specs.Takers.{Taken, Taker, taken, refused as not_taken, mismatch, taken_map, if_found, all_taken, in_turn, too_deep}
 use Rattle.scale_info_value_json.specs.DefinitionTakers as takers
 use Rattle.scale_info_value_json.specs.DefinitionTakers.{Takers, each, counted, has_count, named_field, object_fields, variant_of, variant_fields}
@@ -107,7 +107,7 @@ items_written take write one place tree value e = part_has (step.Index place) (w
 
 -- a value of a kind is written by what it holds
 hold :
-    {A : Type 0} (make : A → Dyn) (kind : Dyn-F Dyn → Option A) (write : Writer A) → IsKind make kind → (value : Dyn) (x : A)
+    {A : Type 0} (make : A → Value) (kind : Value-F Value → Option A) (write : Writer A) → IsKind make kind → (value : Value) (x : A)
     → make x ≡ value → HasBytes (write x) → HasBytes (held kind write value)
 hold make kind write k value x e h =
     record { bytes = h.bytes; is = ap (held kind write) (sym e) ∙ ap (if_held write) (k.found x) ∙ h.is }
@@ -137,25 +137,25 @@ unsigned_written :
     (limit : ℕ) (write : Writer ℕ) → ((n : ℕ) → n < limit → HasBytes (write n))
     → AreWritten (takers.unsigned limit) (held unsigned_in write)
 unsigned_written limit write fits tree value e =
-    let p = found_parts (below limit (natural_in tree)) (λ n. taken (dyn.Unsigned n)) value e in
-    let same : dyn.Unsigned p.0 ≡ value = cc in
-    hold dyn.Unsigned unsigned_in write unsigned_integers value p.0 same (fits p.0 (below_parts limit (natural_in tree) p.0 p.1))
+    let p = found_parts (below limit (natural_in tree)) (λ n. taken (Values.Unsigned n)) value e in
+    let same : Values.Unsigned p.0 ≡ value = cc in
+    hold Values.Unsigned unsigned_in write unsigned_integers value p.0 same (fits p.0 (below_parts limit (natural_in tree) p.0 p.1))
 
 -- integers of a signed type are written
 signed_written :
     (limit : ℕ) (write : Writer ℤ) → ((z : ℤ) → is_within limit z ≡ true → HasBytes (write z))
     → AreWritten (takers.signed limit) (held signed_in write)
 signed_written limit write fits tree value e =
-    let p = found_parts (within limit (integer_in tree)) (λ z. taken (dyn.Signed z)) value e in
-    let same : dyn.Signed p.0 ≡ value = cc in
-    hold dyn.Signed signed_in write signed_integers value p.0 same (fits p.0 (within_parts limit (integer_in tree) p.0 p.1))
+    let p = found_parts (within limit (integer_in tree)) (λ z. taken (Values.Signed z)) value e in
+    let same : Values.Signed p.0 ≡ value = cc in
+    hold Values.Signed signed_in write signed_integers value p.0 same (fits p.0 (within_parts limit (integer_in tree) p.0 p.1))
 
 -- truth values are written
 truth_written : AreWritten takers.truth (held truth_in writers.truth)
 truth_written tree value e =
-    let p = found_parts (as_bool tree) (λ b. taken (dyn.Bool b)) value e in
-    let same : dyn.Bool p.0 ≡ value = cc in
-    hold dyn.Bool truth_in writers.truth truths value p.0 same (by_truth p.0)
+    let p = found_parts (as_bool tree) (λ b. taken (Values.Bool b)) value e in
+    let same : Values.Bool p.0 ≡ value = cc in
+    hold Values.Bool truth_in writers.truth truths value p.0 same (by_truth p.0)
   where
     by_truth : (b : Bool) → HasBytes (writers.truth b)
     by_truth true = record { bytes = 1 ∷ []; is = refl }
@@ -165,10 +165,10 @@ truth_written tree value e =
 text_written : AreWritten takers.text (held text_in writers.text)
 text_written tree value e =
     let p = found_parts (text_of_tree tree) takers.text_of value e in
-    let q = tested (nat_lt (length p.0) (2 ^ 32) && is_utf8 p.0) (taken (dyn.Text p.0)) value p.2 in
+    let q = tested (nat_lt (length p.0) (2 ^ 32) && is_utf8 p.0) (taken (Values.Text p.0)) value p.2 in
     let r = and_parts (nat_lt (length p.0) (2 ^ 32)) (is_utf8 p.0) q.0 in
-    let same : dyn.Text p.0 ≡ value = let h = q.1 in cc in
-    hold dyn.Text text_in writers.text texts value p.0 same
+    let same : Values.Text p.0 ≡ value = let h = q.1 in cc in
+    hold Values.Text text_in writers.text texts value p.0 same
     (follow (count (length p.0)) (if_fits (is_utf8 p.0) p.0) (fits (nat_lt (length p.0) (2 ^ 32)) (compact_bytes (length p.0)) r.0)
     (fits (is_utf8 p.0) p.0 r.1))
 
@@ -238,8 +238,8 @@ no_more_written place (tree ∷ trees) values e = cc
 
 -- what is taken of each tree is written, and there are as many
 each_written :
-    (place : ℕ) (take : Taker Dyn) (write : ℕ → Writer Dyn) → ((k : ℕ) → AreWritten take (write k))
-    → (trees : List Data) (values : List Dyn) → each take trees ≡ taken values
+    (place : ℕ) (take : Taker Value) (write : ℕ → Writer Value) → ((k : ℕ) → AreWritten take (write k))
+    → (trees : List Data) (values : List Value) → each take trees ≡ taken values
     → HasBytes (writing.in_turn place (replicate (length values) write) values) × (length trees ≡ length values)
 each_written place take write one [] values e =
     let none : [] ≡ values = cc in
@@ -255,15 +255,15 @@ each_written place take write one (tree ∷ trees) values e =
 
 -- a counted list is written
 counted_written :
-    (take : Taker Dyn) (write : Writer Dyn) → AreWritten take write → (o : Option (List Data)) (value : Dyn)
-    → taken_map dyn.List (if_found o (counted has_count take)) ≡ taken value
+    (take : Taker Value) (write : Writer Value) → AreWritten take write → (o : Option (List Data)) (value : Value)
+    → taken_map Values.List (if_found o (counted has_count take)) ≡ taken value
     → HasBytes (held list_held (writers.counted (λ n values. writing.in_turn 0 (replicate n (item write)) values)) value)
 counted_written take write one o value e =
-    let p = mapped_parts dyn.List (if_found o (counted has_count take)) value e in
+    let p = mapped_parts Values.List (if_found o (counted has_count take)) value e in
     let q = found_parts o (counted has_count take) p.0 p.1 in
     let r = tested (has_count (length q.0)) (each take q.0) p.0 q.2 in
     let s = each_written 0 take (item write) (items_written take write one) q.0 p.0 r.1 in
-    hold dyn.List list_held (writers.counted (λ n values. writing.in_turn 0 (replicate n (item write)) values)) lists value
+    hold Values.List list_held (writers.counted (λ n values. writing.in_turn 0 (replicate n (item write)) values)) lists value
     p.0 p.2
     (follow (count (length p.0)) (writing.in_turn 0 (replicate (length p.0) (item write)) p.0)
     (fits (nat_lt (length p.0) (2 ^ 32)) (compact_bytes (length p.0)) (ap has_count (sym s.1) ∙ r.0)) s.0)
@@ -295,7 +295,7 @@ module _ (takers_of : Id → Takers) (writers_of : Id → Writers) (part : (r : 
       (f : Field) (place : ℕ) → AreWritten (takers.field (taken_field f)) (writers.field (written_field f) place)
   field_written f place tree named e =
       let name = option_map (λ (t : Text). t) f.name in
-      let p = mapped_parts (λ (v : Dyn). (name, v)) ((takers_of f.ty).value tree) named e in
+      let p = mapped_parts (λ (v : Value). (name, v)) ((takers_of f.ty).value tree) named e in
       let h = part_has (step_to place name) ((writers_of f.ty).value p.0) ((part f.ty).value tree p.0 p.1) in
       record {
         bytes = h.bytes;
@@ -307,7 +307,7 @@ module _ (takers_of : Id → Takers) (writers_of : Id → Writers) (part : (r : 
       }
 
   -- the fields from this place on
-  abbrev written_from : ℕ → List Field → Writer (List (Option Text × Dyn))
+  abbrev written_from : ℕ → List Field → Writer (List (Option Text × Value))
   written_from place all values = writing.in_turn place (map writers.field (map written_field all)) values
 
   -- fields from an array are written
@@ -363,12 +363,12 @@ module _ (takers_of : Id → Takers) (writers_of : Id → Writers) (part : (r : 
 
   -- a list of items in an array is written
   listed_written :
-      (take : List Data → Taken (List Dyn)) (write : Writer (List Dyn)) → ((trees : List Data) → IsWrittenAs write (take trees))
-      → AreWritten (λ tree. taken_map dyn.List (if_found (items_in tree) take)) (held list_held write)
+      (take : List Data → Taken (List Value)) (write : Writer (List Value)) → ((trees : List Data) → IsWrittenAs write (take trees))
+      → AreWritten (λ tree. taken_map Values.List (if_found (items_in tree) take)) (held list_held write)
   listed_written take write all tree value e =
-      let p = mapped_parts dyn.List (if_found (items_in tree) take) value e in
+      let p = mapped_parts Values.List (if_found (items_in tree) take) value e in
       let q = found_parts (items_in tree) take p.0 p.1 in
-      hold dyn.List list_held write lists value p.0 p.2 (all q.0 p.0 q.2)
+      hold Values.List list_held write lists value p.0 p.2 (all q.0 p.0 q.2)
 
   -- a key and a value are written
   pair_written : (key value : Id) → AreWritten (takers.pair (takers_of key) (takers_of value)) (writers.pair (writers_of key) (writers_of value))
@@ -386,13 +386,13 @@ module _ (takers_of : Id → Takers) (writers_of : Id → Writers) (part : (r : 
   array_of_written r len tree value e =
       let o = list_in (takers_of r).is_byte tree in
       let take = (takers_of r).value in
-      let p = mapped_parts dyn.List (if_found o (counted (λ n. n == len) take)) value e in
+      let p = mapped_parts Values.List (if_found o (counted (λ n. n == len) take)) value e in
       let q = found_parts o (counted (λ n. n == len) take) p.0 p.1 in
       let t = tested (length q.0 == len) (each take q.0) p.0 q.2 in
       let write = (writers_of r).value in
       let s = each_written 0 take (item write) (items_written take write (part r).value) q.0 p.0 t.1 in
       let long : length p.0 ≡ len = sym s.1 ∙ eqb-true (length q.0) len t.0 in
-      hold dyn.List list_held (writers.items len (writers_of r)) lists value p.0 p.2
+      hold Values.List list_held (writers.items len (writers_of r)) lists value p.0 p.2
       (subst (λ n. HasBytes (writing.in_turn 0 (replicate n (item write)) p.0)) long s.0)
 
   -- fields of a variant are written
@@ -430,8 +430,8 @@ module _ (takers_of : Id → Takers) (writers_of : Id → Writers) (part : (r : 
       by_first name index content (Some v) is h =
           let t =
           tested (bytes_eq v.name name)
-          (taken_map (λ values. dyn.Variant v.name index values) (variant_fields (map taken_field v.fields) content)) value h in
-          let m = mapped_parts (λ values. dyn.Variant v.name index values) (variant_fields (map taken_field v.fields) content) value t.1 in
+          (taken_map (λ values. Values.Variant v.name index values) (variant_fields (map taken_field v.fields) content)) value h in
+          let m = mapped_parts (λ values. Values.Variant v.name index values) (variant_fields (map taken_field v.fields) content) value t.1 in
           let w = variant_fields_written v.fields content m.0 m.1 in
           let fields_are : writers.fields_of (find (λ u. u.index == index) (map (map_variant {G = Unit {0}} writers_of (λ t. t)) vs)) v.name m.0
           ≡ written w.bytes =
@@ -452,8 +452,8 @@ module _ (takers_of : Id → Takers) (writers_of : Id → Writers) (part : (r : 
       → AreWritten (takers.value_by (map_definition {G = Unit {0}} takers_of (λ t. t) d))
       (writers.value_by (map_definition {G = Unit {0}} writers_of (λ t. t) d))
   values_written (def.Composite d) tree value e =
-      let p = mapped_parts dyn.Record (takers.fields (map taken_field d.fields) tree) value e in
-      hold dyn.Record record_in (writers.fields (map written_field d.fields)) records value p.0 p.2
+      let p = mapped_parts Values.Record (takers.fields (map taken_field d.fields) tree) value e in
+      hold Values.Record record_in (writers.fields (map written_field d.fields)) records value p.0 p.2
       (fields_written d.fields tree p.0 p.1)
   values_written (def.Variant d) tree value e = variant_written d.variants tree value e
   values_written (def.Sequence d) tree value e =
@@ -470,7 +470,7 @@ module _ (takers_of : Id → Takers) (writers_of : Id → Writers) (part : (r : 
       counted_written (takers.pair (takers_of d.key) (takers_of d.value)) (writers.pair (writers_of d.key) (writers_of d.value))
       (pair_written d.key d.value) (items_in tree) value e
 
-module _ (take : Id → Taker Dyn) (write : Id → Writer Dyn) (part : (r : Id) → AreWritten (take r) (write r)) where
+module _ (take : Id → Taker Value) (write : Id → Writer Value) (part : (r : Id) → AreWritten (take r) (write r)) where
   -- a compact integer of the only field is written
   only_field_written :
       (all : List Field)
@@ -493,14 +493,14 @@ module _ (take : Id → Taker Dyn) (write : Id → Writer Dyn) (part : (r : Id) 
 
 -- compact integers by a description are written
 compact_type_written :
-    (take : ℕ → Taker Dyn) (write : ℕ → Writer Dyn) → ((id : ℕ) → AreWritten (take id) (write id)) → (o : Option Description)
+    (take : ℕ → Taker Value) (write : ℕ → Writer Value) → ((id : ℕ) → AreWritten (take id) (write id)) → (o : Option Description)
     → AreWritten (compact_by_type take o) (written_values.compact_by_type write o)
 compact_type_written take write part None = λ tree value e. cc
 compact_type_written take write part (Some d) =
     compacts_written (λ r. take r.id) (λ r. write r.id) (λ r. part r.id) d.type_def
 
 -- what is taken is written, however many levels are left
-abbrev AreWrittenWithin : (ℕ → PortableRegistry → ℕ → Taker Dyn) → (ℕ → PortableRegistry → ℕ → Writer Dyn) → Type 0
+abbrev AreWrittenWithin : (ℕ → PortableRegistry → ℕ → Taker Value) → (ℕ → PortableRegistry → ℕ → Writer Value) → Type 0
 AreWrittenWithin take write =
     (left : ℕ) (table : PortableRegistry) (id : ℕ) → AreWritten (take left table id) (write left table id)
 
@@ -513,18 +513,18 @@ compact_level_written (suc left) table id =
     (compact_level_written left table) (type_at table id)
 
 -- the takers of these at an id
-abbrev takers_at : PortableRegistry → (ℕ → Taker Dyn) → (ℕ → Taker Dyn) → (ℕ → Taker Dyn) → ℕ → Takers
+abbrev takers_at : PortableRegistry → (ℕ → Taker Value) → (ℕ → Taker Value) → (ℕ → Taker Value) → ℕ → Takers
 takers_at table value inner compact r =
     record { value = value r; inner = inner r; compact = compact r; is_byte = is_byte (definition_at table r) }
 
 -- the writers of these at an id
-abbrev writers_at : (ℕ → Writer Dyn) → (ℕ → Writer Dyn) → (ℕ → Writer Dyn) → ℕ → Writers
+abbrev writers_at : (ℕ → Writer Value) → (ℕ → Writer Value) → (ℕ → Writer Value) → ℕ → Writers
 writers_at value inner compact r = record { value = value r; inner = inner r; compact = compact r }
 
 -- values by a description are written
 type_written :
-    (table : PortableRegistry) (take take_inner take_compact : ℕ → Taker Dyn)
-    (write write_inner write_compact : ℕ → Writer Dyn)
+    (table : PortableRegistry) (take take_inner take_compact : ℕ → Taker Value)
+    (write write_inner write_compact : ℕ → Writer Value)
     → ((id : ℕ) → AreWritten (take id) (write id)) → ((id : ℕ) → AreWritten (take_inner id) (write_inner id))
     → ((id : ℕ) → AreWritten (take_compact id) (write_compact id)) → (o : Option Description)
     → AreWritten (value_by_type (takers_at table take take_inner take_compact) o)
@@ -549,7 +549,7 @@ level_written (suc (suc left)) table id =
 
 -- a value that is taken has an encoding, which is read as that value
 pub taken_is_encoded :
-    (table : PortableRegistry) (id depth : ℕ) (tree : Data) (value : Dyn) → taking table id depth tree ≡ taken value
+    (table : PortableRegistry) (id depth : ℕ) (tree : Data) (value : Value) → taking table id depth tree ≡ taken value
     → (bytes : List ℕ) × (written_values.writing table id depth value ≡ written bytes)
     × ((rest : List ℕ) → reading table id depth (bytes ++ rest) ≡ decoded value rest)
 taken_is_encoded table id depth tree value e =

@@ -5,7 +5,7 @@ use Rattle.std.proofs.Common.{take, get_or, arith, append_assoc}
 use Rattle.std.proofs.lemmas.List.{map-append}
 use Rattle.std.specs.Option.{is_some}
 use Rattle.std.specs.Str.{bytes_eq}
-use Rattle.scale_info_visit.specs.Events.{all_named}
+use Rattle.scale_info_value_visit.specs.Events.{all_named}
 use Rattle.scale_info_value_json.specs.TreeParts.{are_distinct, has_name, is_object_of}
 
 -- whether the map has a name, as what is found under it

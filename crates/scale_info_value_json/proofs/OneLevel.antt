@@ -14,11 +14,11 @@ use Rattle.scale_info_types.specs.Portable.{Id, Text, Field, TypeDef, TypeDefCom
 use Rattle.scale_info_types.specs.declared.ty.TypeDef.TheVariants as def
 use Rattle.scale_info_types.specs.Shapes.{map_definition, map_field}
 use Rattle.scale_info_primitives.specs.declared.primitive.TypeDefPrimitive.TheVariants as kind
-use Rattle.scale_info_tables.specs.declared.portable.PortableRegistry.{PortableRegistry}
-use Rattle.scale_info_value.specs.declared.value.Dyn.{Dyn}
-use Rattle.scale_info_value.specs.declared.value.Dyn.TheVariants as dyn
+use Rattle.scale_info_table.specs.declared.portable.PortableRegistry.{PortableRegistry}
+use Rattle.scale_info_value.specs.declared.value.Value.{Value}
+use Rattle.scale_info_value.specs.declared.value.Value.TheVariants as Values
 use Rattle.scale_info_value.specs.Readings.{type_at}
-use Rattle.scale_info_visit.specs.Events.{definition_at, is_byte, names}
+use Rattle.scale_info_value_visit.specs.Events.{definition_at, is_byte, names}
 use Rattle.scale_info_value_json.specs.Takers.{Refusal, taken, refused, mismatch, too_deep, taken_map, if_found}
 use Rattle.scale_info_hexadecimal.specs.Digits.{bytes_by_digits, without_mark}
 use Rattle.scale_info_value_json.specs.TreeParts.{list_in, items_in, is_object_of}
@@ -35,22 +35,22 @@ use Rattle.scale_info_value_json.proofs.SoFar.{then_more}
 -- a number below 256 is a byte, by the definition of bytes
 byte_by :
     (part : Id → Takers) (d : TypeDef) (n : ℕ) → is_byte (Some d) ≡ true → n < 256
-    → value_by (map_definition {G = Unit {0}} part (λ t. t) d) (number (unsigned n)) ≡ taken (dyn.Unsigned n)
+    → value_by (map_definition {G = Unit {0}} part (λ t. t) d) (number (unsigned n)) ≡ taken (Values.Unsigned n)
 byte_by part (def.Primitive kind.U8) n is h =
-    ap (λ (t : Bool). if_found (if t then Some n else None) (λ n. taken (dyn.Unsigned n))) (lt-ltb n (2 ^ 8) (omega arith))
+    ap (λ (t : Bool). if_found (if t then Some n else None) (λ n. taken (Values.Unsigned n))) (lt-ltb n (2 ^ 8) (omega arith))
 byte_by part (def.Primitive _) n is h = cc
 byte_by part _ n is h = cc
 
 -- by a type
 pub byte_taken :
     (left : ℕ) (table : PortableRegistry) (id n : ℕ) → 1 ≤ left → is_byte (definition_at table id) ≡ true → n < 256
-    → value_within left table id (number (unsigned n)) ≡ taken (dyn.Unsigned n)
+    → value_within left table id (number (unsigned n)) ≡ taken (Values.Unsigned n)
 unfolding takings value_within compact_within
 byte_taken left table id n level is h = by_type (type_at table id) refl is
   where
     by_type :
         (o : Option Description) → type_at table id ≡ o → is_byte (option_map (λ d. d.type_def) o) ≡ true
-        → value_within left table id (number (unsigned n)) ≡ taken (dyn.Unsigned n)
+        → value_within left table id (number (unsigned n)) ≡ taken (Values.Unsigned n)
     by_type None e f = cc
     by_type (Some d) e f =
         (both_at (levels_known takings left table id d.type_def level (ap (option_map (λ t. t.type_def)) e)) (number (unsigned n))).0
@@ -70,12 +70,12 @@ written_bytes t bytes e = by_result (decode_of (without_mark t)) refl e
 each_byte :
     (left : ℕ) (table : PortableRegistry) (id : ℕ) (bytes : List ℕ) → 1 ≤ left → is_byte (definition_at table id) ≡ true
     → IsBytes bytes
-    → each (value_within left table id) (map (λ n. number (unsigned n)) bytes) ≡ taken (map dyn.Unsigned bytes)
+    → each (value_within left table id) (map (λ n. number (unsigned n)) bytes) ≡ taken (map Values.Unsigned bytes)
 each_byte left table id [] level is all = refl
 each_byte left table id (n ∷ bytes) level is all =
     ap (λ o. then_more o (each (value_within left table id) (map (λ n. number (unsigned n)) bytes)))
     (byte_taken left table id n level is (all 0))
-    ∙ ap (taken_map (λ vs. dyn.Unsigned n ∷ vs)) (each_byte left table id bytes level is (λ i. all (suc i)))
+    ∙ ap (taken_map (λ vs. Values.Unsigned n ∷ vs)) (each_byte left table id bytes level is (λ i. all (suc i)))
 
 module _ (left : ℕ) (table : PortableRegistry) (ty : Id) (count : Option ℕ) (text : List ℕ)
     (of_bytes : is_byte (definition_at table ty.id) ≡ true) where
@@ -83,11 +83,11 @@ module _ (left : ℕ) (table : PortableRegistry) (ty : Id) (count : Option ℕ) 
   pub bytes_are :
       (bytes : List ℕ) → bytes_by_digits text ≡ Some bytes
       → items_within left table ty count (string text)
-      ≡ taken_map dyn.List (counted (is_count_of count) (value_within (left - 1) table ty.id) (map (λ n. number (unsigned n)) bytes))
+      ≡ taken_map Values.List (counted (is_count_of count) (value_within (left - 1) table ty.id) (map (λ n. number (unsigned n)) bytes))
   bytes_are bytes e =
-      ap (λ t. taken_map dyn.List (if_found (list_in t (string text)) (counted (is_count_of count) (value_within (left - 1) table ty.id))))
+      ap (λ t. taken_map Values.List (if_found (list_in t (string text)) (counted (is_count_of count) (value_within (left - 1) table ty.id))))
       of_bytes
-      ∙ ap (λ o. taken_map dyn.List (if_found (option_map (map (λ n. number (unsigned n))) o)
+      ∙ ap (λ o. taken_map Values.List (if_found (option_map (map (λ n. number (unsigned n))) o)
       (counted (is_count_of count) (value_within (left - 1) table ty.id)))) e
 
   -- a text that writes none is refused
@@ -100,9 +100,9 @@ module _ (left : ℕ) (table : PortableRegistry) (ty : Id) (count : Option ℕ) 
           → items_within left table ty count (string text) ≡ refused why
       by_bytes None is f =
           let same : mismatch ≡ why = cc in
-          ap (λ t. taken_map dyn.List (if_found (list_in t (string text)) (counted (is_count_of count) (value_within (left - 1) table ty.id))))
+          ap (λ t. taken_map Values.List (if_found (list_in t (string text)) (counted (is_count_of count) (value_within (left - 1) table ty.id))))
           of_bytes
-          ∙ ap (λ o. taken_map dyn.List (if_found (option_map (map (λ n. number (unsigned n))) o)
+          ∙ ap (λ o. taken_map Values.List (if_found (option_map (map (λ n. number (unsigned n))) o)
           (counted (is_count_of count) (value_within (left - 1) table ty.id)))) is
           ∙ ap refused same
       by_bytes (Some bytes) is f = cc
@@ -111,11 +111,11 @@ module _ (left : ℕ) (table : PortableRegistry) (ty : Id) (count : Option ℕ) 
   bytes_tested :
       (bytes : List ℕ) (test : Bool) → bytes_by_digits text ≡ Some bytes → is_count_of count (length bytes) ≡ test
       → items_within left table ty count (string text)
-      ≡ taken_map dyn.List
+      ≡ taken_map Values.List
       (if test then each (value_within (left - 1) table ty.id) (map (λ n. number (unsigned n)) bytes) else refused mismatch)
   bytes_tested bytes test e is =
       bytes_are bytes e
-      ∙ ap (λ (t : Bool). taken_map dyn.List
+      ∙ ap (λ (t : Bool). taken_map Values.List
       (if t then each (value_within (left - 1) table ty.id) (map (λ n. number (unsigned n)) bytes) else refused mismatch))
       (ap (is_count_of count) (length-map bytes (λ n. number (unsigned n))) ∙ is)
 
@@ -123,7 +123,7 @@ module _ (left : ℕ) (table : PortableRegistry) (ty : Id) (count : Option ℕ) 
   pub bytes_counted :
       (bytes : List ℕ) → bytes_by_digits text ≡ Some bytes → is_count_of count (length bytes) ≡ true
       → items_within left table ty count (string text)
-      ≡ taken_map dyn.List (each (value_within (left - 1) table ty.id) (map (λ n. number (unsigned n)) bytes))
+      ≡ taken_map Values.List (each (value_within (left - 1) table ty.id) (map (λ n. number (unsigned n)) bytes))
   bytes_counted bytes e fits = bytes_tested bytes true e fits
 
   -- another number of bytes is none of the type
@@ -140,25 +140,25 @@ module _ (left : ℕ) (table : PortableRegistry) (ty : Id) (count : Option ℕ) 
   bytes_too_deep [] e fits last some = absurd (omega arith)
   bytes_too_deep (n ∷ bytes) e fits last some =
       bytes_counted (n ∷ bytes) e fits
-      ∙ ap (λ o. taken_map dyn.List (then_more o (each (value_within (left - 1) table ty.id) (map (λ n. number (unsigned n)) bytes))))
+      ∙ ap (λ o. taken_map Values.List (then_more o (each (value_within (left - 1) table ty.id) (map (λ n. number (unsigned n)) bytes))))
       (both_at (levels_end takings (left - 1) table ty.id (omega arith)) (number (unsigned n))).0
 
   -- else they are taken
   pub bytes_taken :
-      (bytes : List ℕ) (values : List Dyn) → bytes_by_digits text ≡ Some bytes → is_count_of count (length bytes) ≡ true
-      → 2 ≤ left → values ≡ map dyn.Unsigned bytes
-      → items_within left table ty count (string text) ≡ taken (dyn.List values)
+      (bytes : List ℕ) (values : List Value) → bytes_by_digits text ≡ Some bytes → is_count_of count (length bytes) ≡ true
+      → 2 ≤ left → values ≡ map Values.Unsigned bytes
+      → items_within left table ty count (string text) ≡ taken (Values.List values)
   bytes_taken bytes values e fits level is =
       bytes_counted bytes e fits
-      ∙ ap (taken_map dyn.List) (each_byte (left - 1) table ty.id bytes (omega arith) of_bytes (written_bytes text bytes e))
-      ∙ ap (λ vs. taken (dyn.List vs)) (sym is)
+      ∙ ap (taken_map Values.List) (each_byte (left - 1) table ty.id bytes (omega arith) of_bytes (written_bytes text bytes e))
+      ∙ ap (λ vs. taken (Values.List vs)) (sym is)
 
   -- no bytes are taken at each level
   pub no_bytes_taken :
-      (bytes : List ℕ) (values : List Dyn) → bytes_by_digits text ≡ Some bytes → is_count_of count (length bytes) ≡ true
-      → length bytes ≡ 0 → values ≡ map dyn.Unsigned bytes
-      → items_within left table ty count (string text) ≡ taken (dyn.List values)
-  no_bytes_taken [] values e fits none is = bytes_counted [] e fits ∙ ap (λ vs. taken (dyn.List vs)) (sym is)
+      (bytes : List ℕ) (values : List Value) → bytes_by_digits text ≡ Some bytes → is_count_of count (length bytes) ≡ true
+      → length bytes ≡ 0 → values ≡ map Values.Unsigned bytes
+      → items_within left table ty count (string text) ≡ taken (Values.List values)
+  no_bytes_taken [] values e fits none is = bytes_counted [] e fits ∙ ap (λ vs. taken (Values.List vs)) (sym is)
   no_bytes_taken (n ∷ bytes) values e fits none is = absurd (omega arith)
 
 -- ---- compact integers

@@ -16,18 +16,18 @@ use Rattle.scale_info_types.specs.declared.ty.fields.Field.{Field as AnyField}
 use Rattle.scale_info_types.specs.declared.ty.variant.Variant.{Variant as AnyVariant}
 use Rattle.scale_info_types.specs.declared.ty.TypeDef.TheVariants as def
 use Rattle.scale_info_types.specs.Shapes.{map_field, map_variant}
-use Rattle.scale_info_tables.specs.declared.portable.PortableRegistry.{PortableRegistry}
-use Rattle.scale_info_value.specs.declared.value.Dyn.{Dyn}
-use Rattle.scale_info_value.specs.declared.value.Dyn.TheVariants as dyn
-use Rattle.scale_info_encode.specs.Writers.{written}
-use Rattle.scale_info_encode.specs.DefinitionWriters as writers
-use Rattle.scale_info_encode.specs.DefinitionWriters.{Writers, held, variant_in, chosen_variant}
-use Rattle.scale_info_encode.proofs.ValueKinds.{variants}
-use Rattle.scale_info_encode.proofs.ValueKinds as kinds
-use Rattle.scale_info_visit.specs.Events.{definition_at, all_named, keys, begin_variant, end_variant, known_in}
-use Rattle.scale_info_visit.specs.Events as event
-use Rattle.scale_info_visit.specs.Visits.{placed, field_by, bracketed}
-use Rattle.scale_info_visit.proofs.Events.{variant_typed}
+use Rattle.scale_info_table.specs.declared.portable.PortableRegistry.{PortableRegistry}
+use Rattle.scale_info_value.specs.declared.value.Value.{Value}
+use Rattle.scale_info_value.specs.declared.value.Value.TheVariants as Values
+use Rattle.scale_info_value_encode.specs.Writers.{written}
+use Rattle.scale_info_value_encode.specs.DefinitionWriters as writers
+use Rattle.scale_info_value_encode.specs.DefinitionWriters.{Writers, held, variant_in, chosen_variant}
+use Rattle.scale_info_value_encode.proofs.ValueKinds.{variants}
+use Rattle.scale_info_value_encode.proofs.ValueKinds as kinds
+use Rattle.scale_info_value_visit.specs.Events.{definition_at, all_named, keys, begin_variant, end_variant, known_in}
+use Rattle.scale_info_value_visit.specs.Events as event
+use Rattle.scale_info_value_visit.specs.Visits.{placed, field_by, bracketed}
+use Rattle.scale_info_value_visit.proofs.Events.{variant_typed}
 use Rattle.scale_info_value_text.specs.ValueTexts.{event_tokens, opening, closing, variant_opening, variant_closing}
 use Rattle.scale_info_value_json.specs.Takers.{taken, refused, mismatch, taken_map, if_found}
 use Rattle.scale_info_value_json.specs.DefinitionTakers.{Takers, variant_fields, is_shared, chosen, variant_of, variant}
@@ -128,7 +128,7 @@ module _ (table : PortableRegistry) (writers_of : Id → Writers) (takers_of : I
   fields_taken all = map (map_field {G = Unit {0}} takers_of (λ t. t)) all
 
   -- what stands for the fields of a variant, and what is taken from it
-  record FieldsBack (fs : List Field) (values : List (Option Text × Dyn)) : Type 0 where
+  record FieldsBack (fs : List Field) (values : List (Option Text × Value)) : Type 0 where
     content : Option Data
     reads :
         Content (flat_map event_tokens (placed (field_by table (all_named (keys values))) (map Some fs) values))
@@ -137,7 +137,7 @@ module _ (table : PortableRegistry) (writers_of : Id → Writers) (takers_of : I
 
   -- the fields of a variant are taken back
   variant_fields_back :
-      (fs : List Field) (values : List (Option Text × Dyn)) (b : List ℕ)
+      (fs : List Field) (values : List (Option Text × Value)) (b : List ℕ)
       → writers.fields (fields_written fs) values ≡ written b → AllByRecursion IsByte b
       → (own_names (keys values) && fields_own values) ≡ true → FieldsBack fs values
   variant_fields_back [] [] b e all own = record { content = None; reads = nothing refl; is = refl }
@@ -147,20 +147,20 @@ module _ (table : PortableRegistry) (writers_of : Id → Writers) (takers_of : I
       let s = fields_back table writers_of takers_of back (f ∷ fs) (v ∷ values) b e all own in
       record { content = Some s.tree; reads = something (reads_as _ _ _ s); is = s.is }
 
-  module _ (d : TypeDefVariant) (name : Text) (index : ℕ) (values : List (Option Text × Dyn)) (v : Variant)
+  module _ (d : TypeDefVariant) (name : Text) (index : ℕ) (values : List (Option Text × Value)) (v : Variant)
       (first : find (λ w. w.index == index) d.variants ≡ Some v) (same : bytes_eq v.name name ≡ true)
       (content : Option Data) (taken_of : variant_fields (fields_taken v.fields) content ≡ taken values) where
     -- the variant that is meant is the first with the index
-    chosen_back : variant_of name index content (find (λ w. w.index == index) (map taken_variant d.variants)) ≡ taken (dyn.Variant name index values)
+    chosen_back : variant_of name index content (find (λ w. w.index == index) (map taken_variant d.variants)) ≡ taken (Values.Variant name index values)
     chosen_back =
         ap (variant_of name index content) (first_with_index takers_of index d.variants ∙ ap (option_map taken_variant) first)
-        ∙ ap (λ (t : Bool). if t then taken_map (λ vs. dyn.Variant v.name index vs) (variant_fields (fields_taken v.fields) content)
+        ∙ ap (λ (t : Bool). if t then taken_map (λ vs. Values.Variant v.name index vs) (variant_fields (fields_taken v.fields) content)
         else refused mismatch) same
-        ∙ ap (taken_map (λ vs. dyn.Variant v.name index vs)) taken_of
-        ∙ ap (λ n. taken (dyn.Variant n index values)) ((bytes_eq-Decides v.name name).0 same)
+        ∙ ap (taken_map (λ vs. Values.Variant v.name index vs)) taken_of
+        ∙ ap (λ n. taken (Values.Variant n index values)) ((bytes_eq-Decides v.name name).0 same)
 
     -- an alone name is taken back
-    alone_taken : is_shared d.variants name ≡ false → variant (map taken_variant d.variants) (alone_tree name content) ≡ taken (dyn.Variant name index values)
+    alone_taken : is_shared d.variants name ≡ false → variant (map taken_variant d.variants) (alone_tree name content) ≡ taken (Values.Variant name index values)
     unfolding alone_tree
     alone_taken alone = by_content content refl
       where
@@ -175,13 +175,13 @@ module _ (table : PortableRegistry) (writers_of : Id → Writers) (takers_of : I
             ∙ ap (λ i. Some (i, content)) (has_index index v d.variants first)
 
         go_on : if_found (chosen (map taken_variant d.variants) name content) (λ c.
-            variant_of name c.0 c.1 (find (λ w. w.index == c.0) (map taken_variant d.variants))) ≡ taken (dyn.Variant name index values)
+            variant_of name c.0 c.1 (find (λ w. w.index == c.0) (map taken_variant d.variants))) ≡ taken (Values.Variant name index values)
         go_on =
             ap (λ o. if_found o (λ c. variant_of name c.0 c.1 (find (λ w. w.index == c.0) (map taken_variant d.variants)))) meant
             ∙ chosen_back
 
         by_content : (o : Option Data) → content ≡ o
-            → variant (map taken_variant d.variants) (alone_tree name content) ≡ taken (dyn.Variant name index values)
+            → variant (map taken_variant d.variants) (alone_tree name content) ≡ taken (Values.Variant name index values)
         by_content None is =
             ap (λ c. variant (map taken_variant d.variants) (alone_tree name c)) is
             ∙ ap (λ c. if_found (chosen (map taken_variant d.variants) name c) (λ c.
@@ -196,14 +196,14 @@ module _ (table : PortableRegistry) (writers_of : Id → Writers) (takers_of : I
     -- a shared name is taken back
     shared_taken :
         is_shared d.variants name ≡ true → index < 256
-        → variant (map taken_variant d.variants) (shared_tree name index content) ≡ taken (dyn.Variant name index values)
+        → variant (map taken_variant d.variants) (shared_tree name index content) ≡ taken (Values.Variant name index values)
     unfolding shared_tree
     shared_taken shared small = by_content content refl
       where
         -- where this array stands under the name, the index is meant
         meant : (under : Data) → index_and_fields under ≡ Some (index, content)
             → if_found (chosen (map taken_variant d.variants) name (Some under)) (λ c.
-            variant_of name c.0 c.1 (find (λ w. w.index == c.0) (map taken_variant d.variants))) ≡ taken (dyn.Variant name index values)
+            variant_of name c.0 c.1 (find (λ w. w.index == c.0) (map taken_variant d.variants))) ≡ taken (Values.Variant name index values)
         meant under is =
             ap (λ (t : Bool). if_found (if t then option_and_then index_and_fields (Some under)
             else option_map (λ w. (w.index, Some under)) (find (λ w. bytes_eq w.name name) (map taken_variant d.variants))) (λ c.
@@ -216,7 +216,7 @@ module _ (table : PortableRegistry) (writers_of : Id → Writers) (takers_of : I
         fits = ap (λ (t : Bool). if t then Some index else None) (lt-ltb index (2 ^ 8) (omega arith))
 
         by_content : (o : Option Data) → content ≡ o
-            → variant (map taken_variant d.variants) (shared_tree name index content) ≡ taken (dyn.Variant name index values)
+            → variant (map taken_variant d.variants) (shared_tree name index content) ≡ taken (Values.Variant name index values)
         by_content None is =
             ap (λ c. variant (map taken_variant d.variants) (shared_tree name index c)) is
             ∙ meant (array (item (number (unsigned index)) no_items)) (ap (option_map (λ i. (i, None))) fits ∙ ap (λ c. Some (index, c)) (sym is))
@@ -248,12 +248,12 @@ module _ (table : PortableRegistry) (writers_of : Id → Writers) (takers_of : I
       (by_first name index values p.1 (find (λ v. v.index == index) d.variants) refl is_written small p.5 own_fields)
     where
       by_first :
-          (name : Text) (index : ℕ) (values : List (Option Text × Dyn)) (b : List ℕ) (o : Option Variant)
+          (name : Text) (index : ℕ) (values : List (Option Text × Value)) (b : List ℕ) (o : Option Variant)
           → find (λ v. v.index == index) d.variants ≡ o
           → writers.fields_of (option_map written_variant o) name values ≡ written b → index < 256
           → AllByRecursion IsByte b → (own_names (keys values) && fields_own values) ≡ true
-          → IsShown (tokens_by table (Some (def.Variant d)) (dyn.Variant name index values))
-          (variant (map taken_variant d.variants)) (dyn.Variant name index values)
+          → IsShown (tokens_by table (Some (def.Variant d)) (Values.Variant name index values))
+          (variant (map taken_variant d.variants)) (Values.Variant name index values)
       by_first name index values b None first e small all own = cc
       by_first name index values b (Some v) first e small all own =
           let q = passed_test (bytes_eq v.name name) (writers.fields (fields_written v.fields)) values b e in
@@ -264,7 +264,7 @@ module _ (table : PortableRegistry) (writers_of : Id → Writers) (takers_of : I
           let shared = event.is_shared d.variants name in
           let begins = begin_variant name index (keys values) shared in
           let ends = end_variant name index (keys values) shared in
-          let shows : tokens_by table type (dyn.Variant name index values)
+          let shows : tokens_by table type (Values.Variant name index values)
           ≡ variant_tokens shared name index (keys values) inner =
           ap (flat_map event_tokens) (variant_typed table type name index values)
           ∙ ap (λ o.
@@ -272,11 +272,11 @@ module _ (table : PortableRegistry) (writers_of : Id → Writers) (takers_of : I
           flat_map event_tokens (bracketed (begins c) (placed (field_by table named) (known_in c)) (ends c) values)) first
           ∙ ap (λ ts. event_tokens (begins (Some (d.variants, v))) ++ ts)
           (flat_map-append event_tokens (placed (field_by table named) (map Some v.fields) values) (ends (Some (d.variants, v)) ∷ [])) in
-          subst (λ ts. IsShown ts (variant (map taken_variant d.variants)) (dyn.Variant name index values)) (sym shows)
+          subst (λ ts. IsShown ts (variant (map taken_variant d.variants)) (Values.Variant name index values)) (sym shows)
           (by_shared name index values v first q.0 c.content c.is c.reads small (is_shared d.variants name) refl)
         where
           by_shared :
-              (name : Text) (index : ℕ) (values : List (Option Text × Dyn)) (v : Variant)
+              (name : Text) (index : ℕ) (values : List (Option Text × Value)) (v : Variant)
               → find (λ w. w.index == index) d.variants ≡ Some v → bytes_eq v.name name ≡ true → (content : Option Data)
               → variant_fields (fields_taken v.fields) content ≡ taken values
               → Content (flat_map event_tokens (placed (field_by table (all_named (keys values))) (map Some v.fields) values))
@@ -285,12 +285,12 @@ module _ (table : PortableRegistry) (writers_of : Id → Writers) (takers_of : I
               → IsShown
               (variant_tokens shared name index (keys values)
               (flat_map event_tokens (placed (field_by table (all_named (keys values))) (map Some v.fields) values)))
-              (variant (map taken_variant d.variants)) (dyn.Variant name index values)
+              (variant (map taken_variant d.variants)) (Values.Variant name index values)
           by_shared name index values v first same content is reads small true shared =
-              shown_as _ (shared_tree name index content) (variant (map taken_variant d.variants)) (dyn.Variant name index values)
+              shown_as _ (shared_tree name index content) (variant (map taken_variant d.variants)) (Values.Variant name index values)
               (shared_taken d name index values v first same content is shared small)
               (shared_reads name index _ (keys values) content small reads)
           by_shared name index values v first same content is reads small false shared =
-              shown_as _ (alone_tree name content) (variant (map taken_variant d.variants)) (dyn.Variant name index values)
+              shown_as _ (alone_tree name content) (variant (map taken_variant d.variants)) (Values.Variant name index values)
               (alone_taken d name index values v first same content is shared)
               (alone_reads name index _ (keys values) content reads)

@@ -14,22 +14,22 @@ use Rattle.scale_info_types.specs.declared.ty.TypeDef.TheVariants as def
 use Rattle.scale_info_types.specs.Shapes.{map_definition, map_field}
 use Rattle.scale_info_primitives.specs.declared.primitive.TypeDefPrimitive.{TypeDefPrimitive}
 use Rattle.scale_info_primitives.specs.declared.primitive.TypeDefPrimitive.TheVariants as kind
-use Rattle.scale_info_tables.specs.declared.portable.PortableRegistry.{PortableRegistry}
-use Rattle.scale_info_value.specs.declared.value.Dyn.{Dyn}
-use Rattle.scale_info_value.specs.declared.value.Dyn.TheOpen.{Dyn-F}
-use Rattle.scale_info_value.specs.declared.value.Dyn.TheVariants as dyn
-use Rattle.scale_info_encode.specs.Writers as writing
-use Rattle.scale_info_encode.specs.Writers.{Writer, written, if_fits, refused, item}
-use Rattle.scale_info_encode.specs.IntegerWriters.{count, compact_bytes, is_signed_of}
-use Rattle.scale_info_encode.specs.DefinitionWriters as writers
-use Rattle.scale_info_encode.specs.DefinitionWriters.{Writers, held, list_in, record_in, unsigned_in, signed_in, truth_in, text_in}
-use Rattle.scale_info_encode.proofs.Inverse.{as_many}
-use Rattle.scale_info_encode.proofs.ValueKinds.{IsKind, lists, records, truths, texts, unsigned_integers, signed_integers}
-use Rattle.scale_info_visit.specs.Events as event
-use Rattle.scale_info_visit.specs.Events.{Event, definition_at, keys, all_named, begin_record, end_record, pair_of, list_events, in_place, events_of}
-use Rattle.scale_info_visit.specs.Visits.{placed, field_by, value_by}
-use Rattle.scale_info_visit.proofs.Events.{HasNoParts, list_typed, record_typed, truth_alone, unsigned_alone, signed_alone, text_alone}
-use Rattle.scale_info_visit.proofs.Events.{truth_events, unsigned_events, signed_events, text_events}
+use Rattle.scale_info_table.specs.declared.portable.PortableRegistry.{PortableRegistry}
+use Rattle.scale_info_value.specs.declared.value.Value.{Value}
+use Rattle.scale_info_value.specs.declared.value.Value.TheOpen.{Value-F}
+use Rattle.scale_info_value.specs.declared.value.Value.TheVariants as Values
+use Rattle.scale_info_value_encode.specs.Writers as writing
+use Rattle.scale_info_value_encode.specs.Writers.{Writer, written, if_fits, refused, item}
+use Rattle.scale_info_value_encode.specs.IntegerWriters.{count, compact_bytes, is_signed_of}
+use Rattle.scale_info_value_encode.specs.DefinitionWriters as writers
+use Rattle.scale_info_value_encode.specs.DefinitionWriters.{Writers, held, list_in, record_in, unsigned_in, signed_in, truth_in, text_in}
+use Rattle.scale_info_value_encode.proofs.Inverse.{as_many}
+use Rattle.scale_info_value_encode.proofs.ValueKinds.{IsKind, lists, records, truths, texts, unsigned_integers, signed_integers}
+use Rattle.scale_info_value_visit.specs.Events as event
+use Rattle.scale_info_value_visit.specs.Events.{Event, definition_at, keys, all_named, begin_record, end_record, pair_of, list_events, in_place, events_of}
+use Rattle.scale_info_value_visit.specs.Visits.{placed, field_by, value_by}
+use Rattle.scale_info_value_visit.proofs.Events.{HasNoParts, list_typed, record_typed, truth_alone, unsigned_alone, signed_alone, text_alone}
+use Rattle.scale_info_value_visit.proofs.Events.{truth_events, unsigned_events, signed_events, text_events}
 use Rattle.scale_info_value_text.specs.ValueTexts.{event_tokens}
 use Rattle.scale_info_value_json.specs.Takers.{Taken, Taker, taken, refused as not_taken, mismatch, taken_map, if_found, in_turn}
 use Rattle.scale_info_value_json.specs.DefinitionTakers as takers
@@ -53,7 +53,7 @@ fitted false bytes b e = cc
 
 -- a value of a kind without parts, which is shown as one event, is taken back
 alone_back :
-    {A : Type 0} (make : A → Dyn) (kind_of : Dyn-F Dyn → Option A) (write : Writer A) (shown_as : A → Event) (take : Taker Dyn)
+    {A : Type 0} (make : A → Value) (kind_of : Value-F Value → Option A) (write : Writer A) (shown_as : A → Event) (take : Taker Value)
     → IsKind make kind_of → ((x : A) → HasNoParts (make x)) → ((x : A) → events_of (make x) ≡ shown_as x ∷ [])
     → ((x : A) (b : List ℕ) → write x ≡ written b → AllByRecursion IsByte b
     → IsShown (flat_map event_tokens (shown_as x ∷ [])) take (make x))
@@ -70,13 +70,13 @@ unsigned_back :
     → (table : PortableRegistry) (type : Option TypeDef)
     → AreTakenBack (held unsigned_in write) (tokens_by table type) (takers.unsigned limit)
 unsigned_back limit write most fits =
-    alone_back dyn.Unsigned unsigned_in write event.unsigned (takers.unsigned limit) unsigned_integers unsigned_alone unsigned_events
+    alone_back Values.Unsigned unsigned_in write event.unsigned (takers.unsigned limit) unsigned_integers unsigned_alone unsigned_events
     (λ n b e all.
     let less = fits n b e in
-    natural_shown n (takers.unsigned limit) (dyn.Unsigned n) (omega arith)
+    natural_shown n (takers.unsigned limit) (Values.Unsigned n) (omega arith)
     (λ tree is.
-    ap (λ o. if_found (below limit o) (λ m. taken (dyn.Unsigned m))) is
-    ∙ ap (λ (t : Bool). if_found (if t then Some n else None) (λ m. taken (dyn.Unsigned m))) (lt-ltb n limit less)))
+    ap (λ o. if_found (below limit o) (λ m. taken (Values.Unsigned m))) is
+    ∙ ap (λ (t : Bool). if_found (if t then Some n else None) (λ m. taken (Values.Unsigned m))) (lt-ltb n limit less)))
 
 -- an integer of a signed type is taken back
 signed_back :
@@ -85,12 +85,12 @@ signed_back :
     → (table : PortableRegistry) (type : Option TypeDef)
     → AreTakenBack (held signed_in write) (tokens_by table type) (takers.signed limit)
 signed_back limit write fits =
-    alone_back dyn.Signed signed_in write event.signed (takers.signed limit) signed_integers signed_alone signed_events
+    alone_back Values.Signed signed_in write event.signed (takers.signed limit) signed_integers signed_alone signed_events
     (λ z b e all.
-    integer_shown z (takers.signed limit) (dyn.Signed z) (fits z b e).1
+    integer_shown z (takers.signed limit) (Values.Signed z) (fits z b e).1
     (λ tree is.
-    ap (λ o. if_found (within limit o) (λ y. taken (dyn.Signed y))) is
-    ∙ ap (λ (t : Bool). if_found (if t then Some z else None) (λ y. taken (dyn.Signed y))) (fits z b e).0))
+    ap (λ o. if_found (within limit o) (λ y. taken (Values.Signed y))) is
+    ∙ ap (λ (t : Bool). if_found (if t then Some z else None) (λ y. taken (Values.Signed y))) (fits z b e).0))
 
 -- an integer that fits a width is within half of its limit
 half_fits :
@@ -106,20 +106,20 @@ half_fits w half h most (negsuc n) b e =
 -- a truth value is taken back
 truth_back : (table : PortableRegistry) (type : Option TypeDef) → AreTakenBack (held truth_in writers.truth) (tokens_by table type) takers.truth
 truth_back =
-    alone_back dyn.Bool truth_in writers.truth event.truth takers.truth truths truth_alone truth_events
-    (λ t b e all. truth_shown t takers.truth (dyn.Bool t) refl)
+    alone_back Values.Bool truth_in writers.truth event.truth takers.truth truths truth_alone truth_events
+    (λ t b e all. truth_shown t takers.truth (Values.Bool t) refl)
 
 -- a text is taken back
 text_back : (table : PortableRegistry) (type : Option TypeDef) → AreTakenBack (held text_in writers.text) (tokens_by table type) takers.text
 text_back =
-    alone_back dyn.Text text_in writers.text event.text takers.text texts text_alone text_events
+    alone_back Values.Text text_in writers.text event.text takers.text texts text_alone text_events
     (λ t b e all.
     let p = parted_bytes (count (length t)) (if_fits (is_utf8 t) t) b e all in
     let short = fitted (nat_lt (length t) (2 ^ 32)) (compact_bytes (length t)) p.0 p.2 in
     let utf8 = fitted (is_utf8 t) t p.1 p.3 in
-    string_shown t takers.text (dyn.Text t)
-    (ap (λ (b : Bool). if b && is_utf8 t then taken (dyn.Text t) else not_taken mismatch) short
-    ∙ ap (λ (b : Bool). if b then taken (dyn.Text t) else not_taken mismatch) utf8))
+    string_shown t takers.text (Values.Text t)
+    (ap (λ (b : Bool). if b && is_utf8 t then taken (Values.Text t) else not_taken mismatch) short
+    ∙ ap (λ (b : Bool). if b then taken (Values.Text t) else not_taken mismatch) utf8))
 
 -- an integer that fits a width is below its limit
 width_fits : (w : Width) (n : ℕ) (b : List ℕ) → writers.unsigned w n ≡ written b → n < 256 ^ byte_len w
@@ -168,12 +168,12 @@ module _ (table : PortableRegistry) (writers_of : Id → Writers) (takers_of : I
   composite_back :
       (d : _) → AreTakenBack (held record_in (writers.fields (map (map_field {G = Unit {0}} writers_of (λ t. t)) d.fields)))
       (tokens_by table (Some (def.Composite d)))
-      (λ tree. taken_map dyn.Record (takers.fields (map (map_field {G = Unit {0}} takers_of (λ t. t)) d.fields) tree))
+      (λ tree. taken_map Values.Record (takers.fields (map (map_field {G = Unit {0}} takers_of (λ t. t)) d.fields) tree))
   composite_back d value bytes e all own =
       let fs = map (map_field {G = Unit {0}} takers_of (λ t. t)) d.fields in
-      let take : Taker Dyn = λ tree. taken_map dyn.Record (takers.fields fs tree) in
+      let take : Taker Value = λ tree. taken_map Values.Record (takers.fields fs tree) in
       let x =
-      held_parts dyn.Record record_in (writers.fields (map (map_field {G = Unit {0}} writers_of (λ t. t)) d.fields)) records value bytes e in
+      held_parts Values.Record record_in (writers.fields (map (map_field {G = Unit {0}} writers_of (λ t. t)) d.fields)) records value bytes e in
       let names = keys x.0 in
       let named = all_named names in
       let type = Some (def.Composite d) in
@@ -183,13 +183,13 @@ module _ (table : PortableRegistry) (writers_of : Id → Writers) (takers_of : I
       ∙ ap (λ ts. event_tokens (begin_record names (Some d.fields)) ++ ts)
       (flat_map-append event_tokens (placed (field_by table named) (map Some d.fields) x.0) (end_record names (Some d.fields) ∷ [])) in
       subst (λ v. IsShown (tokens_by table type v) take v) (sym x.1)
-      (subst (λ ts. IsShown ts take (dyn.Record x.0)) (sym shows)
-      (shown_map dyn.Record _ (takers.fields fs) x.0
+      (subst (λ ts. IsShown ts take (Values.Record x.0)) (sym shows)
+      (shown_map Values.Record _ (takers.fields fs) x.0
       (fields_back table writers_of takers_of back d.fields x.0 bytes x.2 all own_fields)))
 
   -- items of each type in order are taken back
   members_are_back :
-      (place : ℕ) (types : List Id) (values : List Dyn) (b : List ℕ)
+      (place : ℕ) (types : List Id) (values : List Value) (b : List ℕ)
       → writing.in_turn place (map (λ p. item p.value) (map writers_of types)) values ≡ written b → AllByRecursion IsByte b
       → all_own values ≡ true
       → AreShown (placed_tokens table (map (λ t. definition_at table t.id) types) values)
@@ -211,27 +211,27 @@ module _ (table : PortableRegistry) (writers_of : Id → Writers) (takers_of : I
 
   -- a list of items in an array is taken back, by the definitions of the items
   array_of_back :
-      (type : Option TypeDef) (types : ℕ → List (Option TypeDef)) (write : Writer (List Dyn)) (take : List Data → Taken (List Dyn))
-      → ((values : List Dyn) (b : List ℕ) → write values ≡ written b → AllByRecursion IsByte b → all_own values ≡ true
+      (type : Option TypeDef) (types : ℕ → List (Option TypeDef)) (write : Writer (List Value)) (take : List Data → Taken (List Value))
+      → ((values : List Value) (b : List ℕ) → write values ≡ written b → AllByRecursion IsByte b → all_own values ≡ true
       → AreShown (placed_tokens table (types (length values)) values) take values)
-      → ((values : List Dyn) → event.events_by table type (dyn.List values)
+      → ((values : List Value) → event.events_by table type (Values.List values)
       ≡ list_events false (in_place (value_by table) values (types (length values))))
-      → (test : ℕ → Bool) → ((values : List Dyn) (b : List ℕ) → write values ≡ written b → test (length values) ≡ true)
+      → (test : ℕ → Bool) → ((values : List Value) (b : List ℕ) → write values ≡ written b → test (length values) ≡ true)
       → AreTakenBack (held list_in write) (tokens_by table type)
-      (λ tree. taken_map dyn.List (if_found (items_in tree)
+      (λ tree. taken_map Values.List (if_found (items_in tree)
       (λ trees. if test (length trees) then take trees else not_taken mismatch)))
   array_of_back type types write take shown shows test fits value bytes e all own =
-      let x = held_parts dyn.List list_in write lists value bytes e in
-      let whole : Taker Dyn = λ tree. taken_map dyn.List (if_found (items_in tree)
+      let x = held_parts Values.List list_in write lists value bytes e in
+      let whole : Taker Value = λ tree. taken_map Values.List (if_found (items_in tree)
       (λ trees. if test (length trees) then take trees else not_taken mismatch)) in
       let own_items = sym (list_own x.0) ∙ ap has_own_names (sym x.1) ∙ own in
       subst (λ v. IsShown (tokens_by table type v) whole v) (sym x.1)
-      (subst (λ es. IsShown (flat_map event_tokens es) whole (dyn.List x.0)) (sym (shows x.0))
+      (subst (λ es. IsShown (flat_map event_tokens es) whole (Values.List x.0)) (sym (shows x.0))
       (list_back table (types (length x.0)) take x.0 whole
       (λ trees h count.
-      ap (λ (t : Bool). taken_map dyn.List (if t then take (listed trees) else not_taken mismatch))
+      ap (λ (t : Bool). taken_map Values.List (if t then take (listed trees) else not_taken mismatch))
       (ap test count ∙ fits x.0 bytes x.2)
-      ∙ ap (taken_map dyn.List) h)
+      ∙ ap (taken_map Values.List) h)
       (shown x.0 bytes x.2 all own_items)))
 
   -- a tuple is taken back
@@ -255,26 +255,26 @@ module _ (table : PortableRegistry) (writers_of : Id → Writers) (takers_of : I
       (list_typed table (Some (pair_of key value))) (λ n. true) (λ values b e. refl)
     where
       second :
-          (values : List Dyn) (b : List ℕ) → writing.in_turn 1 (item (writers_of value).inner ∷ []) values ≡ written b
+          (values : List Value) (b : List ℕ) → writing.in_turn 1 (item (writers_of value).inner ∷ []) values ≡ written b
           → AllByRecursion IsByte b → all_own values ≡ true
           → AreShown (placed_tokens table (definition_at table value.id ∷ []) values) (in_turn ((takers_of value).inner ∷ [])) values
       second [] b e all own = cc
       second (v ∷ []) b e all own =
           let write = (writers_of value).inner in
-          let p = parted_bytes (item write 1 v) (writing.in_turn {A = Dyn} 2 [] []) b e all in
+          let p = parted_bytes (item write 1 v) (writing.in_turn {A = Value} 2 [] []) b e all in
           let o = and_parts (has_own_names v) (all_own []) own in
-          one_back table (definition_at table value.id) [] (takers_of value).inner (in_turn {A = Dyn} []) (in_turn ((takers_of value).inner ∷ [])) v []
+          one_back table (definition_at table value.id) [] (takers_of value).inner (in_turn {A = Value} []) (in_turn ((takers_of value).inner ∷ [])) v []
           (λ tree trees. refl)
           (items_taken write (tokens_by table (definition_at table value.id)) (takers_of value).inner (back value).inner 1 v
           p.0 p.2 p.4 o.0)
-          (none_shown (in_turn {A = Dyn} []) refl)
+          (none_shown (in_turn {A = Value} []) refl)
       second (v ∷ w ∷ values) b e all own =
           let p =
-          parted_bytes (item (writers_of value).inner 1 v) (writing.in_turn {A = Dyn} 2 [] (w ∷ values)) b e all in
+          parted_bytes (item (writers_of value).inner 1 v) (writing.in_turn {A = Value} 2 [] (w ∷ values)) b e all in
           let none = p.3 in cc
 
       both :
-          (values : List Dyn) (b : List ℕ)
+          (values : List Value) (b : List ℕ)
           → writing.in_turn 0 (item (writers_of key).inner ∷ item (writers_of value).inner ∷ []) values ≡ written b
           → AllByRecursion IsByte b → all_own values ≡ true
           → AreShown (placed_tokens table (definition_at table key.id ∷ definition_at table value.id ∷ []) values)
@@ -294,7 +294,7 @@ module _ (table : PortableRegistry) (writers_of : Id → Writers) (takers_of : I
 
   -- a count was written of fewer than 2^32
   counted_fits :
-      (write : ℕ → Writer (List Dyn)) (values : List Dyn) (b : List ℕ) → writers.counted write values ≡ written b
+      (write : ℕ → Writer (List Value)) (values : List Value) (b : List ℕ) → writers.counted write values ≡ written b
       → AllByRecursion IsByte b → has_count (length values) ≡ true
   counted_fits write values b e all =
       let p = parted_bytes (count (length values)) (write (length values) values) b e all in
@@ -305,18 +305,18 @@ module _ (table : PortableRegistry) (writers_of : Id → Writers) (takers_of : I
       (d : _) → AreTakenBack (held list_in (writers.counted (λ n. writers.pairs n (writers_of d.key) (writers_of d.value))))
       (tokens_by table (Some (def.Map d))) (takers.pairs (takers_of d.key) (takers_of d.value))
   map_back d value bytes e all own =
-      let x = held_parts dyn.List list_in (writers.counted (λ n. writers.pairs n (writers_of d.key) (writers_of d.value))) lists value bytes e in
+      let x = held_parts Values.List list_in (writers.counted (λ n. writers.pairs n (writers_of d.key) (writers_of d.value))) lists value bytes e in
       let p = parted_bytes (count (length x.0)) (writers.pairs (length x.0) (writers_of d.key) (writers_of d.value) x.0) bytes x.2 all in
       let take = takers.pair (takers_of d.key) (takers_of d.value) in
       let fits : has_count (length x.0) ≡ true = fitted (nat_lt (length x.0) (2 ^ 32)) (compact_bytes (length x.0)) p.0 p.2 in
       let own_items = sym (list_own x.0) ∙ ap has_own_names (sym x.1) ∙ own in
       let whole = takers.pairs (takers_of d.key) (takers_of d.value) in
       subst (λ v. IsShown (tokens_by table (Some (def.Map d)) v) whole v) (sym x.1)
-      (subst (λ es. IsShown (flat_map event_tokens es) whole (dyn.List x.0)) (sym (list_typed table (Some (def.Map d)) x.0))
+      (subst (λ es. IsShown (flat_map event_tokens es) whole (Values.List x.0)) (sym (list_typed table (Some (def.Map d)) x.0))
       (list_back table (replicate (length x.0) (Some (pair_of d.key d.value))) (each take) x.0 whole
       (λ trees h long.
-      ap (λ (t : Bool). taken_map dyn.List (if t then each take (listed trees) else not_taken mismatch)) (ap has_count long ∙ fits)
-      ∙ ap (taken_map dyn.List) h)
+      ap (λ (t : Bool). taken_map Values.List (if t then each take (listed trees) else not_taken mismatch)) (ap has_count long ∙ fits)
+      ∙ ap (taken_map Values.List) h)
       (items_back table (Some (pair_of d.key d.value)) (writers.pair (writers_of d.key) (writers_of d.value)) take (pair_back d.key d.value)
       (length x.0) 0 x.0 p.1 p.3 p.5 own_items)))
 
@@ -326,13 +326,13 @@ module _ (table : PortableRegistry) (writers_of : Id → Writers) (takers_of : I
       (tokens_by table (Some (def.Sequence d))) (items has_count (takers_of d.type_param))
   sequence_back d value bytes e all own =
       let r = d.type_param in
-      let x = held_parts dyn.List list_in (writers.counted (λ n. writers.items n (writers_of r))) lists value bytes e in
+      let x = held_parts Values.List list_in (writers.counted (λ n. writers.items n (writers_of r))) lists value bytes e in
       let p = parted_bytes (count (length x.0)) (writers.items (length x.0) (writers_of r) x.0) bytes x.2 all in
       let fits : has_count (length x.0) ≡ true = fitted (nat_lt (length x.0) (2 ^ 32)) (compact_bytes (length x.0)) p.0 p.2 in
       let own_items = sym (list_own x.0) ∙ ap has_own_names (sym x.1) ∙ own in
       let whole = items has_count (takers_of r) in
       subst (λ v. IsShown (tokens_by table (Some (def.Sequence d)) v) whole v) (sym x.1)
-      (subst (λ es. IsShown (flat_map event_tokens es) whole (dyn.List x.0)) (sym (list_typed table (Some (def.Sequence d)) x.0))
+      (subst (λ es. IsShown (flat_map event_tokens es) whole (Values.List x.0)) (sym (list_typed table (Some (def.Sequence d)) x.0))
       (typed_list_back table (definition_at table r.id) (writers_of r) (takers_of r) (back r) has_count (length x.0) x.0 p.1 p.3 p.5
       fits own_items))
 
@@ -342,13 +342,13 @@ module _ (table : PortableRegistry) (writers_of : Id → Writers) (takers_of : I
       (tokens_by table (Some (def.Array d))) (items (λ n. n == d.len) (takers_of d.type_param))
   array_back d value bytes e all own =
       let r = d.type_param in
-      let x = held_parts dyn.List list_in (writers.items d.len (writers_of r)) lists value bytes e in
+      let x = held_parts Values.List list_in (writers.items d.len (writers_of r)) lists value bytes e in
       let long = as_many d.len 0 (item (writers_of r).value) x.0 bytes x.2 in
       let as_written = ap (λ n. writing.in_turn 0 (replicate n (item (writers_of r).value)) x.0) long ∙ x.2 in
       let own_items = sym (list_own x.0) ∙ ap has_own_names (sym x.1) ∙ own in
       let whole = items (λ n. n == d.len) (takers_of r) in
       subst (λ v. IsShown (tokens_by table (Some (def.Array d)) v) whole v) (sym x.1)
-      (subst (λ es. IsShown (flat_map event_tokens es) whole (dyn.List x.0)) (sym (list_typed table (Some (def.Array d)) x.0))
+      (subst (λ es. IsShown (flat_map event_tokens es) whole (Values.List x.0)) (sym (list_typed table (Some (def.Array d)) x.0))
       (typed_list_back table (definition_at table r.id) (writers_of r) (takers_of r) (back r) (λ n. n == d.len) (length x.0) x.0 bytes
       as_written all (eq-eqb (length x.0) d.len long) own_items))
 
@@ -367,7 +367,7 @@ module _ (table : PortableRegistry) (writers_of : Id → Writers) (takers_of : I
   values_back (def.BitSequence d) = λ value bytes e all own. cc
   values_back (def.Map d) = map_back d
 
-module _ (table : PortableRegistry) (type : Option TypeDef) (write : Id → Writer Dyn) (take : Id → Taker Dyn)
+module _ (table : PortableRegistry) (type : Option TypeDef) (write : Id → Writer Value) (take : Id → Taker Value)
     (back : (r : Id) → AreTakenBack (write r) (tokens_by table type) (take r)) where
   -- a compact integer of the only field is taken back
   field_back :

@@ -15,16 +15,16 @@ use Rattle.serde_json.specs.Data.{Data, array, object, Members, no_members, put}
 use Rattle.scale_info_types.specs.Portable.{Id, Text, Field}
 use Rattle.scale_info_types.specs.declared.ty.fields.Field.{Field as AnyField}
 use Rattle.scale_info_types.specs.Shapes.{map_field}
-use Rattle.scale_info_tables.specs.declared.portable.PortableRegistry.{PortableRegistry}
-use Rattle.scale_info_value.specs.declared.value.Dyn.{Dyn}
-use Rattle.scale_info_encode.specs.Writers as writing
-use Rattle.scale_info_encode.specs.Writers.{Writer, written, step_to}
-use Rattle.scale_info_encode.specs.DefinitionWriters as writers
-use Rattle.scale_info_encode.specs.DefinitionWriters.{Writers}
-use Rattle.scale_info_encode.proofs.Inverse.{parted, part_written}
+use Rattle.scale_info_table.specs.declared.portable.PortableRegistry.{PortableRegistry}
+use Rattle.scale_info_value.specs.declared.value.Value.{Value}
+use Rattle.scale_info_value_encode.specs.Writers as writing
+use Rattle.scale_info_value_encode.specs.Writers.{Writer, written, step_to}
+use Rattle.scale_info_value_encode.specs.DefinitionWriters as writers
+use Rattle.scale_info_value_encode.specs.DefinitionWriters.{Writers}
+use Rattle.scale_info_value_encode.proofs.Inverse.{parted, part_written}
 use Rattle.scale_info_bytes.specs.Encodings.{IsByte}
-use Rattle.scale_info_visit.specs.Events.{definition_at, all_named, keys, names}
-use Rattle.scale_info_visit.specs.Visits.{placed, field_by}
+use Rattle.scale_info_value_visit.specs.Events.{definition_at, all_named, keys, names}
+use Rattle.scale_info_value_visit.specs.Visits.{placed, field_by}
 use Rattle.scale_info_value_text.specs.ValueTexts.{event_tokens, field_opening, opening, closing}
 use Rattle.scale_info_value_json.specs.Takers.{Taker, refused, mismatch, taken_map, if_found, all_taken, in_turn}
 use Rattle.scale_info_value_json.specs.DefinitionTakers as takers
@@ -76,7 +76,7 @@ nothing_before None = refl
 nothing_before (Some t) = refl
 
 -- fields by their names and takers
-abbrev named_takers : {F : Type 0} → List (AnyField F Takers Text) → List (Option Text × Taker (Option Text × Dyn))
+abbrev named_takers : {F : Type 0} → List (AnyField F Takers Text) → List (Option Text × Taker (Option Text × Value))
 named_takers fs = map (λ f. (f.name, takers.field f)) fs
 
 -- their values are those of the named fields
@@ -98,7 +98,7 @@ module _ (table : PortableRegistry) (writers_of : Id → Writers) (takers_of : I
 
   -- a field that is written has its name
   field_parts :
-      (place : ℕ) (f : Field) (named : Option Text × Dyn) (b : List ℕ)
+      (place : ℕ) (f : Field) (named : Option Text × Value) (b : List ℕ)
       → writers.field (written_field f) place named ≡ written b
       → (f.name ≡ named.0) × ((writers_of f.ty).value named.1 ≡ written b)
   field_parts place f named b e =
@@ -108,12 +108,12 @@ module _ (table : PortableRegistry) (writers_of : Id → Writers) (takers_of : I
       (sym (name_stays f.name) ∙ equal_names (option_map (λ t. t) f.name) named.0 p.0, p.1)
 
   -- the fields from a place on, in order
-  abbrev written_from : ℕ → List Field → Writer (List (Option Text × Dyn))
+  abbrev written_from : ℕ → List Field → Writer (List (Option Text × Value))
   written_from place all values = writing.in_turn place (map writers.field (map written_field all)) values
 
   -- fields that are written have their names
   pub written_keys :
-      (place : ℕ) (all : List Field) (values : List (Option Text × Dyn)) (b : List ℕ)
+      (place : ℕ) (all : List Field) (values : List (Option Text × Value)) (b : List ℕ)
       → written_from place all values ≡ written b → keys values ≡ names all
   written_keys place [] [] b e = refl
   written_keys place [] (v ∷ values) b e = cc
@@ -124,20 +124,20 @@ module _ (table : PortableRegistry) (writers_of : Id → Writers) (takers_of : I
 
   -- a field's value is taken back under its name
   field_back :
-      (place : ℕ) (f : Field) (named : Option Text × Dyn) (b : List ℕ)
+      (place : ℕ) (f : Field) (named : Option Text × Value) (b : List ℕ)
       → writers.field (written_field f) place named ≡ written b → AllByRecursion IsByte b → has_own_names named.1 ≡ true
       → IsShown (tokens_by table (definition_at table f.ty.id) named.1) (takers.field (taken_field f)) named
   field_back place f named b e bytes own =
       let p = field_parts place f named b e in
       let s = (back f.ty).value named.1 b p.1 bytes own in
-      subst (λ (n : Option Text). IsShown {A = Option Text × Dyn} (tokens_by table (definition_at table f.ty.id) named.1)
+      subst (λ (n : Option Text). IsShown {A = Option Text × Value} (tokens_by table (definition_at table f.ty.id) named.1)
       (λ tree. taken_map (λ value. (option_map (λ t. t) f.name, value)) ((takers_of f.ty).value tree)) (n, named.1))
       (name_stays f.name ∙ p.0)
       (shown_map (λ value. (option_map (λ t. t) f.name, value)) _ (takers_of f.ty).value named.1 s)
 
   -- the tokens of fields of which the first is this
   tokens_of_first :
-      (named : Bool) (v : Option Text × Dyn) (f : Field) (all : List Field) (values : List (Option Text × Dyn))
+      (named : Bool) (v : Option Text × Value) (f : Field) (all : List Field) (values : List (Option Text × Value))
       → flat_map event_tokens (placed (field_by table named) (map Some (f ∷ all)) (v ∷ values))
       ≡ (field_opening v.0 named ++ tokens_by table (definition_at table f.ty.id) v.1)
       ++ flat_map event_tokens (placed (field_by table named) (map Some all) values)
@@ -147,7 +147,7 @@ module _ (table : PortableRegistry) (writers_of : Id → Writers) (takers_of : I
 
   -- fields in an array are taken back
   array_back :
-      (place : ℕ) (all : List Field) (values : List (Option Text × Dyn)) (b : List ℕ)
+      (place : ℕ) (all : List Field) (values : List (Option Text × Value)) (b : List ℕ)
       → written_from place all values ≡ written b → AllByRecursion IsByte b → fields_own values ≡ true
       → AreShown (flat_map event_tokens (placed (field_by table false) (map Some all) values))
       (in_turn (map takers.field (map taken_field all))) values
@@ -177,7 +177,7 @@ module _ (table : PortableRegistry) (writers_of : Id → Writers) (takers_of : I
 
   -- fields under their names, put to others that were found before, are taken back
   members_back :
-      (place : ℕ) (all : List Field) (values : List (Option Text × Dyn)) (b : List ℕ) (found : Members)
+      (place : ℕ) (all : List Field) (values : List (Option Text × Value)) (b : List ℕ) (found : Members)
       → written_from place all values ≡ written b → AllByRecursion IsByte b → fields_own values ≡ true
       → all_named (names all) ≡ true → are_distinct (names all) ≡ true
       → AreMembersShown (flat_map event_tokens (placed (field_by table true) (map Some all) values)) found
@@ -207,7 +207,7 @@ module _ (table : PortableRegistry) (writers_of : Id → Writers) (takers_of : I
 
   -- fields are taken back, with what begins and ends them
   pub fields_back :
-      (all : List Field) (values : List (Option Text × Dyn)) (b : List ℕ)
+      (all : List Field) (values : List (Option Text × Value)) (b : List ℕ)
       → writers.fields (map written_field all) values ≡ written b → AllByRecursion IsByte b → (own_names (keys values) && fields_own values) ≡ true
       → IsShown
       (opening (keys values)

@@ -16,20 +16,20 @@ use Rattle.scale_info_types.specs.Portable.{Id, TypeDef, Description}
 use Rattle.scale_info_types.specs.declared.ty.TypeDef.TheVariants as def
 use Rattle.scale_info_types.specs.Shapes.{map_definition}
 use Rattle.scale_info_primitives.specs.declared.primitive.TypeDefPrimitive.TheVariants as kind
-use Rattle.scale_info_tables.specs.declared.portable.PortableRegistry.{PortableRegistry}
-use Rattle.scale_info_value.specs.declared.value.Dyn.{Dyn}
-use Rattle.scale_info_value.specs.declared.value.Dyn.TheVariants as dyn
+use Rattle.scale_info_table.specs.declared.portable.PortableRegistry.{PortableRegistry}
+use Rattle.scale_info_value.specs.declared.value.Value.{Value}
+use Rattle.scale_info_value.specs.declared.value.Value.TheVariants as Values
 use Rattle.scale_info_value.specs.Outcomes.{decoded}
 use Rattle.scale_info_value.specs.Readings.{type_at, reading}
-use Rattle.scale_info_encode.specs.Writers as writing
-use Rattle.scale_info_encode.specs.Writers.{Writer, written, refused}
-use Rattle.scale_info_encode.specs.DefinitionWriters as writers
-use Rattle.scale_info_encode.specs.DefinitionWriters.{Writers, unsigned_in}
-use Rattle.scale_info_encode.specs.Writings as written_values
-use Rattle.scale_info_encode.proofs.Inverse.{first_bytes}
-use Rattle.scale_info_encode.proofs.Levels.{written_as_read}
-use Rattle.scale_info_encode.proofs.ValueKinds.{unsigned_integers}
-use Rattle.scale_info_visit.specs.Events.{definition_at, is_byte}
+use Rattle.scale_info_value_encode.specs.Writers as writing
+use Rattle.scale_info_value_encode.specs.Writers.{Writer, written, refused}
+use Rattle.scale_info_value_encode.specs.DefinitionWriters as writers
+use Rattle.scale_info_value_encode.specs.DefinitionWriters.{Writers, unsigned_in}
+use Rattle.scale_info_value_encode.specs.Writings as written_values
+use Rattle.scale_info_value_encode.proofs.Inverse.{first_bytes}
+use Rattle.scale_info_value_encode.proofs.Levels.{written_as_read}
+use Rattle.scale_info_value_encode.proofs.ValueKinds.{unsigned_integers}
+use Rattle.scale_info_value_visit.specs.Events.{definition_at, is_byte}
 use Rattle.scale_info_value_json.specs.Takers.{Taker, taken, refused as not_taken, too_deep, if_found}
 use Rattle.scale_info_value_json.specs.DefinitionTakers as takers
 use Rattle.scale_info_value_json.specs.DefinitionTakers.{Takers}
@@ -44,7 +44,7 @@ use Rattle.scale_info_value_json.proofs.ShownParts.{tokens_by, AreTakenBack, Par
 
 -- compact integers by a description are taken back
 compacts_by_type :
-    (table : PortableRegistry) (type : Option TypeDef) (write : ℕ → Writer Dyn) (take : ℕ → Taker Dyn)
+    (table : PortableRegistry) (type : Option TypeDef) (write : ℕ → Writer Value) (take : ℕ → Taker Value)
     → ((id : ℕ) → AreTakenBack (write id) (tokens_by table type) (take id)) → (o : Option Description)
     → AreTakenBack (written_values.compact_by_type write o) (tokens_by table type) (compact_by_type take o)
 compacts_by_type table type write take back None = λ value bytes e all own. cc
@@ -73,19 +73,19 @@ values_by_type table part takers_of back (Some d) =
 
 -- a byte by its definition
 byte_by :
-    (write : Id → Writers) (take : Id → Takers) (d : TypeDef) → is_byte (Some d) ≡ true → (value : Dyn) (b : List ℕ)
+    (write : Id → Writers) (take : Id → Takers) (d : TypeDef) → is_byte (Some d) ≡ true → (value : Value) (b : List ℕ)
     → writers.value_by (map_definition {G = Unit {0}} write (λ t. t) d) value ≡ written b
     → IsByteBack (writers.value_by (map_definition {G = Unit {0}} write (λ t. t) d))
     (takers.value_by (map_definition {G = Unit {0}} take (λ t. t) d)) value
 byte_by write take (def.Primitive kind.U8) is value b e =
-    let x = held_parts dyn.Unsigned unsigned_in (writers.unsigned w8) unsigned_integers value b e in
+    let x = held_parts Values.Unsigned unsigned_in (writers.unsigned w8) unsigned_integers value b e in
     let less : x.0 < 2 ^ 8 = fits x.0 _ b (nat_lt x.0 (2 ^ 8)) refl x.2 in
     record {
       byte = x.0;
       is = x.1;
       small = omega arith;
       taken_of =
-          ap (λ (t : Bool). if_found (if t then Some x.0 else None) (λ n. taken (dyn.Unsigned n))) (lt-ltb x.0 (2 ^ 8) less)
+          ap (λ (t : Bool). if_found (if t then Some x.0 else None) (λ n. taken (Values.Unsigned n))) (lt-ltb x.0 (2 ^ 8) less)
           ∙ ap taken (sym x.1);
     }
   where
@@ -98,7 +98,7 @@ byte_by write take _ is value b e = cc
 -- a byte by a description
 byte_by_type :
     (part : ℕ → Writers) (takers_of : ℕ → Takers) (o : Option Description) → is_byte (option_map (λ d. d.type_def) o) ≡ true
-    → (value : Dyn) (b : List ℕ) → written_values.value_by_type part o value ≡ written b
+    → (value : Value) (b : List ℕ) → written_values.value_by_type part o value ≡ written b
     → IsByteBack (written_values.value_by_type part o) (value_by_type takers_of o) value
 byte_by_type part takers_of None is value b e = cc
 byte_by_type part takers_of (Some d) is value b e = byte_by (λ r. part r.id) (λ r. takers_of r.id) d.type_def is value b e
@@ -137,7 +137,7 @@ more_takers left table r = record {
 
 -- a byte, however many levels are left
 bytes_within :
-    (left : ℕ) (table : PortableRegistry) (id : ℕ) → is_byte (definition_at table id) ≡ true → (value : Dyn) (b : List ℕ)
+    (left : ℕ) (table : PortableRegistry) (id : ℕ) → is_byte (definition_at table id) ≡ true → (value : Value) (b : List ℕ)
     → written_values.value_within left table id value ≡ written b
     → IsByteBack (written_values.value_within left table id) (value_within left table id) value
 unfolding value_within written_values.value_within
@@ -176,7 +176,7 @@ values_within (suc (suc left)) table id =
 
 -- the text of a value that is written is that of a tree, from which the value is taken
 pub written_taken_back :
-    (table : PortableRegistry) (id depth : ℕ) (value : Dyn) (bytes : List ℕ)
+    (table : PortableRegistry) (id depth : ℕ) (value : Value) (bytes : List ℕ)
     → written_values.writing table id depth value ≡ written bytes → AllByRecursion IsByte bytes → has_own_names value ≡ true
     → IsTakenFrom table id depth value
 written_taken_back table id depth value bytes e all own =
@@ -196,7 +196,7 @@ written_taken_back table id depth value bytes e all own =
 
 -- so is that of a value that was read
 pub read_taken_back :
-    (table : PortableRegistry) (id depth : ℕ) (input : List ℕ) (value : Dyn) (rest : List ℕ) → AllByRecursion IsByte input
+    (table : PortableRegistry) (id depth : ℕ) (input : List ℕ) (value : Value) (rest : List ℕ) → AllByRecursion IsByte input
     → reading table id depth input ≡ decoded value rest → has_own_names value ≡ true → IsTakenFrom table id depth value
 read_taken_back table id depth input value rest all e own =
     let p = written_as_read table id depth input value rest all e in
@@ -205,7 +205,7 @@ read_taken_back table id depth input value rest all e own =
 
 -- what is read of the text of a value that was read is taken as that value, which has the bytes that were read
 pub json_and_bytes :
-    (table : PortableRegistry) (id depth : ℕ) (input : List ℕ) (value : Dyn) (rest : List ℕ) (tree : Data)
+    (table : PortableRegistry) (id depth : ℕ) (input : List ℕ) (value : Value) (rest : List ℕ) (tree : Data)
     → AllByRecursion IsByte input → reading table id depth input ≡ decoded value rest → has_own_names value ≡ true
     → read (value_text table id value) ≡ Some tree
     → (taking table id depth tree ≡ taken value)

@@ -12,18 +12,18 @@ use Rattle.scale_info_bytes.specs.Encodings.{IsByte}
 use Rattle.json.specs.Token.{Token}
 use Rattle.serde_json.specs.Data.{Data, array, string, number, unsigned, Items}
 use Rattle.scale_info_types.specs.Portable.{TypeDef}
-use Rattle.scale_info_tables.specs.declared.portable.PortableRegistry.{PortableRegistry}
-use Rattle.scale_info_value.specs.declared.value.Dyn.{Dyn}
-use Rattle.scale_info_value.specs.declared.value.Dyn.TheVariants as dyn
-use Rattle.scale_info_encode.specs.Writers as writing
-use Rattle.scale_info_encode.specs.declared.path.Step.TheVariants as step
-use Rattle.scale_info_encode.specs.Writers.{Writer, written, item}
-use Rattle.scale_info_encode.specs.DefinitionWriters.{Writers}
-use Rattle.scale_info_encode.proofs.Inverse.{parted, part_written}
-use Rattle.scale_info_visit.specs.Events as event
-use Rattle.scale_info_visit.specs.Events.{Event, definition_at, events_by, list_events, items_events, in_place, joined, integers_in}
-use Rattle.scale_info_visit.specs.Visits.{placed, value_by}
-use Rattle.scale_info_visit.proofs.Events.{integers_alone, integers_joined}
+use Rattle.scale_info_table.specs.declared.portable.PortableRegistry.{PortableRegistry}
+use Rattle.scale_info_value.specs.declared.value.Value.{Value}
+use Rattle.scale_info_value.specs.declared.value.Value.TheVariants as Values
+use Rattle.scale_info_value_encode.specs.Writers as writing
+use Rattle.scale_info_value_encode.specs.declared.path.Step.TheVariants as step
+use Rattle.scale_info_value_encode.specs.Writers.{Writer, written, item}
+use Rattle.scale_info_value_encode.specs.DefinitionWriters.{Writers}
+use Rattle.scale_info_value_encode.proofs.Inverse.{parted, part_written}
+use Rattle.scale_info_value_visit.specs.Events as event
+use Rattle.scale_info_value_visit.specs.Events.{Event, definition_at, events_by, list_events, items_events, in_place, joined, integers_in}
+use Rattle.scale_info_value_visit.specs.Visits.{placed, value_by}
+use Rattle.scale_info_value_visit.proofs.Events.{integers_alone, integers_joined}
 use Rattle.scale_info_value_text.specs.ValueTexts.{event_tokens}
 use Rattle.scale_info_value_json.specs.Takers.{Taken, Taker, taken, refused, mismatch, taken_map, if_found}
 use Rattle.scale_info_value_json.specs.DefinitionTakers.{Takers, each, counted, items}
@@ -37,19 +37,19 @@ use Rattle.scale_info_value_json.proofs.SoFar.{then_more}
 
 module _ (table : PortableRegistry) where
   -- the tokens of items with these definitions
-  abbrev pub placed_tokens : List (Option TypeDef) → List Dyn → List Token
+  abbrev pub placed_tokens : List (Option TypeDef) → List Value → List Token
   placed_tokens types values = flat_map event_tokens (placed (value_by table) types values)
 
   -- the tokens of items of which the first is this
   tokens_of_first :
-      (t : Option TypeDef) (types : List (Option TypeDef)) (v : Dyn) (values : List Dyn)
+      (t : Option TypeDef) (types : List (Option TypeDef)) (v : Value) (values : List Value)
       → placed_tokens (t ∷ types) (v ∷ values) ≡ tokens_by table t v ++ placed_tokens types values
   tokens_of_first t types v values = flat_map-append event_tokens (value_by table v t) (placed (value_by table) types values)
 
   -- one item more is taken back
   pub one_back :
-      (t : Option TypeDef) (types : List (Option TypeDef)) (first : Taker Dyn) (more take : List Data → Taken (List Dyn))
-      (v : Dyn) (values : List Dyn)
+      (t : Option TypeDef) (types : List (Option TypeDef)) (first : Taker Value) (more take : List Data → Taken (List Value))
+      (v : Value) (values : List Value)
       → ((tree : Data) (trees : List Data) → take (tree ∷ trees) ≡ then_more (first tree) (more trees))
       → IsShown (tokens_by table t v) first v → AreShown (placed_tokens types values) more values
       → AreShown (placed_tokens (t ∷ types) (v ∷ values)) take (v ∷ values)
@@ -59,8 +59,8 @@ module _ (table : PortableRegistry) where
 
   -- items of one type are taken back
   pub items_back :
-      (type : Option TypeDef) (write : Writer Dyn) (take : Taker Dyn) → AreTakenBack write (tokens_by table type) take
-      → (n place : ℕ) (values : List Dyn) (b : List ℕ)
+      (type : Option TypeDef) (write : Writer Value) (take : Taker Value) → AreTakenBack write (tokens_by table type) take
+      → (n place : ℕ) (values : List Value) (b : List ℕ)
       → writing.in_turn place (replicate n (item write)) values ≡ written b
       → AllByRecursion IsByte b → all_own values ≡ true → AreShown (placed_tokens (replicate n type) values) (each take) values
   items_back type write take back zero place [] b e all own = none_shown (each take) refl
@@ -76,20 +76,20 @@ module _ (table : PortableRegistry) where
 
   -- a list of items that are no bytes is taken back
   pub list_back :
-      (types : List (Option TypeDef)) (take : List Data → Taken (List Dyn)) (values : List Dyn) (whole : Taker Dyn)
+      (types : List (Option TypeDef)) (take : List Data → Taken (List Value)) (values : List Value) (whole : Taker Value)
       → ((trees : Items) → take (listed trees) ≡ taken values → length (listed trees) ≡ length values
-      → whole (array trees) ≡ taken (dyn.List values))
+      → whole (array trees) ≡ taken (Values.List values))
       → AreShown (placed_tokens types values) take values
-      → IsShown (flat_map event_tokens (list_events false (in_place (value_by table) values types))) whole (dyn.List values)
+      → IsShown (flat_map event_tokens (list_events false (in_place (value_by table) values types))) whole (Values.List values)
   list_back types take values whole by s =
-      subst (λ ts. IsShown (token.begin_array ∷ ts) whole (dyn.List values))
+      subst (λ ts. IsShown (token.begin_array ∷ ts) whole (Values.List values))
       (sym (flat_map-append event_tokens (placed (value_by table) types values) (event.end_list ∷ [])))
-      (array_shown (placed_tokens types values) take values whole (dyn.List values) by s)
+      (array_shown (placed_tokens types values) take values whole (Values.List values) by s)
 
 -- values that are bytes
-record AreBytes (take : Taker Dyn) (values : List Dyn) : Type 0 where
+record AreBytes (take : Taker Value) (values : List Value) : Type 0 where
   bytes : List ℕ
-  are : values ≡ map dyn.Unsigned bytes
+  are : values ≡ map Values.Unsigned bytes
   small : IsBytes bytes
   taken_of : each take (map (λ n. number (unsigned n)) bytes) ≡ taken values
 
@@ -104,8 +104,8 @@ no_bytes i = omega arith
 
 -- items that are written as bytes are bytes
 are_bytes :
-    (write : Writer Dyn) (take : Taker Dyn) → ((v : Dyn) (b : List ℕ) → write v ≡ written b → IsByteBack write take v)
-    → (n place : ℕ) (values : List Dyn) (b : List ℕ) → writing.in_turn place (replicate n (item write)) values ≡ written b
+    (write : Writer Value) (take : Taker Value) → ((v : Value) (b : List ℕ) → write v ≡ written b → IsByteBack write take v)
+    → (n place : ℕ) (values : List Value) (b : List ℕ) → writing.in_turn place (replicate n (item write)) values ≡ written b
     → AreBytes take values
 are_bytes write take back zero place [] b e = record { bytes = []; are = refl; small = no_bytes; taken_of = refl }
 are_bytes write take back zero place (v ∷ values) b e = cc
@@ -127,10 +127,10 @@ module _ (table : PortableRegistry) (type : Option TypeDef) (writers : Writers) 
     (back : PartIsTakenBack table type writers takers) where
   -- a list of bytes is taken back
   bytes_list_back :
-      (test : ℕ → Bool) (n : ℕ) (values : List Dyn) (b : List ℕ) → event.is_byte type ≡ true
+      (test : ℕ → Bool) (n : ℕ) (values : List Value) (b : List ℕ) → event.is_byte type ≡ true
       → writing.in_turn 0 (replicate n (item writers.value)) values ≡ written b → test (length values) ≡ true
       → IsShown (flat_map event_tokens (list_events true (in_place (value_by table) values (replicate n type))))
-      (items test takers) (dyn.List values)
+      (items test takers) (Values.List values)
   bytes_list_back test n values b of_bytes e fits =
       let a = are_bytes writers.value takers.value (back.bytes of_bytes) n 0 values b e in
       let types = replicate n type in
@@ -146,33 +146,33 @@ module _ (table : PortableRegistry) (type : Option TypeDef) (writers : Writers) 
       ∙ ap (option_map (map (λ k. number (unsigned k)))) (bytes_back a.bytes a.small) in
       let long : length trees ≡ length values =
       length-map a.bytes (λ k. number (unsigned k))
-      ∙ sym (length-map a.bytes dyn.Unsigned) ∙ ap length (sym a.are) in
-      let whole : items test takers (string text) ≡ taken (dyn.List values) =
-      ap (λ o. taken_map dyn.List (if_found o (counted test takers.value))) found
-      ∙ ap (λ (t : Bool). taken_map dyn.List (if t then each takers.value trees else refused mismatch)) (ap test long ∙ fits)
-      ∙ ap (taken_map dyn.List) a.taken_of in
-      subst (λ es. IsShown (flat_map event_tokens es) (items test takers) (dyn.List values)) (sym shows)
-      (string_shown text (items test takers) (dyn.List values) whole)
+      ∙ sym (length-map a.bytes Values.Unsigned) ∙ ap length (sym a.are) in
+      let whole : items test takers (string text) ≡ taken (Values.List values) =
+      ap (λ o. taken_map Values.List (if_found o (counted test takers.value))) found
+      ∙ ap (λ (t : Bool). taken_map Values.List (if t then each takers.value trees else refused mismatch)) (ap test long ∙ fits)
+      ∙ ap (taken_map Values.List) a.taken_of in
+      subst (λ es. IsShown (flat_map event_tokens es) (items test takers) (Values.List values)) (sym shows)
+      (string_shown text (items test takers) (Values.List values) whole)
 
   -- a list of items of one type is taken back
   pub typed_list_back :
-      (test : ℕ → Bool) (n : ℕ) (values : List Dyn) (b : List ℕ)
+      (test : ℕ → Bool) (n : ℕ) (values : List Value) (b : List ℕ)
       → writing.in_turn 0 (replicate n (item writers.value)) values ≡ written b → AllByRecursion IsByte b
       → test (length values) ≡ true → all_own values ≡ true
       → IsShown (flat_map event_tokens (list_events (event.is_byte type) (in_place (value_by table) values (replicate n type))))
-      (items test takers) (dyn.List values)
+      (items test takers) (Values.List values)
   typed_list_back test n values b e all fits own = by_type (event.is_byte type) refl
     where
       by_type :
           (of_bytes : Bool) → event.is_byte type ≡ of_bytes
           → IsShown (flat_map event_tokens (list_events of_bytes (in_place (value_by table) values (replicate n type))))
-          (items test takers) (dyn.List values)
+          (items test takers) (Values.List values)
       by_type true is = bytes_list_back test n values b is e fits
       by_type false is =
           list_back table (replicate n type) (each takers.value) values (items test takers)
           (λ trees h count.
-          ap (λ t. taken_map dyn.List (if_found (list_in t (array trees)) (counted test takers.value))) (back.is_byte ∙ is)
-          ∙ ap (λ (t : Bool). taken_map dyn.List (if t then each takers.value (listed trees) else refused mismatch))
+          ap (λ t. taken_map Values.List (if_found (list_in t (array trees)) (counted test takers.value))) (back.is_byte ∙ is)
+          ∙ ap (λ (t : Bool). taken_map Values.List (if t then each takers.value (listed trees) else refused mismatch))
           (ap test count ∙ fits)
-          ∙ ap (taken_map dyn.List) h)
+          ∙ ap (taken_map Values.List) h)
           (items_back table type writers.value takers.value back.value n 0 values b e all own)

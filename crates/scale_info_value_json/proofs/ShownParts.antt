@@ -6,17 +6,17 @@ use Rattle.json.specs.Token.{Token}
 use Rattle.scale_info_bytes.specs.Encodings.{IsByte}
 use Rattle.serde_json.specs.Data.{number, unsigned}
 use Rattle.scale_info_types.specs.Portable.{TypeDef}
-use Rattle.scale_info_tables.specs.declared.portable.PortableRegistry.{PortableRegistry}
-use Rattle.scale_info_value.specs.declared.value.Dyn.{Dyn, out-Dyn}
-use Rattle.scale_info_value.specs.declared.value.Dyn.TheOpen.{Dyn-F}
-use Rattle.scale_info_value.specs.declared.value.Dyn.TheVariants as dyn
-use Rattle.scale_info_encode.specs.declared.path.Step.TheVariants as step
-use Rattle.scale_info_encode.specs.Writers.{Writer, Written, written, refused, mismatch, followed_by, item}
-use Rattle.scale_info_encode.specs.DefinitionWriters.{Writers, held, if_found}
-use Rattle.scale_info_encode.proofs.Inverse.{parted, part_written, first_bytes, rest_bytes}
-use Rattle.scale_info_encode.proofs.ValueKinds.{IsKind}
-use Rattle.scale_info_visit.specs.Events as event
-use Rattle.scale_info_visit.specs.Events.{events_by}
+use Rattle.scale_info_table.specs.declared.portable.PortableRegistry.{PortableRegistry}
+use Rattle.scale_info_value.specs.declared.value.Value.{Value, out-Value}
+use Rattle.scale_info_value.specs.declared.value.Value.TheOpen.{Value-F}
+use Rattle.scale_info_value.specs.declared.value.Value.TheVariants as Values
+use Rattle.scale_info_value_encode.specs.declared.path.Step.TheVariants as step
+use Rattle.scale_info_value_encode.specs.Writers.{Writer, Written, written, refused, mismatch, followed_by, item}
+use Rattle.scale_info_value_encode.specs.DefinitionWriters.{Writers, held, if_found}
+use Rattle.scale_info_value_encode.proofs.Inverse.{parted, part_written, first_bytes, rest_bytes}
+use Rattle.scale_info_value_encode.proofs.ValueKinds.{IsKind}
+use Rattle.scale_info_value_visit.specs.Events as event
+use Rattle.scale_info_value_visit.specs.Events.{events_by}
 use Rattle.scale_info_value_text.specs.ValueTexts.{event_tokens}
 use Rattle.scale_info_value_json.specs.Takers.{Taker, taken, taken_map}
 use Rattle.scale_info_value_json.specs.DefinitionTakers.{Takers}
@@ -24,26 +24,26 @@ use Rattle.scale_info_value_json.specs.TreesOfTexts.{has_own_names}
 use Rattle.scale_info_value_json.proofs.Shown.{IsShown}
 
 -- the tokens of a value of a type with this definition
-abbrev pub tokens_by : PortableRegistry → Option TypeDef → Dyn → List Token
+abbrev pub tokens_by : PortableRegistry → Option TypeDef → Value → List Token
 tokens_by table type value = flat_map event_tokens (events_by table type value)
 
 -- a value that is written is taken from the tree of its tokens
-abbrev pub AreTakenBack : Writer Dyn → (Dyn → List Token) → Taker Dyn → Type 0
+abbrev pub AreTakenBack : Writer Value → (Value → List Token) → Taker Value → Type 0
 AreTakenBack write tokens take =
-    (value : Dyn) (bytes : List ℕ) → write value ≡ written bytes → AllByRecursion IsByte bytes
+    (value : Value) (bytes : List ℕ) → write value ≡ written bytes → AllByRecursion IsByte bytes
     → has_own_names value ≡ true → IsShown (tokens value) take value
 
 -- so is one that is written as an item
 pub items_taken :
-    (write : Writer Dyn) (tokens : Dyn → List Token) (take : Taker Dyn) → AreTakenBack write tokens take → (place : ℕ)
+    (write : Writer Value) (tokens : Value → List Token) (take : Taker Value) → AreTakenBack write tokens take → (place : ℕ)
     → AreTakenBack (item write place) tokens take
 items_taken write tokens take back place value bytes e =
     back value bytes (part_written (step.Index place) (write value) bytes e)
 
 -- a value that is written is a byte, and is taken from its number
-pub record IsByteBack (write : Writer Dyn) (take : Taker Dyn) (value : Dyn) : Type 0 where
+pub record IsByteBack (write : Writer Value) (take : Taker Value) (value : Value) : Type 0 where
   pub byte : ℕ
-  pub is : value ≡ dyn.Unsigned byte
+  pub is : value ≡ Values.Unsigned byte
   pub small : byte < 256
   pub taken_of : take (number (unsigned byte)) ≡ taken value
 
@@ -55,22 +55,22 @@ pub record PartIsTakenBack (table : PortableRegistry) (type : Option TypeDef) (w
   pub compact : (any : Option TypeDef) → AreTakenBack writers.compact (tokens_by table any) takers.compact
   pub is_byte : takers.is_byte ≡ event.is_byte type
   pub bytes :
-      event.is_byte type ≡ true → (value : Dyn) (b : List ℕ) → writers.value value ≡ written b
+      event.is_byte type ≡ true → (value : Value) (b : List ℕ) → writers.value value ≡ written b
       → IsByteBack writers.value takers.value value
 
 -- nothing is written
-pub nothing_back : (why : _) (tokens : Dyn → List Token) (take : Taker Dyn) → AreTakenBack (λ value. refused why) tokens take
+pub nothing_back : (why : _) (tokens : Value → List Token) (take : Taker Value) → AreTakenBack (λ value. refused why) tokens take
 nothing_back why tokens take value bytes e all own = cc
 
 -- a value of a kind is written by what it holds
 pub held_parts :
-    {A : Type 0} (make : A → Dyn) (kind : Dyn-F Dyn → Option A) (write : Writer A) → IsKind make kind
-    → (value : Dyn) (bytes : List ℕ) → held kind write value ≡ written bytes
+    {A : Type 0} (make : A → Value) (kind : Value-F Value → Option A) (write : Writer A) → IsKind make kind
+    → (value : Value) (bytes : List ℕ) → held kind write value ≡ written bytes
     → (x : A) × (value ≡ make x) × (write x ≡ written bytes)
-held_parts {A} make kind write k value bytes e = by_found (kind (out-Dyn value)) refl e
+held_parts {A} make kind write k value bytes e = by_found (kind (out-Value value)) refl e
   where
     by_found :
-        (o : Option A) → kind (out-Dyn value) ≡ o → if_found write o ≡ written bytes
+        (o : Option A) → kind (out-Value value) ≡ o → if_found write o ≡ written bytes
         → (x : A) × (value ≡ make x) × (write x ≡ written bytes)
     by_found None is f = cc
     by_found (Some x) is f = (x, k.made value x is, f)

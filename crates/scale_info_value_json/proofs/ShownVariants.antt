@@ -11,11 +11,11 @@ use Rattle.serde_json.specs.Data.{Data}
 use Rattle.scale_info_types.specs.Portable.{Id, Text, Variant}
 use Rattle.scale_info_types.specs.declared.ty.variant.Variant.{Variant as AnyVariant}
 use Rattle.scale_info_types.specs.Shapes.{map_variant}
-use Rattle.scale_info_value.specs.declared.value.Dyn.TheVariants as dyn
-use Rattle.scale_info_encode.proofs.NamedParts.{first_made}
+use Rattle.scale_info_value.specs.declared.value.Value.TheVariants as Values
+use Rattle.scale_info_value_encode.proofs.NamedParts.{first_made}
 use Rattle.scale_info_value_json.specs.Takers.{refused, mismatch, taken_map, if_found}
 use Rattle.scale_info_value_json.specs.DefinitionTakers.{Takers, is_shared, chosen, variant_of, variant}
-use Rattle.scale_info_tables.specs.declared.portable.PortableRegistry.{PortableRegistry}
+use Rattle.scale_info_table.specs.declared.portable.PortableRegistry.{PortableRegistry}
 use Rattle.scale_info_value_json.specs.Takings.{part_within, variant_fields_within}
 use Rattle.scale_info_value_json.specs.TreeParts.{index_and_fields, variant_in}
 
@@ -232,16 +232,16 @@ module _ (left : ℕ) (table : PortableRegistry) (vs : List Variant) (tree : Dat
   variant_misnamed v is differs =
       whole (Some v) is
       ∙ ap (λ (t : Bool). if t
-      then taken_map (λ values. dyn.Variant v.name index values) (variant_fields_within left table v.fields content)
+      then taken_map (λ values. Values.Variant v.name index values) (variant_fields_within left table v.fields content)
       else refused mismatch) differs
 
   -- the variant with the index has the name
   pub variant_named :
       (v : Variant) → find (λ w. w.index == index) vs ≡ Some v → bytes_eq v.name name ≡ true
       → variant (map (map_variant {G = Unit {0}} (part_within left table) (λ t. t)) vs) tree
-      ≡ taken_map (λ values. dyn.Variant v.name index values) (variant_fields_within left table v.fields content)
+      ≡ taken_map (λ values. Values.Variant v.name index values) (variant_fields_within left table v.fields content)
   variant_named v is same =
       whole (Some v) is
       ∙ ap (λ (t : Bool). if t
-      then taken_map (λ values. dyn.Variant v.name index values) (variant_fields_within left table v.fields content)
+      then taken_map (λ values. Values.Variant v.name index values) (variant_fields_within left table v.fields content)
       else refused mismatch) same

@@ -5,17 +5,17 @@ use Rattle.std.specs.Prelude.{slice_get}
 use Rattle.serde_json.specs.Data.{Data, object, Members, no_members, member}
 use Rattle.serde_json.specs.Find.{as_object, as_array}
 use Rattle.serde_json.specs.View.{view, items_view, members_view}
-use Rattle.serde_json.specs.declared.value.Value.{Value}
+use Rattle.serde_json.specs.declared.value.Value.{Value as JsonValue}
 use Rattle.serde_json.proofs.Views.{Entry, members_len-members_view}
 use Rattle.scale_info_value_json.specs.TreeParts.{listed, items_in, has_members, variant_in}
 
 -- the trees of an array are those of its items
-listed_view : (vs : List Value) → listed (items_view vs) ≡ map view vs
+listed_view : (vs : List JsonValue) → listed (items_view vs) ≡ map view vs
 listed_view [] = refl
 listed_view (v ∷ vs) = ap (λ trees. view v ∷ trees) (listed_view vs)
 
 -- an array that was found has these items
-pub items_found : (d : Data) (vs : List Value) → Some (items_view vs) ≡ as_array d → Some (map view vs) ≡ items_in d
+pub items_found : (d : Data) (vs : List JsonValue) → Some (items_view vs) ≡ as_array d → Some (map view vs) ≡ items_in d
 items_found d vs e = ap Some (sym (listed_view vs)) ∙ ap (option_map listed) e
 
 -- a tree that is read as an object is the object
@@ -32,7 +32,7 @@ members_found d es count e =
 
 -- an object with one member is the variant of its key
 pub one_member :
-    (d : Data) (es : List Entry) (k : String Global) (v : Value)
+    (d : Data) (es : List Entry) (k : String Global) (v : JsonValue)
     → Some (members_view es) ≡ as_object d → length es ≡ 1 → slice_get es 0 ≡ Some (k, v)
     → Some (string_bytes k, Some (view v)) ≡ variant_in d
 one_member d [] k v m h e = absurd (omega arith)

@@ -1,4 +1,4 @@
--- What comes of taking a value from a tree. A tree is what `serde_json` shows of a `Value`.
+-- What comes of taking a value from a tree. A tree is what `serde_json` shows of its `Value`.
 use Rattle.std.specs.Prelude.{◌≡◌, List, [], ◌∷◌, Option, Some, None}
 use Rattle.serde_json.specs.Data.{Data}
 use Rattle.scale_info_value_json.specs.declared.error.ValueJsonError.{ValueJsonError}

@@ -7,7 +7,7 @@ use Rattle.scale_info_types.specs.TypeExamples.{id}
 use Rattle.scale_info_types.specs.TypeExamples.{example_field, example_variant}
 use Rattle.scale_info_types.specs.declared.ty.TypeDef.TheVariants as def
 use Rattle.scale_info_primitives.specs.declared.primitive.TypeDefPrimitive.TheVariants as kind
-use Rattle.scale_info_tables.specs.declared.portable.PortableRegistry.{PortableRegistry}
+use Rattle.scale_info_table.specs.declared.portable.PortableRegistry.{PortableRegistry}
 use Rattle.scale_info_value.specs.ValueExamples.{table_of, enum_of}
 
 -- a list of `u8`, and `u8`

@@ -13,7 +13,7 @@ use Rattle.serde_json.specs.Events.{members_len}
 use Rattle.serde_json.specs.Find.{get, as_array, as_u64, as_integer}
 use Rattle.scale_info_hexadecimal.specs.Digits.{bytes_by_digits}
 use Rattle.scale_info_types.specs.Portable.{Text}
-use Rattle.scale_info_visit.specs.Events.{all_named}
+use Rattle.scale_info_value_visit.specs.Events.{all_named}
 
 -- ---- integers
 

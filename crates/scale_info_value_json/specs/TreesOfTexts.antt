@@ -6,12 +6,12 @@ use Rattle.json.specs.Tree.{json_tokens}
 use Rattle.serde_json.specs.Data.{Data}
 use Rattle.serde_json.specs.Read.{of_json}
 use Rattle.scale_info_types.specs.Portable.{Text}
-use Rattle.scale_info_tables.specs.declared.portable.PortableRegistry.{PortableRegistry}
-use Rattle.scale_info_value.specs.declared.value.Dyn.{Dyn}
-use Rattle.scale_info_value.specs.declared.value.Dyn.TheOpen.{Dyn-F}
-use Rattle.scale_info_value.specs.declared.value.Dyn.TheOpen as layer
-use Rattle.scale_info_value.specs.declared.value.Dyn.TheFolds.{fold-Dyn}
-use Rattle.scale_info_visit.specs.Events.{all_named, keys}
+use Rattle.scale_info_table.specs.declared.portable.PortableRegistry.{PortableRegistry}
+use Rattle.scale_info_value.specs.declared.value.Value.{Value}
+use Rattle.scale_info_value.specs.declared.value.Value.TheOpen.{Value-F}
+use Rattle.scale_info_value.specs.declared.value.Value.TheOpen as layer
+use Rattle.scale_info_value.specs.declared.value.Value.TheFolds.{fold-Value}
+use Rattle.scale_info_value_visit.specs.Events.{all_named, keys}
 use Rattle.scale_info_value_text.specs.ValueTexts.{value_text}
 use Rattle.scale_info_value_json.specs.Takers.{taken}
 use Rattle.scale_info_value_json.specs.Takings.{taking}
@@ -39,7 +39,7 @@ fields_hold [] = true
 fields_hold (f ∷ fs) = f.1 && fields_hold fs
 
 -- whether names of fields come once in a value, where they do in its parts
-abbrev pub own_names_step : Dyn-F Bool → Bool
+abbrev pub own_names_step : Value-F Bool → Bool
 own_names_step (layer.List items) = all_hold items
 own_names_step (layer.Record fields) = own_names (keys fields) && fields_hold fields
 own_names_step (layer.Variant name index fields) =
@@ -48,11 +48,11 @@ own_names_step _ = true
 
 -- Whether each name comes once among the fields of each record and of each variant in a value. The
 -- Rust compiler writes no other type, but a table may come from elsewhere.
-abbrev pub has_own_names : Dyn → Bool
-has_own_names value = fold-Dyn Bool own_names_step value
+abbrev pub has_own_names : Value → Bool
+has_own_names value = fold-Value Bool own_names_step value
 
 -- The text of the value of the type with that id is that of a tree, from which the value is taken.
-pub record IsTakenFrom (table : PortableRegistry) (id depth : ℕ) (value : Dyn) : Type 0 where
+pub record IsTakenFrom (table : PortableRegistry) (id depth : ℕ) (value : Value) : Type 0 where
   pub tree : Data
   pub of_text : IsTreeOf (value_text table id value) tree
   pub is : taking table id depth tree ≡ taken value

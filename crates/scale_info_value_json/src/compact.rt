@@ -12,13 +12,15 @@ use crate::error::ValueJsonError;
 use crate::primitive::unsigned;
 use scale_info_types::ty::{TypeDef, TypeDefPrimitive};
 use scale_info_value::definition::Definitions;
-use scale_info_value::value::Dyn;
-use serde_json::Value;
+use scale_info_value::value::Value;
 
 /// A compact integer that fits a primitive type. Not inlined, so that it takes no stack at each
 /// level of a value.
 #[inline(never)]
-pub fn compact_primitive(kind: &TypeDefPrimitive, tree: &Value) -> Result<Dyn, ValueJsonError>
+pub fn compact_primitive(
+    kind: &TypeDefPrimitive,
+    tree: &serde_json::Value,
+) -> Result<Value, ValueJsonError>
     ensures ok { IfOk result (λ value. compact_primitive kind.now (view tree.now) ≡ taken value) }
     ensures err { IfErr result (IsErrorOf (compact_primitive kind.now (view tree.now))) }
 {

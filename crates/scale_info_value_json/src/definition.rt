@@ -1,7 +1,7 @@
 //! The definitions that ids stand for.
 ghost use Rattle.std.specs.Prelude.{◌≡◌, ◌≢◌, ◌≤◌, IfOk, IfErr};
 ghost use Rattle.serde_json.specs.Data.{Data};
-ghost use Rattle.scale_info_visit.specs.Events.{definition_at, is_byte};
+ghost use Rattle.scale_info_value_visit.specs.Events.{definition_at, is_byte};
 ghost use Rattle.scale_info_value_json.specs.declared.error.ValueJsonError.TheVariants as error;
 ghost use Rattle.scale_info_value_json.specs.Takers.{IsErrorOf};
 ghost use Rattle.scale_info_value_json.specs.Takings.{value_within, compact_within};

@@ -6,13 +6,13 @@ ghost use Rattle.json.specs.Tree.{depth};
 ghost use Rattle.serde_json.specs.Data.{Data};
 ghost use Rattle.serde_json.specs.Read.{read, max_depth};
 ghost use Rattle.scale_info_bytes.specs.Encodings.{IsByte, HasPrefix};
-ghost use Rattle.scale_info_tables.specs.declared.portable.PortableRegistry.{PortableRegistry};
-ghost use Rattle.scale_info_value.specs.declared.value.Dyn.{Dyn};
+ghost use Rattle.scale_info_table.specs.declared.portable.PortableRegistry.{PortableRegistry};
+ghost use Rattle.scale_info_value.specs.declared.value.Value.{Value};
 ghost use Rattle.scale_info_value.specs.Equalities.{DecidesValues};
 ghost use Rattle.scale_info_value.specs.Outcomes.{decoded};
 ghost use Rattle.scale_info_value.specs.Readings.{reading};
-ghost use Rattle.scale_info_encode.specs.Writers.{written};
-ghost use Rattle.scale_info_encode.specs.Writings.{writing};
+ghost use Rattle.scale_info_value_encode.specs.Writers.{written};
+ghost use Rattle.scale_info_value_encode.specs.Writings.{writing};
 ghost use Rattle.scale_info_value_json.specs.Takers.{taken};
 ghost use Rattle.scale_info_value_json.specs.Takings.{taking};
 ghost use Rattle.scale_info_value_json.specs.TreesOfTexts.{IsTakenFrom, has_own_names};
@@ -29,7 +29,7 @@ use crate::error::ValueJsonError;
 /// `08 01 00 00 00 02 00 00 00` is decoded by `Vec<u32>` as the list of 1 and 2, its text is
 /// `[1,2]`, and from the tree of that text the list of 1 and 2 is taken.
 pub fn text_taken_back()
-    ensures { (table : PortableRegistry) (id depth : ℕ) (input : List ℕ) (value : Dyn)
+    ensures { (table : PortableRegistry) (id depth : ℕ) (input : List ℕ) (value : Value)
         (rest : List ℕ) → AllByRecursion IsByte input
         → reading table id depth input ≡ decoded value rest → has_own_names value ≡ true
         → IsTakenFrom table id depth value }
@@ -37,7 +37,7 @@ pub fn text_taken_back()
 
 /// So is the tree of the text of a value that is encoded, which need not have been decoded.
 pub fn encoded_text_taken_back()
-    ensures { (table : PortableRegistry) (id depth : ℕ) (value : Dyn) (bytes : List ℕ)
+    ensures { (table : PortableRegistry) (id depth : ℕ) (value : Value) (bytes : List ℕ)
         → writing table id depth value ≡ written bytes → AllByRecursion IsByte bytes
         → has_own_names value ≡ true → IsTakenFrom table id depth value }
 {}
@@ -57,7 +57,7 @@ pub fn one_tree()
 /// reads of its text is taken as that value, and its encoding is the bytes that it was decoded
 /// from.
 pub fn json_and_bytes()
-    ensures { (table : PortableRegistry) (id depth : ℕ) (input : List ℕ) (value : Dyn)
+    ensures { (table : PortableRegistry) (id depth : ℕ) (input : List ℕ) (value : Value)
         (rest : List ℕ) (tree : Data) → AllByRecursion IsByte input
         → reading table id depth input ≡ decoded value rest → has_own_names value ≡ true
         → read (value_text table id value) ≡ Some tree
@@ -68,7 +68,7 @@ pub fn json_and_bytes()
 /// From JSON to bytes and back. A value that is taken from a tree has an encoding, which is decoded
 /// as that value, whatever follows it.
 pub fn taken_is_encoded()
-    ensures { (table : PortableRegistry) (id depth : ℕ) (tree : Data) (value : Dyn)
+    ensures { (table : PortableRegistry) (id depth : ℕ) (tree : Data) (value : Value)
         → taking table id depth tree ≡ taken value
         → (bytes : List ℕ) × (writing table id depth value ≡ written bytes)
         × ((rest : List ℕ) → reading table id depth (bytes ++ rest) ≡ decoded value rest) }

@@ -1,6 +1,6 @@
 //! Values taken from JSON trees by a table of types.
 //!
-//! [`take::from_json`] takes a [`scale_info_value::value::Dyn`] from a tree of `serde_json`, by a
+//! [`take::from_json`] takes a [`scale_info_value::value::Value`] from a tree of `serde_json`, by a
 //! table that has its type: the inverse of the JSON text of a value. It takes the forms that people
 //! write by hand, too.
 #![tactic(auto)]

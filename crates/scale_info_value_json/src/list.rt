@@ -1,13 +1,13 @@
 //! Lists of bytes, and how many items a list may have.
 ghost use Rattle.std.specs.Prelude.{◌≡◌, ◌≤◌, ◌∷◌, [], IfOk, IfErr, map, true};
-ghost use Rattle.scale_info_value.specs.declared.value.Dyn.TheVariants as dyn;
+ghost use Rattle.scale_info_value.specs.declared.value.Value.TheVariants as Values;
 ghost use Rattle.scale_info_value_json.specs.Takers.{IsErrorOf, taken};
 ghost use Rattle.scale_info_value_json.specs.Takings.{is_count_of, AtBytes};
 
 use crate::error::ValueJsonError;
 use crate::tree::bytes_of;
 use scale_info_collections::items::Items;
-use scale_info_value::value::Dyn;
+use scale_info_value::value::Value;
 use std::alloc::{AllocError, Global};
 
 /// Whether a list may have so many items: the count, or fewer than 2^32 where there is none.
@@ -21,12 +21,12 @@ pub fn is_count_of(count: Option<u32>, items: usize) -> bool
 }
 
 /// The bytes as integers.
-fn integers(alloc: Global, bytes: &[u8]) -> Result<Items<Dyn>, AllocError>
-    ensures { IfOk result (λ values. values ≡ map dyn.Unsigned bytes.now) }
+fn integers(alloc: Global, bytes: &[u8]) -> Result<Items<Value>, AllocError>
+    ensures { IfOk result (λ values. values ≡ map Values.Unsigned bytes.now) }
 {
     let mut values = Vec::with_capacity(alloc, bytes.len())?;
     for byte in bytes {
-        values.push_reserved(Dyn::Unsigned(*byte as u128));
+        values.push_reserved(Value::Unsigned(*byte as u128));
     }
     Ok(Items::from(values))
 }
@@ -38,7 +38,7 @@ pub fn byte_list(
     count: Option<u32>,
     left: u8,
     text: &str,
-) -> Result<Dyn, ValueJsonError>
+) -> Result<Value, ValueJsonError>
     requires { 1 ≤ left }
     ensures ok { IfOk result
         (λ value. AtBytes left count text.now (λ outcome. outcome ≡ taken value)) }
@@ -53,5 +53,5 @@ pub fn byte_list(
     if left == 1 && !all.is_empty() {
         return Err(ValueJsonError::TooDeep);
     }
-    Ok(Dyn::List(integers(alloc, all)?))
+    Ok(Value::List(integers(alloc, all)?))
 }

@@ -1,6 +1,6 @@
 //! Names of fields.
 ghost use Rattle.std.specs.Prelude.{◌≡◌, ◌&&◌, List, Option, ℕ, IfOk, map};
-ghost use Rattle.scale_info_visit.specs.Events.{all_named, names};
+ghost use Rattle.scale_info_value_visit.specs.Events.{all_named, names};
 ghost use Rattle.scale_info_value_json.specs.TreeParts.{has_name, are_distinct, is_object_of};
 ghost use Rattle.scale_info_value_json.specs.TreesOfTexts.{own_names, has_own_names, all_hold};
 ghost use Rattle.scale_info_value_json.specs.TreesOfTexts.{fields_hold};
@@ -8,7 +8,7 @@ ghost use Rattle.scale_info_value_json.specs.TreesOfTexts.{fields_hold};
 use scale_info_collections::text::Text;
 use scale_info_types::form::PortableForm;
 use scale_info_types::ty::Field;
-use scale_info_value::value::Dyn;
+use scale_info_value::value::Value;
 use std::alloc::{AllocError, Global};
 use std::collections::BTreeMap;
 
@@ -32,7 +32,7 @@ impl Named for Field<PortableForm> {
 }
 
 /// A field of a value.
-impl Named for (Option<Text>, Dyn) {
+impl Named for (Option<Text>, Value) {
     ghost named = { λ field. field.0 };
 
     fn name(&self) -> &Option<Text> {
@@ -123,7 +123,7 @@ pub fn is_object_of(alloc: Global, fields: &[Field<PortableForm>]) -> bool
 }
 
 /// Whether no name comes twice among the fields of a value, where all have names.
-fn own_names(alloc: Global, fields: &[(Option<Text>, Dyn)]) -> bool
+fn own_names(alloc: Global, fields: &[(Option<Text>, Value)]) -> bool
     ensures { result ≡ own_names (map (λ f. f.0) fields.now) }
 {
     !all_named(fields) || each_has_its_name(alloc, fields)
@@ -140,20 +140,20 @@ fn own_names(alloc: Global, fields: &[(Option<Text>, Dyn)]) -> bool
 /// has_own_names(alloc, &value)  // of { x: 1, y: 2 }: true; of { x: 1, x: 2 }: false
 /// ```
 #[cycle(own_names)]
-pub fn has_own_names(alloc: Global, value: &Dyn) -> bool
+pub fn has_own_names(alloc: Global, value: &Value) -> bool
     ensures { result ≡ has_own_names value.now }
 {
     match value {
-        Dyn::List(items) => all_own(alloc, items.as_slice()),
-        Dyn::Record(fields) => fields_own(alloc, fields.as_slice()),
-        Dyn::Variant { fields, .. } => fields_own(alloc, fields.as_slice()),
-        Dyn::Bool(_) | Dyn::Unsigned(_) | Dyn::Signed(_) | Dyn::Text(_) => true,
+        Value::List(items) => all_own(alloc, items.as_slice()),
+        Value::Record(fields) => fields_own(alloc, fields.as_slice()),
+        Value::Variant { fields, .. } => fields_own(alloc, fields.as_slice()),
+        Value::Bool(_) | Value::Unsigned(_) | Value::Signed(_) | Value::Text(_) => true,
     }
 }
 
 /// Whether each of these values has names that come once.
 #[cycle(own_names)]
-fn all_own(alloc: Global, values: &[Dyn]) -> bool
+fn all_own(alloc: Global, values: &[Value]) -> bool
     ensures { result ≡ all_hold (map has_own_names values.now) }
 {
     for value in values {
@@ -166,7 +166,7 @@ fn all_own(alloc: Global, values: &[Dyn]) -> bool
 
 /// Whether names come once among these fields, and in the value of each.
 #[cycle(own_names)]
-fn fields_own(alloc: Global, fields: &[(Option<Text>, Dyn)]) -> bool
+fn fields_own(alloc: Global, fields: &[(Option<Text>, Value)]) -> bool
     ensures { result ≡ (own_names (map (λ f. f.0) fields.now)
         && fields_hold (map (λ f. (f.0, has_own_names f.1)) fields.now)) }
 {

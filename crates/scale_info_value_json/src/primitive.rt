@@ -9,57 +9,56 @@ use crate::error::ValueJsonError;
 use crate::tree::{integer_within, natural_up_to};
 use scale_info_collections::text::Text;
 use scale_info_types::ty::TypeDefPrimitive;
-use scale_info_value::value::Dyn;
-use serde_json::Value;
+use scale_info_value::value::Value;
 use std::alloc::Global;
 
 /// A truth value.
-fn truth(tree: &Value) -> Result<Dyn, ValueJsonError>
+fn truth(tree: &serde_json::Value) -> Result<Value, ValueJsonError>
     ensures ok { IfOk result (λ value. truth (view tree.now) ≡ taken value) }
     ensures err { IfErr result (IsErrorOf (truth (view tree.now))) }
 {
     match tree.as_bool() {
-        Some(truth) => Ok(Dyn::Bool(truth)),
+        Some(truth) => Ok(Value::Bool(truth)),
         None => Err(ValueJsonError::Mismatch),
     }
 }
 
 /// An integer of an unsigned type that is at most this one.
-pub fn unsigned(most: u128, tree: &Value) -> Result<Dyn, ValueJsonError>
+pub fn unsigned(most: u128, tree: &serde_json::Value) -> Result<Value, ValueJsonError>
     ensures ok { IfOk result (λ value. unsigned (most + 1) (view tree.now) ≡ taken value) }
     ensures err { IfErr result (IsErrorOf (unsigned (most + 1) (view tree.now))) }
 {
     match natural_up_to(most, tree) {
-        Some(n) => Ok(Dyn::Unsigned(n)),
+        Some(n) => Ok(Value::Unsigned(n)),
         None => Err(ValueJsonError::Mismatch),
     }
 }
 
 /// An integer of a signed type that is within the limit.
-fn signed(limit: u128, tree: &Value) -> Result<Dyn, ValueJsonError>
+fn signed(limit: u128, tree: &serde_json::Value) -> Result<Value, ValueJsonError>
     requires { limit ≤ 2 ^ 127 }
     ensures ok { IfOk result (λ value. signed limit (view tree.now) ≡ taken value) }
     ensures err { IfErr result (IsErrorOf (signed limit (view tree.now))) }
 {
     match integer_within(limit, tree) {
-        Some(n) => Ok(Dyn::Signed(n)),
+        Some(n) => Ok(Value::Signed(n)),
         None => Err(ValueJsonError::Mismatch),
     }
 }
 
 /// A text of its own.
-fn text_of(alloc: Global, text: &str) -> Result<Dyn, ValueJsonError>
+fn text_of(alloc: Global, text: &str) -> Result<Value, ValueJsonError>
     ensures ok { IfOk result (λ value. text_of text.now ≡ taken value) }
     ensures err { IfErr result (IsErrorOf (text_of text.now)) }
 {
     if text.len() > 4294967295 {
         return Err(ValueJsonError::Mismatch);
     }
-    Ok(Dyn::Text(Text::from(String::from_str(alloc, text)?)))
+    Ok(Value::Text(Text::from(String::from_str(alloc, text)?)))
 }
 
 /// A text.
-fn text(alloc: Global, tree: &Value) -> Result<Dyn, ValueJsonError>
+fn text(alloc: Global, tree: &serde_json::Value) -> Result<Value, ValueJsonError>
     ensures ok { IfOk result (λ value. text (view tree.now) ≡ taken value) }
     ensures err { IfErr result (IsErrorOf (text (view tree.now))) }
 {
@@ -74,8 +73,8 @@ fn text(alloc: Global, tree: &Value) -> Result<Dyn, ValueJsonError>
 pub fn primitive(
     alloc: Global,
     kind: &TypeDefPrimitive,
-    tree: &Value,
-) -> Result<Dyn, ValueJsonError>
+    tree: &serde_json::Value,
+) -> Result<Value, ValueJsonError>
     ensures ok { IfOk result (λ value. primitive kind.now (view tree.now) ≡ taken value) }
     ensures err { IfErr result (IsErrorOf (primitive kind.now (view tree.now))) }
 {

@@ -2,7 +2,7 @@
 ghost use Rattle.std.specs.Prelude.{◌≡◌, ◌≤◌, ◌-◌, ◌∷◌, [], IfOk, IfErr, map};
 ghost use Rattle.serde_json.specs.View.{view};
 ghost use Rattle.scale_info_types.specs.declared.ty.TypeDef.TheVariants as def;
-ghost use Rattle.scale_info_value.specs.declared.value.Dyn.TheVariants as dyn;
+ghost use Rattle.scale_info_value.specs.declared.value.Value.TheVariants as Values;
 ghost use Rattle.scale_info_value_json.specs.declared.error.ValueJsonError.TheVariants as error;
 ghost use Rattle.scale_info_value_json.specs.Takers.{IsErrorOf, taken, in_turn};
 ghost use Rattle.scale_info_value_json.specs.DefinitionTakers.{each};
@@ -30,9 +30,8 @@ use scale_info_types::ty::{
     Field, TypeDef, TypeDefComposite, TypeDefMap, TypeDefTuple, TypeDefVariant,
 };
 use scale_info_value::definition::Definitions;
-use scale_info_value::value::Dyn;
+use scale_info_value::value::Value;
 use scale_info_value::variants::variant_with_index;
-use serde_json::Value;
 use std::alloc::Global;
 
 /// Takes a value of the type with this id from a JSON tree.
@@ -63,15 +62,15 @@ use std::alloc::Global;
 /// With a table that has `Vec<u32>` at index 0:
 ///
 /// ```text
-/// let tree = Value::from_str(alloc, "[1,\"2\"]")?;
+/// let tree = serde_json::Value::from_str(alloc, "[1,\"2\"]")?;
 /// let value = from_json(alloc, &table, 0, &tree)?;   // the list of 1 and 2
 /// ```
 pub fn from_json<T: Definitions>(
     alloc: Global,
     table: &T,
     id: u32,
-    tree: &Value,
-) -> Result<Dyn, ValueJsonError>
+    tree: &serde_json::Value,
+) -> Result<Value, ValueJsonError>
     ensures ok { IfOk result (λ value. taking (T.table table.now) id 1
         (view tree.now) ≡ taken value) }
     ensures err { IfErr result (IsErrorOf (taking (T.table table.now) id 1 (view tree.now))) }
@@ -87,8 +86,8 @@ fn value_within<T: Definitions>(
     table: &T,
     id: u32,
     left: u8,
-    tree: &Value,
-) -> Result<Dyn, ValueJsonError>
+    tree: &serde_json::Value,
+) -> Result<Value, ValueJsonError>
     ensures ok { IfOk result
         (λ value. value_within left (T.table table.now) id (view tree.now) ≡ taken value) }
     ensures err { IfErr result (IsErrorOf (value_within left (T.table table.now) id
@@ -109,8 +108,8 @@ fn value_by<T: Definitions>(
     table: &T,
     definition: &TypeDef<PortableForm>,
     left: u8,
-    tree: &Value,
-) -> Result<Dyn, ValueJsonError>
+    tree: &serde_json::Value,
+) -> Result<Value, ValueJsonError>
     requires { 1 ≤ left }
     ensures ok { IfOk result (λ value.
         definition_within left (T.table table.now) definition.now (view tree.now) ≡ taken value) }
@@ -143,8 +142,8 @@ fn composite_value<T: Definitions>(
     table: &T,
     composite: &TypeDefComposite<PortableForm>,
     left: u8,
-    tree: &Value,
-) -> Result<Dyn, ValueJsonError>
+    tree: &serde_json::Value,
+) -> Result<Value, ValueJsonError>
     requires { 1 ≤ left }
     ensures ok { IfOk result (λ value.
         definition_within left (T.table table.now) (def.Composite composite.now) (view tree.now)
@@ -154,7 +153,7 @@ fn composite_value<T: Definitions>(
         (view tree.now))) }
 {
     let values = fields(alloc, table, composite.fields.as_slice(), left, tree)?;
-    Ok(Dyn::Record(values))
+    Ok(Value::Record(values))
 }
 
 /// A value of an enum.
@@ -165,8 +164,8 @@ fn variant_value<T: Definitions>(
     table: &T,
     choice: &TypeDefVariant<PortableForm>,
     left: u8,
-    tree: &Value,
-) -> Result<Dyn, ValueJsonError>
+    tree: &serde_json::Value,
+) -> Result<Value, ValueJsonError>
     requires { 1 ≤ left }
     ensures ok { IfOk result (λ value.
         definition_within left (T.table table.now) (def.Variant choice.now) (view tree.now)
@@ -190,7 +189,7 @@ fn variant_value<T: Definitions>(
     let all = variant.fields.as_slice();
     let fields = variant_fields(alloc, table, all, left, content)?;
     let name = variant.name.try_clone(alloc)?;
-    Ok(Dyn::Variant {
+    Ok(Value::Variant {
         name,
         index,
         fields,
@@ -205,8 +204,8 @@ fn variant_fields<T: Definitions>(
     table: &T,
     all: &[Field<PortableForm>],
     left: u8,
-    content: Option<&Value>,
-) -> Result<Items<(Option<Text>, Dyn)>, ValueJsonError>
+    content: Option<&serde_json::Value>,
+) -> Result<Items<(Option<Text>, Value)>, ValueJsonError>
     requires { 1 ≤ left }
     ensures ok { IfOk result (λ values.
         variant_fields_within left (T.table table.now) all.now
@@ -235,8 +234,8 @@ fn fields<T: Definitions>(
     table: &T,
     all: &[Field<PortableForm>],
     left: u8,
-    tree: &Value,
-) -> Result<Items<(Option<Text>, Dyn)>, ValueJsonError>
+    tree: &serde_json::Value,
+) -> Result<Items<(Option<Text>, Value)>, ValueJsonError>
     requires { 1 ≤ left }
     ensures ok { IfOk result
         (λ values. fields_within left (T.table table.now) all.now (view tree.now) ≡ taken values) }
@@ -260,8 +259,8 @@ fn object_fields<T: Definitions>(
     table: &T,
     all: &[Field<PortableForm>],
     left: u8,
-    tree: &Value,
-) -> Result<Items<(Option<Text>, Dyn)>, ValueJsonError>
+    tree: &serde_json::Value,
+) -> Result<Items<(Option<Text>, Value)>, ValueJsonError>
     requires { 1 ≤ left }
     ensures ok { IfOk result
         (λ values. object_fields_within left (T.table table.now) all.now
@@ -291,8 +290,8 @@ fn array_fields<T: Definitions>(
     table: &T,
     all: &[Field<PortableForm>],
     left: u8,
-    trees: &[Value],
-) -> Result<Items<(Option<Text>, Dyn)>, ValueJsonError>
+    trees: &[serde_json::Value],
+) -> Result<Items<(Option<Text>, Value)>, ValueJsonError>
     requires { 1 ≤ left }
     ensures ok { IfOk result (λ values.
         array_fields_within left (T.table table.now) all.now (map view trees.now) ≡ taken values) }
@@ -324,8 +323,8 @@ fn list<T: Definitions>(
     ty: &UntrackedSymbol<TypeId>,
     count: Option<u32>,
     left: u8,
-    tree: &Value,
-) -> Result<Dyn, ValueJsonError>
+    tree: &serde_json::Value,
+) -> Result<Value, ValueJsonError>
     requires { 1 ≤ left }
     ensures ok { IfOk result
         (λ value. items_within left (T.table table.now) ty.now count
@@ -340,7 +339,7 @@ fn list<T: Definitions>(
     }
     match items_of(tree) {
         Some(trees) if is_count_of(count, trees.len()) => {
-            Ok(Dyn::List(items(alloc, table, ty, left, trees)?))
+            Ok(Value::List(items(alloc, table, ty, left, trees)?))
         }
         _ => Err(ValueJsonError::Mismatch),
     }
@@ -354,8 +353,8 @@ fn items<T: Definitions>(
     table: &T,
     ty: &UntrackedSymbol<TypeId>,
     left: u8,
-    trees: &[Value],
-) -> Result<Items<Dyn>, ValueJsonError>
+    trees: &[serde_json::Value],
+) -> Result<Items<Value>, ValueJsonError>
     requires { 1 ≤ left }
     ensures ok { IfOk result (λ values.
         each (value_within (left - 1) (T.table table.now) ty.now.id) (map view trees.now)
@@ -379,8 +378,8 @@ fn tuple_value<T: Definitions>(
     table: &T,
     tuple: &TypeDefTuple<PortableForm>,
     left: u8,
-    tree: &Value,
-) -> Result<Dyn, ValueJsonError>
+    tree: &serde_json::Value,
+) -> Result<Value, ValueJsonError>
     requires { 1 ≤ left }
     ensures ok { IfOk result (λ value.
         definition_within left (T.table table.now) (def.Tuple tuple.now)
@@ -392,7 +391,7 @@ fn tuple_value<T: Definitions>(
     match items_of(tree) {
         Some(trees) => {
             let types = tuple.fields.as_slice();
-            Ok(Dyn::List(members(alloc, table, types, left, trees)?))
+            Ok(Value::List(members(alloc, table, types, left, trees)?))
         }
         None => Err(ValueJsonError::Mismatch),
     }
@@ -406,8 +405,8 @@ fn members<T: Definitions>(
     table: &T,
     types: &[UntrackedSymbol<TypeId>],
     left: u8,
-    trees: &[Value],
-) -> Result<Items<Dyn>, ValueJsonError>
+    trees: &[serde_json::Value],
+) -> Result<Items<Value>, ValueJsonError>
     requires { 1 ≤ left }
     ensures ok { IfOk result (λ values.
         in_turn (takers_within left (T.table table.now) types.now)
@@ -440,8 +439,8 @@ fn map_value<T: Definitions>(
     table: &T,
     map: &TypeDefMap<PortableForm>,
     left: u8,
-    tree: &Value,
-) -> Result<Dyn, ValueJsonError>
+    tree: &serde_json::Value,
+) -> Result<Value, ValueJsonError>
     requires { 1 ≤ left }
     ensures ok { IfOk result (λ value.
         definition_within left (T.table table.now) (def.Map map.now)
@@ -452,7 +451,7 @@ fn map_value<T: Definitions>(
 {
     match items_of(tree) {
         Some(trees) if is_count_of(None, trees.len()) => {
-            Ok(Dyn::List(pairs(alloc, table, &map.key, &map.value, left, trees)?))
+            Ok(Value::List(pairs(alloc, table, &map.key, &map.value, left, trees)?))
         }
         _ => Err(ValueJsonError::Mismatch),
     }
@@ -467,8 +466,8 @@ fn pairs<T: Definitions>(
     key: &UntrackedSymbol<TypeId>,
     value: &UntrackedSymbol<TypeId>,
     left: u8,
-    trees: &[Value],
-) -> Result<Items<Dyn>, ValueJsonError>
+    trees: &[serde_json::Value],
+) -> Result<Items<Value>, ValueJsonError>
     requires { 1 ≤ left }
     ensures ok { IfOk result (λ values.
         each (pair_within left (T.table table.now) key.now value.now)
@@ -492,8 +491,8 @@ fn pair<T: Definitions>(
     key: &UntrackedSymbol<TypeId>,
     value: &UntrackedSymbol<TypeId>,
     left: u8,
-    tree: &Value,
-) -> Result<Dyn, ValueJsonError>
+    tree: &serde_json::Value,
+) -> Result<Value, ValueJsonError>
     requires { 1 ≤ left }
     ensures ok { IfOk result (λ entry.
         pair_within left (T.table table.now) key.now value.now (view tree.now) ≡ taken entry) }
@@ -520,9 +519,9 @@ fn pair<T: Definitions>(
 
 /// The list of a key and a value.
 #[inline(never)]
-fn list_of_two(alloc: Global, key: Dyn, value: Dyn) -> Result<Dyn, ValueJsonError>
-    ensures ok { IfOk result (λ pair. pair ≡ dyn.List (key ∷ value ∷ [])) }
+fn list_of_two(alloc: Global, key: Value, value: Value) -> Result<Value, ValueJsonError>
+    ensures ok { IfOk result (λ pair. pair ≡ Values.List (key ∷ value ∷ [])) }
     ensures err { IfErr result (λ e. e ≡ error.Memory) }
 {
-    Ok(Dyn::list(vec![in alloc; key, value]?))
+    Ok(Value::list(vec![in alloc; key, value]?))
 }

@@ -13,11 +13,10 @@ use crate::error::ValueJsonError;
 use crate::number::{decimal, signed_decimal};
 use scale_info_collections::text::Text;
 use scale_info_hexadecimal::decode::decode;
-use serde_json::Value;
 use std::alloc::Global;
 
 /// The integer without a sign, up to the most, that a tree holds; None where it holds none.
-pub fn natural_up_to(most: u128, tree: &Value) -> Option<u128>
+pub fn natural_up_to(most: u128, tree: &serde_json::Value) -> Option<u128>
     ensures { result ≡ below (most + 1) (natural_in (view tree.now)) }
 {
     let found = match tree.as_str() {
@@ -42,7 +41,7 @@ fn is_within(limit: u128, n: i128) -> bool
 }
 
 /// The integer within the limit that a tree holds; None where it holds none.
-pub fn integer_within(limit: u128, tree: &Value) -> Option<i128>
+pub fn integer_within(limit: u128, tree: &serde_json::Value) -> Option<i128>
     requires { limit ≤ 2 ^ 127 }
     ensures { result ≡ within limit (integer_in (view tree.now)) }
 {
@@ -60,7 +59,7 @@ pub fn integer_within(limit: u128, tree: &Value) -> Option<i128>
 }
 
 /// The trees of the items of an array; None where the tree is none.
-pub fn items_of(tree: &Value) -> Option<&[Value]>
+pub fn items_of(tree: &serde_json::Value) -> Option<&[serde_json::Value]>
     ensures { option_map (λ trees. map view trees.now) result ≡ items_in (view tree.now) }
 {
     match tree.as_array() {
@@ -83,7 +82,7 @@ pub fn bytes_of(alloc: Global, text: &str) -> Result<Vec<u8>, ValueJsonError>
 }
 
 /// Whether a tree is an object with so many members.
-pub fn has_members(count: usize, tree: &Value) -> bool
+pub fn has_members(count: usize, tree: &serde_json::Value) -> bool
     ensures { result ≡ has_members count (view tree.now) }
 {
     match tree.as_object() {
@@ -93,7 +92,10 @@ pub fn has_members(count: usize, tree: &Value) -> bool
 }
 
 /// The tree under a name; None where there is no name, or no tree under it.
-pub fn member_of<'t>(name: &Option<Text>, tree: &'t Value) -> Option<&'t Value>
+pub fn member_of<'t>(
+    name: &Option<Text>,
+    tree: &'t serde_json::Value,
+) -> Option<&'t serde_json::Value>
     ensures { seen result ≡ member_in name.now (view tree.now) }
 {
     match name {
@@ -104,7 +106,7 @@ pub fn member_of<'t>(name: &Option<Text>, tree: &'t Value) -> Option<&'t Value>
 
 /// The name of a variant, and what stands under it, if anything does; None where the tree is no
 /// variant.
-pub fn variant_parts(tree: &Value) -> Option<(&str, Option<&Value>)>
+pub fn variant_parts(tree: &serde_json::Value) -> Option<(&str, Option<&serde_json::Value>)>
     ensures { option_map (λ parts. (parts.0.now, seen parts.1)) result
         ≡ variant_in (view tree.now) }
 {
@@ -120,7 +122,7 @@ pub fn variant_parts(tree: &Value) -> Option<(&str, Option<&Value>)>
 }
 
 /// Whether nothing stands for the fields of a variant.
-pub fn is_nothing(content: Option<&Value>) -> bool
+pub fn is_nothing(content: Option<&serde_json::Value>) -> bool
     ensures { result ≡ is_nothing (seen content.entry) }
 {
     match content {
@@ -134,7 +136,7 @@ pub fn is_nothing(content: Option<&Value>) -> bool
 
 /// An index, and what stands for the fields, if anything does; None where the tree is no array of
 /// these.
-pub fn index_and_fields(tree: &Value) -> Option<(u8, Option<&Value>)>
+pub fn index_and_fields(tree: &serde_json::Value) -> Option<(u8, Option<&serde_json::Value>)>
     ensures { option_map (λ found. (found.0, seen found.1)) result
         ≡ index_and_fields (view tree.now) }
 {

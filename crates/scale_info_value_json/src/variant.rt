@@ -8,8 +8,7 @@ ghost use Rattle.scale_info_value_json.specs.Takings.{seen};
 use crate::tree::index_and_fields;
 use scale_info_types::form::PortableForm;
 use scale_info_types::ty::variant::Variant;
-use scale_info_visit::visit::shares_name;
-use serde_json::Value;
+use scale_info_value_visit::visit::shares_name;
 
 /// The first variant with this name; None where none has it.
 fn variant_named<'v>(
@@ -26,8 +25,8 @@ fn variant_named<'v>(
 pub fn chosen<'t>(
     choice: &[Variant<PortableForm>],
     name: &str,
-    content: Option<&'t Value>,
-) -> Option<(u8, Option<&'t Value>)>
+    content: Option<&'t serde_json::Value>,
+) -> Option<(u8, Option<&'t serde_json::Value>)>
     ensures { option_map (λ found. (found.0, seen found.1)) result
         ≡ chosen choice.now name.now (seen content.entry) }
 {

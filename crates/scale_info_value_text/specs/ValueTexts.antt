@@ -8,17 +8,17 @@ use Rattle.json.specs.Token.{Token, begin_object, end_object, begin_array, end_a
 use Rattle.json.specs.Token.{number, boolean}
 use Rattle.json.specs.Print.{print}
 use Rattle.scale_info_types.specs.Portable.{Text}
-use Rattle.scale_info_tables.specs.declared.portable.PortableRegistry.{PortableRegistry}
+use Rattle.scale_info_table.specs.declared.portable.PortableRegistry.{PortableRegistry}
 use Rattle.scale_info_value.specs.Outcomes.{Outcome, decoded, error_of, IsErrorOf}
 use Rattle.scale_info_value.specs.declared.value.ValueError.{ValueError}
 use Rattle.scale_info_value.specs.declared.value.ValueError.TheVariants as error
-use Rattle.scale_info_value.specs.declared.value.Dyn.{Dyn}
+use Rattle.scale_info_value.specs.declared.value.Value.{Value}
 use Rattle.scale_info_value_text.specs.declared.value_text.ValueTextError.{ValueTextError}
 use Rattle.scale_info_value_text.specs.declared.value_text.ValueTextError.TheVariants as text
-use Rattle.scale_info_visit.specs.Events as event
-use Rattle.scale_info_visit.specs.Events.{Event, events, all_named}
-use Rattle.scale_info_visit.specs.declared.visitor.VisitError.{VisitError}
-use Rattle.scale_info_visit.specs.declared.visitor.VisitError.TheVariants as visit
+use Rattle.scale_info_value_visit.specs.Events as event
+use Rattle.scale_info_value_visit.specs.Events.{Event, events, all_named}
+use Rattle.scale_info_value_visit.specs.declared.visitor.VisitError.{VisitError}
+use Rattle.scale_info_value_visit.specs.declared.visitor.VisitError.TheVariants as visit
 
 -- an integer of an unsigned type: a number up to 2^53 - 1, and its digits as a string above
 abbrev pub unsigned_token : ℕ → Token
@@ -92,36 +92,36 @@ event_tokens (event.end_variant name index names shared known) = variant_closing
 event_tokens (event.field name named known) = field_opening name named
 
 -- the tokens of a value of the type with this id
-abbrev pub value_tokens : PortableRegistry → ℕ → Dyn → List Token
+abbrev pub value_tokens : PortableRegistry → ℕ → Value → List Token
 value_tokens table id value = flat_map event_tokens (events table id value)
 
 -- its text
-abbrev pub value_text : PortableRegistry → ℕ → Dyn → List ℕ
+abbrev pub value_text : PortableRegistry → ℕ → Value → List ℕ
 value_text table id value = print (value_tokens table id value)
 
 -- the outcome is some value and this rest, and the value's text was appended
-pub record AppendsText (table : PortableRegistry) (id : ℕ) (outcome : Outcome Dyn)
+pub record AppendsText (table : PortableRegistry) (id : ℕ) (outcome : Outcome Value)
     (rest old new : List ℕ) : Type 0 where
-  pub value : Dyn
+  pub value : Value
   pub read : outcome ≡ decoded value rest
   pub appended : new ≡ old ++ value_text table id value
 
 -- the outcome is some value with nothing left, and this is its text
-pub record IsTextOf (table : PortableRegistry) (id : ℕ) (outcome : Outcome Dyn) (text : List ℕ) :
+pub record IsTextOf (table : PortableRegistry) (id : ℕ) (outcome : Outcome Value) (text : List ℕ) :
     Type 0 where
-  pub value : Dyn
+  pub value : Value
   pub read : outcome ≡ decoded value []
   pub same : text ≡ value_text table id value
 
 -- the outcome is some value, and bytes are left
-pub record HasBytesLeft (outcome : Outcome Dyn) : Type 0 where
-  pub value : Dyn
+pub record HasBytesLeft (outcome : Outcome Value) : Type 0 where
+  pub value : Value
   pub rest : List ℕ
   pub read : outcome ≡ decoded value rest
   pub left : 0 < length rest
 
 -- the error is that of the outcome, or of bytes that are left
-abbrev pub IsTextErrorOf : Outcome Dyn → ValueTextError → Type 0
+abbrev pub IsTextErrorOf : Outcome Value → ValueTextError → Type 0
 IsTextErrorOf outcome (text.Value e) = IsErrorOf outcome e
 IsTextErrorOf outcome text.Trailing = HasBytesLeft outcome
 

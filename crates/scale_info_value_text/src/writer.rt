@@ -7,7 +7,7 @@ ghost use Rattle.std.proofs.lemmas.List.{append-nil};
 ghost use Rattle.std.proofs.lemmas.Grind.{flat_map-append};
 ghost use Rattle.json.specs.Print.{print};
 ghost use Rattle.json.specs.Written.{Writes};
-ghost use Rattle.scale_info_visit.specs.Events.{names};
+ghost use Rattle.scale_info_value_visit.specs.Events.{names};
 ghost use Rattle.scale_info_value_text.specs.ValueTexts.{event_tokens, opening, closing};
 ghost use Rattle.scale_info_value_text.specs.ValueTexts.{fields_opening, fields_closing};
 
@@ -17,8 +17,8 @@ use scale_info_hexadecimal::encode::encode;
 use scale_info_types::form::PortableForm;
 use scale_info_types::ty::Field;
 use scale_info_types::ty::variant::Variant;
-use scale_info_visit::visit::{all_named, shares_name};
-use scale_info_visit::visitor::ValueVisitor;
+use scale_info_value_visit::visit::{all_named, shares_name};
+use scale_info_value_visit::visitor::ValueVisitor;
 use std::alloc::{AllocError, Global};
 
 /// The least integer that is written as a string, where it has no sign.

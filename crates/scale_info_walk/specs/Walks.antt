@@ -37,7 +37,7 @@ pub record IsWalk {Sh : Type 0} (S : System Sh ℕ) (count : ℕ) (order numbers
   pub counted : steps ≤ looks S order
   pub bounded : looks S order ≤ length order * 2 ^ 63
 
--- an earlier numbering of so many entries, in whose room another can be made, if there is one
+-- an earlier numbering of so many entries, whose buffers another can reuse, if there is one
 abbrev pub IsRoom : (count : ℕ) → Option Renumbering → Type 0
 IsRoom count None = ⊤
 IsRoom count (Some found) =

@@ -12,7 +12,7 @@ ghost use Rattle.scale_info_walk.specs.Walks.{AreNumbers, IsRoom, IsWalkError, I
 ghost use Rattle.scale_info_walk.specs.Walks.{IsLook};
 ghost use Rattle.scale_info_walk.specs.declared.walk.RetainError.TheVariants as retain;
 
-use crate::graph::{References, TypeReferences};
+use crate::references::{References, TypeReferences};
 use crate::refs::Refs;
 use scale_info_collections::failure::AllocationFailure;
 use scale_info_types::ty::PortableType;
@@ -168,9 +168,9 @@ pub fn number_references<R: References>(
     number_roots(alloc, source, roots, found)
 }
 
-/// Numbers what the roots reach, as [`number_references`] does, in the room of an earlier numbering
-/// of as many entries, if there is one: then it takes time for what is reached, now and earlier,
-/// however many entries there are.
+/// Numbers what the roots reach, as [`number_references`] does, reusing the buffers of an earlier
+/// numbering of as many entries, if there is one: then it takes time for what is reached, now and
+/// earlier, however many entries there are.
 ///
 /// Errors: as those of [`number`].
 pub fn number_references_in<R: References>(
@@ -191,7 +191,7 @@ pub fn number_references_in<R: References>(
     number_roots(alloc, source, roots, none)
 }
 
-/// The numbering of no roots, in the room of an earlier numbering.
+/// The numbering of no roots, reusing the buffers of an earlier numbering.
 fn cleared(room: Renumbering) -> Renumbering
     requires { AreNumbers room.order.items room.numbers.items }
     ensures order { result.order.items ≡ [] }

@@ -1,4 +1,4 @@
-//! Encodings of values, of a value that is lent and of one that is handed over.
+//! Encodings of values, of a value that is borrowed and of one that is handed over.
 use scale_info::Scale;
 use std::alloc::Global;
 use std::test::Fail;

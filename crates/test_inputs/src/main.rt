@@ -7,9 +7,9 @@
 #![tactic(auto)]
 
 use anyhow::{Result, bail};
-use scale_info_encode::encode::encode_value;
-use scale_info_tables::portable::PortableRegistry;
-use scale_info_value::value::{Dyn, ValueError, decode_value};
+use scale_info_table::portable::PortableRegistry;
+use scale_info_value::value::{Value, ValueError, decode_value};
+use scale_info_value_encode::encode::encode_value;
 use std::alloc::Global;
 
 /// Types: a name, the id, and the table in hexadecimal.
@@ -61,7 +61,7 @@ fn is_encoded(
     alloc: Global,
     table: &PortableRegistry,
     id: u32,
-    value: &Dyn,
+    value: &Value,
     rest: &[u8],
     input: &[u8],
 ) -> Result<bool> {

@@ -2,9 +2,9 @@
 use crate::{metadata, passes, people, runs, typed, value_texts, values, views};
 use std::test::Fail;
 use test_common::rows::parted;
+use test_memory_borrowed::{borrowed, changes, visits};
 use test_memory_build::{constructors, descriptions, fields, macros, paths, variants};
 use test_memory_common::outcomes::Outcome;
-use test_memory_lent::{changes, lent, visits};
 use test_memory_parts::{copies, interners, lists, looks, moves, orders};
 use test_memory_tables::{
     builders, conversions, discoveries, exports, json, prunings, registries, tables, walks,
@@ -30,7 +30,7 @@ pub fn call(rt: &HostRuntime, line: &str) -> Result<Outcome, Fail> {
         "identities" => identities::call(rt, name, input),
         "interners" => interners::call(rt, name, input),
         "json" => json::call(rt, name, input),
-        "lent" => lent::call(rt, name, input),
+        "borrowed" => borrowed::call(rt, name, input),
         "lists" => lists::call(rt, name, input),
         "looks" => looks::call(rt, name, input),
         "macros" => macros::call(rt, name, input),

@@ -7,6 +7,7 @@ mod calls;
 mod metadata;
 mod passes;
 mod people;
+mod print;
 mod runs;
 mod typed;
 mod value_texts;

@@ -1,9 +1,8 @@
 //! Values as JSON: their texts, and the values that are taken from trees.
 use crate::values::Given;
 use scale_info::PortableRegistry;
-use scale_info::value::{Dyn, decode_value, encode_value, from_json, has_own_names};
+use scale_info::value::{Value, decode_value, encode_value, from_json, has_own_names};
 use scale_info::value_text::{ValueTextError, append_value_json, value_json};
-use serde_json::Value;
 use std::alloc::{AllocError, Global};
 use std::test::Fail;
 use test_common::held::Held;
@@ -51,7 +50,7 @@ fn digits(
     alloc: Global,
     table: &PortableRegistry,
     id: u32,
-    value: &Dyn,
+    value: &Value,
 ) -> Result<String, AllocError> {
     let mut bytes = Vec::new(alloc);
     match encode_value(table, id, value, &mut bytes) {
@@ -65,7 +64,7 @@ fn take(rt: &HostRuntime, row: &str) -> Result<Outcome, Fail> {
     let (id, table, text) = parts_of(row)?;
     let id: u32 = id.parse()?;
     let table = Held(table_of(rt.alloc(), table)?);
-    let tree = Held(Value::from_str(rt.alloc(), text)?);
+    let tree = Held(serde_json::Value::from_str(rt.alloc(), text)?);
     answered!(
         rt;
         from_json(rt.alloc(), &table.0, id, &tree.0);

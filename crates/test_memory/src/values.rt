@@ -1,8 +1,9 @@
-//! Values that are decoded by a table, encoded again and lent, and values that a program builds.
-use example_callers::print::print_decoded;
+//! Values that are decoded by a table, encoded again and borrowed, and values that a program
+//! builds.
+use crate::print::print_decoded;
 use scale_info::PortableRegistry;
-use scale_info::lent::{Lent, decode_lent};
-use scale_info::value::{Dyn, ValueError, decode_value, encode_value};
+use scale_info::borrowed::{ValueRef, decode_borrowed};
+use scale_info::value::{Value, ValueError, decode_value, encode_value};
 use scale_info::visit::skip_value;
 use std::alloc::{AllocError, Global};
 use std::test::Fail;
@@ -34,7 +35,7 @@ impl Given {
     }
 
     /// Whether a value is the one that is decoded.
-    pub fn is_decoded(&self, alloc: Global, value: &Dyn) -> Result<bool, Fail> {
+    pub fn is_decoded(&self, alloc: Global, value: &Value) -> Result<bool, Fail> {
         let (again, _) = decode_value(alloc, &self.table.0, self.id, &self.input)?;
         Ok(again == *value)
     }
@@ -51,7 +52,7 @@ fn text_of(alloc: Global, value: Vec<u8>, rest: &[u8]) -> Result<String, Fail> {
 
 /// How a value that was decoded is printed with what is left, and whether another decoding gives it
 /// too.
-fn printed(alloc: Global, given: &Given, value: &Dyn) -> Result<Answer, Fail> {
+fn printed(alloc: Global, given: &Given, value: &Value) -> Result<Answer, Fail> {
     let is_same = given.is_decoded(alloc, value)?;
     let mut text = Vec::new(alloc);
     let rest = print_decoded(alloc, &given.table.0, given.id, &given.input, &mut text)?;
@@ -72,17 +73,22 @@ fn decode(rt: &HostRuntime, row: &str) -> Result<Outcome, Fail> {
 }
 
 /// Whether the copy of a value that borrows is the value that is decoded, and what is left.
-fn copied(alloc: Global, given: &Given, value: &Lent<'_, '_>, rest: &[u8]) -> Result<Answer, Fail> {
-    let copy = value.to_dyn(alloc)?;
+fn copied(
+    alloc: Global,
+    given: &Given,
+    value: &ValueRef<'_, '_>,
+    rest: &[u8],
+) -> Result<Answer, Fail> {
+    let copy = value.to_value(alloc)?;
     let is_same = given.is_decoded(alloc, &copy)?;
     Ok(done(format!(in alloc; "{is_same} {rest:?}"))?)
 }
 
 /// The outcome of a decoding to a value that borrows.
-pub fn lent_outcome(
+pub fn borrowed_outcome(
     alloc: Global,
     given: &Given,
-    returned: Result<(Lent<'_, '_>, &[u8]), ValueError>,
+    returned: Result<(ValueRef<'_, '_>, &[u8]), ValueError>,
 ) -> Result<Outcome, Fail> {
     let answer = match returned {
         Ok((value, rest)) => copied(alloc, given, &value, rest)?,
@@ -92,18 +98,18 @@ pub fn lent_outcome(
 }
 
 /// Decodes the value of a row as one that borrows.
-fn decode_and_lend(rt: &HostRuntime, row: &str) -> Result<Outcome, Fail> {
+fn decode_and_borrow(rt: &HostRuntime, row: &str) -> Result<Outcome, Fail> {
     let given = Given::read(rt.alloc(), row)?;
     let table = &given.table.0;
-    let returned = marked!(rt; decode_lent(rt.alloc(), table, given.id, &given.input));
-    lent_outcome(rt.alloc(), &given, returned)
+    let returned = marked!(rt; decode_borrowed(rt.alloc(), table, given.id, &given.input));
+    borrowed_outcome(rt.alloc(), &given, returned)
 }
 
 /// Copies the value of a row that borrows: whether the copy is the value that is decoded.
-fn copy_lent(rt: &HostRuntime, row: &str) -> Result<Outcome, Fail> {
+fn copy_borrowed(rt: &HostRuntime, row: &str) -> Result<Outcome, Fail> {
     let given = Given::read(rt.alloc(), row)?;
-    let (lent, _) = decode_lent(rt.alloc(), &given.table.0, given.id, &given.input)?;
-    Outcome::of(match marked!(rt; lent.to_dyn(rt.alloc())) {
+    let (borrowed, _) = decode_borrowed(rt.alloc(), &given.table.0, given.id, &given.input)?;
+    Outcome::of(match marked!(rt; borrowed.to_value(rt.alloc())) {
         Ok(copy) => {
             let is_same = given.is_decoded(rt.alloc(), &copy)?;
             done(format!(in rt.alloc(); "{is_same}"))
@@ -137,31 +143,31 @@ fn skip(rt: &HostRuntime, row: &str) -> Result<Outcome, Fail> {
 }
 
 /// What a call that builds a value returned.
-type Built = Result<Dyn, AllocError>;
+type Built = Result<Value, AllocError>;
 
 /// A struct with named fields.
 fn record(rt: &HostRuntime) -> Result<Built, Fail> {
-    let fields = vec![in rt.alloc(); ("start", Dyn::from(3u8)), ("end", Dyn::from(5u8))]?;
-    Ok(marked!(rt; Dyn::record(fields)))
+    let fields = vec![in rt.alloc(); ("start", Value::from(3u8)), ("end", Value::from(5u8))]?;
+    Ok(marked!(rt; Value::record(fields)))
 }
 
 /// A struct with an unnamed field.
 fn unnamed(rt: &HostRuntime) -> Result<Built, Fail> {
-    let values = vec![in rt.alloc(); Dyn::from(1u32)]?;
-    Ok(marked!(rt; Dyn::unnamed(values)))
+    let values = vec![in rt.alloc(); Value::from(1u32)]?;
+    Ok(marked!(rt; Value::unnamed(values)))
 }
 
 /// A variant with a named field.
 fn variant(rt: &HostRuntime) -> Result<Built, Fail> {
-    let fields = vec![in rt.alloc(); ("x", Dyn::from(true))]?;
-    Ok(marked!(rt; Dyn::variant("B", 3, fields)))
+    let fields = vec![in rt.alloc(); ("x", Value::from(true))]?;
+    Ok(marked!(rt; Value::variant("B", 3, fields)))
 }
 
 /// A variant with an unnamed field.
 fn unnamed_variant(rt: &HostRuntime) -> Result<Built, Fail> {
-    let pair = Dyn::list(vec![in rt.alloc(); Dyn::from(5u32), Dyn::from(true)]?);
+    let pair = Value::list(vec![in rt.alloc(); Value::from(5u32), Value::from(true)]?);
     let values = vec![in rt.alloc(); pair]?;
-    Ok(marked!(rt; Dyn::unnamed_variant("Some", 1, values)))
+    Ok(marked!(rt; Value::unnamed_variant("Some", 1, values)))
 }
 
 /// Whether a value that was built is the one that is decoded of the row.
@@ -181,16 +187,16 @@ fn built(rt: &HostRuntime, row: &str, returned: Built) -> Result<Outcome, Fail> 
 pub fn call(rt: &HostRuntime, name: &str, input: &str) -> Result<Outcome, Fail> {
     match name {
         "decode" => decode(rt, input),
-        "decode_lent" => decode_and_lend(rt, input),
-        "to_dyn" => copy_lent(rt, input),
+        "decode_borrowed" => decode_and_borrow(rt, input),
+        "to_value" => copy_borrowed(rt, input),
         "encode" => encode(rt, input),
         "skip" => skip(rt, input),
         "record" => built(rt, input, record(rt)?),
         "unnamed" => built(rt, input, unnamed(rt)?),
         "variant" => built(rt, input, variant(rt)?),
         "unnamed_variant" => built(rt, input, unnamed_variant(rt)?),
-        "text" => built(rt, input, marked!(rt; Dyn::text(rt.alloc(), "hi"))),
-        "bytes" => built(rt, input, marked!(rt; Dyn::bytes(rt.alloc(), &[1, 2, 3]))),
+        "text" => built(rt, input, marked!(rt; Value::text(rt.alloc(), "hi"))),
+        "bytes" => built(rt, input, marked!(rt; Value::bytes(rt.alloc(), &[1, 2, 3]))),
         _ => Err(Fail::new("no call has this name")),
     }
 }

@@ -1,7 +1,7 @@
 //! Tables that stay bytes, and values by types of them that are loaded.
-use crate::values::{Given, lent_outcome};
+use crate::values::{Given, borrowed_outcome};
+use scale_info::borrowed::decode_borrowed;
 use scale_info::form::PortableForm;
-use scale_info::lent::decode_lent;
 use scale_info::loaded::LoadedTypes;
 use scale_info::value::Definitions;
 use scale_info::view::TableView;
@@ -10,12 +10,12 @@ use std::alloc::{AllocError, Global};
 use std::test::Fail;
 use test_common::held::Held;
 use test_common::rows::{numbers, parted, parts_of, row_bytes};
+use test_memory_borrowed::borrowed::indexed;
 use test_memory_common::answers::{Answer, digits, done, encoded, failed, shown};
 use test_memory_common::inputs::bytes_of;
 use test_memory_common::marks::{begin, end};
 use test_memory_common::outcomes::Outcome;
 use test_memory_common::{answered, marked};
-use test_memory_lent::lent::indexed;
 use test_memory_tables::tables::with_rest;
 use test_memory_tables::walks::walked;
 
@@ -183,7 +183,7 @@ fn ids_of(alloc: Global, ids: &str) -> Result<(u32, Vec<u32>), Fail> {
 }
 
 /// Decodes the value of a row as one that borrows, by types that are loaded.
-fn decode_lent_loaded(rt: &HostRuntime, row: &str) -> Result<Outcome, Fail> {
+fn decode_borrowed_loaded(rt: &HostRuntime, row: &str) -> Result<Outcome, Fail> {
     let alloc = rt.alloc();
     let (ids, table, input) = parts_of(row)?;
     let (id, loaded) = ids_of(alloc, ids)?;
@@ -192,8 +192,8 @@ fn decode_lent_loaded(rt: &HostRuntime, row: &str) -> Result<Outcome, Fail> {
     let (table, _) = PortableRegistry::decode(alloc, &bytes)?;
     let table = Held(table);
     let given = Given { id, input, table };
-    let returned = marked!(rt; decode_lent(alloc, &types.0, id, &given.input));
-    lent_outcome(alloc, &given, returned)
+    let returned = marked!(rt; decode_borrowed(alloc, &types.0, id, &given.input));
+    borrowed_outcome(alloc, &given, returned)
 }
 
 /// Makes the call of this name on a view, or by what is loaded of one.
@@ -210,7 +210,7 @@ pub fn call(rt: &HostRuntime, name: &str, input: &str) -> Result<Outcome, Fail> 
         "find_by_path" => find_by_path(rt, input),
         "look" => look(rt, input),
         "load" => load(rt, input),
-        "decode_lent_loaded" => decode_lent_loaded(rt, input),
+        "decode_borrowed_loaded" => decode_borrowed_loaded(rt, input),
         _ => Err(Fail::new("no call has this name")),
     }
 }

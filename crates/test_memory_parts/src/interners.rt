@@ -61,7 +61,7 @@ fn intern_or_get(rt: &HostRuntime, chars: &str) -> Result<Outcome, Fail> {
     Outcome::lending(before, after, shown(rt.alloc(), numbered(returned)))
 }
 
-/// Interns a text after four, which is lent.
+/// Interns a text after four, which is borrowed.
 fn intern_copy(rt: &HostRuntime, chars: &str) -> Result<Outcome, Fail> {
     let mut texts = Held(interner(rt.alloc(), FOUR)?);
     let value = Held(text(rt.alloc(), chars)?);

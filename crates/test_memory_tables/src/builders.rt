@@ -54,7 +54,7 @@ fn state(alloc: Global, builder: &PortableRegistryBuilder) -> Result<String, All
     Ok(text)
 }
 
-/// Registers a description, and says what is lent and returned.
+/// Registers a description, and says what is borrowed and returned.
 fn register(
     rt: &HostRuntime,
     mut builder: PortableRegistryBuilder,

@@ -24,7 +24,7 @@ fn part(rt: &HostRuntime, known: Known, kind: &str) -> Result<Outcome, Fail> {
     part_by(rt, &known.0, kind)
 }
 
-/// Converts a value of this kind by a catalogue, which is lent.
+/// Converts a value of this kind by a catalogue, which is borrowed.
 fn part_by(rt: &HostRuntime, known: &Catalogue, kind: &str) -> Result<Outcome, Fail> {
     let alloc = rt.alloc();
     match kind {

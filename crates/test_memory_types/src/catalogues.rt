@@ -117,7 +117,7 @@ fn added(rt: &HostRuntime, known: &mut Catalogue, name: &str) -> Result<Answer, 
     Ok(shown(rt.alloc(), returned)?)
 }
 
-/// Adds the description of this name under an identity, and says what is lent and returned.
+/// Adds the description of this name under an identity, and says what is borrowed and returned.
 fn add_to(rt: &HostRuntime, mut known: Catalogue, name: &str) -> Result<Outcome, Fail> {
     let identity = Missing::type_id(rt.alloc())?;
     let before = state(rt.alloc(), &known, &identity);

@@ -7,7 +7,7 @@ use scale_info_codec::Scale;
 use scale_info_collections::items::Items;
 use scale_info_collections::text::Text;
 use scale_info_type_ids::impls::Compact;
-use scale_info_value::value::Dyn;
+use scale_info_value::value::Value;
 use std::alloc::Global;
 
 /// The kinds of types that are a level.
@@ -84,26 +84,26 @@ fn one<T: Drop>(alloc: Global, item: T) -> Result<Items<T>> {
 }
 
 /// The value of this kind round another, as it is decoded.
-fn around(alloc: Global, kind: Kind, inner: Dyn) -> Result<Dyn> {
+fn around(alloc: Global, kind: Kind, inner: Value) -> Result<Value> {
     match kind {
-        Kind::Struct => Ok(Dyn::Record(one(alloc, (None, inner))?)),
-        Kind::List | Kind::Tuple => Ok(Dyn::List(one(alloc, inner)?)),
-        Kind::Enum => Ok(Dyn::Variant {
+        Kind::Struct => Ok(Value::Record(one(alloc, (None, inner))?)),
+        Kind::List | Kind::Tuple => Ok(Value::List(one(alloc, inner)?)),
+        Kind::Enum => Ok(Value::Variant {
             name: Text::from(String::new(alloc)),
             index: 0,
             fields: one(alloc, (None, inner))?,
         }),
         Kind::Map => {
-            let mut pair = one(alloc, Dyn::Unsigned(1))?;
+            let mut pair = one(alloc, Value::Unsigned(1))?;
             pair.push(inner)?;
-            Ok(Dyn::List(one(alloc, Dyn::List(pair))?))
+            Ok(Value::List(one(alloc, Value::List(pair))?))
         }
     }
 }
 
 /// The value of so many levels that is decoded from those bytes.
-pub fn nested(alloc: Global, kinds: &str, levels: u32) -> Result<Dyn> {
-    let mut value = Dyn::Unsigned(1);
+pub fn nested(alloc: Global, kinds: &str, levels: u32) -> Result<Value> {
+    let mut value = Value::Unsigned(1);
     for level in 0..levels {
         value = around(alloc, kind_at(kinds, level)?, value)?;
     }
@@ -111,10 +111,10 @@ pub fn nested(alloc: Global, kinds: &str, levels: u32) -> Result<Dyn> {
 }
 
 /// The last part of a value.
-fn part(value: &Dyn) -> Option<&Dyn> {
+fn part(value: &Value) -> Option<&Value> {
     match value {
-        Dyn::List(items) => items.last(),
-        Dyn::Record(fields) | Dyn::Variant { fields, .. } => match fields.last() {
+        Value::List(items) => items.last(),
+        Value::Record(fields) | Value::Variant { fields, .. } => match fields.last() {
             None => None,
             Some((_, part)) => Some(part),
         },
@@ -123,7 +123,7 @@ fn part(value: &Dyn) -> Option<&Dyn> {
 }
 
 /// How deep a value of so many levels is, of which each is two deep at most.
-pub fn depth(value: &Dyn, levels: u32) -> usize {
+pub fn depth(value: &Value, levels: u32) -> usize {
     let mut depth = 1;
     let mut value = value;
     for _ in 0..levels as u64 * 2 {

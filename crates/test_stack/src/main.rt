@@ -12,9 +12,9 @@ mod reads;
 
 use crate::levels::{depth, nested, table_bytes, value_bytes};
 use anyhow::{Result, bail};
-use scale_info_encode::encode::encode_value;
-use scale_info_tables::portable::PortableRegistry;
+use scale_info_table::portable::PortableRegistry;
 use scale_info_value::value::decode_value;
+use scale_info_value_encode::encode::encode_value;
 use scale_info_walk::walk::number_recursive;
 use std::alloc::Global;
 use std::env;

@@ -5,9 +5,9 @@
 #![tactic(auto)]
 
 use anyhow::{Result, bail};
-use scale_info_tables::portable::PortableRegistry;
-use scale_info_typed::decode::{DecodeAs, decode_as};
-use scale_info_typed::encode::{EncodeAs, encode_as};
+use scale_info_table::portable::PortableRegistry;
+use scale_info_value_typed::decode::{DecodeAs, decode_as};
+use scale_info_value_typed::encode::{EncodeAs, encode_as};
 use std::alloc::Global;
 
 /// A table of an option of a pair of `u8` and `bool`, at id 2.

@@ -1,9 +1,9 @@
 //! Programs of `docs/CALLING.md` that write and read tables, and that convert their values.
 use crate::asserts::is;
 use example_callers::call::{Call, PortableCall};
-use example_callers::inspect::inspect;
 use example_callers::point::write_point;
 use example_callers::register::{table_in_two_steps, write_numbers};
+use scale_info::describe::describe;
 use scale_info::impls::meta_type;
 use scale_info::meta_type::{Catalogue, CatalogueError, HasIdentity};
 use scale_info::{PortableRegistry, Registry, tuple_meta_type};
@@ -20,13 +20,15 @@ fn add_list(known: &mut Catalogue) -> Result<bool, CatalogueError> {
 }
 
 #[test]
-fn the_written_table_is_printed(rt: HostRuntime) -> Result<(), Fail> {
+fn the_written_table_is_declared(rt: HostRuntime) -> Result<(), Fail> {
     let mut bytes = Vec::new(rt.alloc());
     write_point(rt.alloc(), &mut bytes)?;
-    let mut printed = Vec::new(rt.alloc());
-    inspect(rt.alloc(), &mut bytes.as_slice(), &mut printed)?;
-    let wanted = "0 u32\n1 Vec<u32>\n2 shapes::Point\n    x: u32\n    tags: Vec<u32>\n";
-    assert_eq!(rt; printed.as_slice(), wanted.as_bytes());
+    let (table, _) = PortableRegistry::decode(rt.alloc(), &bytes)?;
+    let Some(declared) = describe(rt.alloc(), &table, 2)? else {
+        return Err(Fail::new("there is no entry 2"));
+    };
+    let wanted = "struct Point {\n    x: u32,\n    tags: Vec<u32>,\n}";
+    is(&rt, "the point", declared.as_str(), wanted);
     Ok(())
 }
 

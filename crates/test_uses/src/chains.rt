@@ -30,7 +30,7 @@ fn chain_bytes(alloc: Global, count: u32, end: Option<u32>) -> Result<Vec<u8>, F
 
 /// What is kept of a chain of 100000 types.
 #[derive(Drop)]
-struct Kept {
+struct KeptChain {
     /// What the last type refers to; None where it is `bool`.
     end: Option<u32>,
     /// The id that is chosen.
@@ -41,38 +41,38 @@ struct Kept {
     last: u32,
 }
 
-const KEPT: [Kept; 6] = [
-    Kept {
+const KEPT: [KeptChain; 6] = [
+    KeptChain {
         end: None,
         root: 0,
         count: 100000,
         last: 99999,
     },
-    Kept {
+    KeptChain {
         end: None,
         root: 50000,
         count: 50000,
         last: 99999,
     },
-    Kept {
+    KeptChain {
         end: None,
         root: 99999,
         count: 1,
         last: 99999,
     },
-    Kept {
+    KeptChain {
         end: Some(0),
         root: 0,
         count: 100000,
         last: 99999,
     },
-    Kept {
+    KeptChain {
         end: Some(0),
         root: 50000,
         count: 100000,
         last: 49999,
     },
-    Kept {
+    KeptChain {
         end: Some(0),
         root: 99999,
         count: 100000,
@@ -81,7 +81,7 @@ const KEPT: [Kept; 6] = [
 ];
 
 /// Asserts that the walk takes so many types, and a step for each reference.
-fn takes(rt: &impl Abort, alloc: Global, kept: &Kept) -> Result<(), Fail> {
+fn takes(rt: &impl Abort, alloc: Global, kept: &KeptChain) -> Result<(), Fail> {
     let table = chain(alloc, 100000, last(kept.end))?;
     let found = number(alloc, table.types(), &[kept.root])?;
     let steps = match kept.end {
@@ -94,7 +94,7 @@ fn takes(rt: &impl Abort, alloc: Global, kept: &Kept) -> Result<(), Fail> {
 }
 
 /// Asserts that so many ids begin at the chosen one, and end at the last one.
-fn are_new_ids(rt: &impl Abort, new_ids: &BTreeMap<u32, u32>, kept: &Kept) {
+fn are_new_ids(rt: &impl Abort, new_ids: &BTreeMap<u32, u32>, kept: &KeptChain) {
     is(rt, "ids", new_ids.len(), kept.count as usize);
     is(rt, "root", new_ids.get(&kept.root), Some(&0));
     let end = kept.count.saturating_sub(1);
@@ -102,7 +102,7 @@ fn are_new_ids(rt: &impl Abort, new_ids: &BTreeMap<u32, u32>, kept: &Kept) {
 }
 
 /// Asserts that `prune` appends the chain of what is kept.
-fn prunes(rt: &impl Abort, alloc: Global, kept: &Kept) -> Result<(), Fail> {
+fn prunes(rt: &impl Abort, alloc: Global, kept: &KeptChain) -> Result<(), Fail> {
     let bytes = chain_bytes(alloc, 100000, kept.end)?;
     let mut output = Vec::new(alloc);
     let new_ids = prune(alloc, &bytes, &[kept.root], &mut output)?;
@@ -116,7 +116,7 @@ fn prunes(rt: &impl Abort, alloc: Global, kept: &Kept) -> Result<(), Fail> {
 }
 
 /// Asserts that `retain` leaves the chain of what is kept.
-fn retains(rt: &impl Abort, alloc: Global, kept: &Kept) -> Result<(), Fail> {
+fn retains(rt: &impl Abort, alloc: Global, kept: &KeptChain) -> Result<(), Fail> {
     let mut table = chain(alloc, 100000, last(kept.end))?;
     let new_ids = table.retain(alloc, |id| id == kept.root)?;
     are_new_ids(rt, &new_ids, kept);

@@ -1,5 +1,5 @@
-//! Tables that are cut or go on, decoded, viewed, lent, pruned, and under each command; and every
-//! change of one byte of a table of each kind of definition, under each command.
+//! Tables that are cut or go on, decoded, viewed, borrowed, pruned, and under each command; and
+//! every change of one byte of a table of each kind of definition, under each command.
 use crate::asserts::{holds, is};
 use crate::runs::{expected, refused, run_over};
 use scale_info::view::TableView;

@@ -1,7 +1,7 @@
 //! Values that a program makes and encodes, and the paths of mismatches.
 use crate::asserts::is;
 use scale_info::PortableRegistry;
-use scale_info::value::{Dyn, encode_value};
+use scale_info::value::{Value, encode_value};
 use std::alloc::{AllocError, Global};
 use std::test::Fail;
 use test_common::rows::row_bytes;
@@ -11,14 +11,14 @@ const TABLE: &str = "140000000004011463616c6c7304000000040000020800080000000801\
     10646573740c00000118616d6f756e74100000000c0000050000100000050500";
 
 /// One call in a list of one.
-fn calls(alloc: Global, dest: Dyn) -> Result<Dyn, AllocError> {
-    let call = Dyn::record(vec![in alloc; ("dest", dest), ("amount", 7u32.into())]?)?;
-    let calls = Dyn::list(vec![in alloc; call]?);
-    Dyn::record(vec![in alloc; ("calls", calls)]?)
+fn calls(alloc: Global, dest: Value) -> Result<Value, AllocError> {
+    let call = Value::record(vec![in alloc; ("dest", dest), ("amount", 7u32.into())]?)?;
+    let calls = Value::list(vec![in alloc; call]?);
+    Value::record(vec![in alloc; ("calls", calls)]?)
 }
 
 /// What is appended for a value of the first type of the table.
-fn encoded(alloc: Global, value: &Dyn) -> Result<Vec<u8>, Fail> {
+fn encoded(alloc: Global, value: &Value) -> Result<Vec<u8>, Fail> {
     let bytes = row_bytes(alloc, TABLE)?;
     let (table, _) = PortableRegistry::decode(alloc, &bytes)?;
     let mut out = Vec::new(alloc);

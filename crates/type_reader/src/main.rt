@@ -5,10 +5,12 @@
 #![tactic(auto)]
 
 mod color;
+mod help;
 mod source;
 
 use crate::color::Painter;
-use crate::source::Source;
+use crate::help::help_of;
+use crate::source::TableSource;
 use scale_info_collections::text::Text;
 use std::env::VarError;
 use std::io::{BufRead, BufReader, ErrorKind, Input, IsTerminal, Write};
@@ -33,7 +35,7 @@ fn arguments_of(rt: &HostRuntime) -> io::Result<Vec<Text>> {
 fn run_to<S: BufRead, W: Write>(
     rt: &HostRuntime,
     command: Option<&Command<'_>>,
-    table: &mut Source,
+    table: &mut TableSource,
     second: &mut S,
     output: &mut W,
 ) -> ExitCode {
@@ -57,7 +59,7 @@ fn is_painted(rt: &HostRuntime, command: Option<&Command<'_>>) -> bool {
 fn run_over<S: BufRead>(
     rt: &HostRuntime,
     command: Option<&Command<'_>>,
-    mut table: Source,
+    mut table: TableSource,
     second: &mut S,
 ) -> ExitCode {
     if is_painted(rt, command) {
@@ -73,14 +75,28 @@ fn out_of_memory(rt: &HostRuntime) -> ExitCode {
     ExitCode::FAILURE
 }
 
+/// Writes a help text to the output, and returns the exit code.
+fn print_help(rt: &HostRuntime, text: &str) -> ExitCode {
+    match rt.stdout().write_all(text.as_bytes()) {
+        Ok(()) => ExitCode::SUCCESS,
+        Err(_) => {
+            let _ = rt.stderr().write_all(b"type_reader: output failed\n");
+            ExitCode::FAILURE
+        }
+    }
+}
+
 /// Runs the command that compares two tables, and returns the exit code.
 fn run_diff(
     rt: &HostRuntime,
     command: Option<&Command<'_>>,
     comparison: &Comparison<'_>,
 ) -> ExitCode {
-    let old = Source::of_name(rt, comparison.old.as_str());
-    match BufReader::new(rt.alloc(), Source::of_name(rt, comparison.new.as_str())) {
+    let old = TableSource::of_name(rt, comparison.old.as_str());
+    match BufReader::new(
+        rt.alloc(),
+        TableSource::of_name(rt, comparison.new.as_str()),
+    ) {
         Ok(mut new) => run_over(rt, command, old, &mut new),
         Err(_) => out_of_memory(rt),
     }
@@ -97,12 +113,15 @@ fn main(rt: HostRuntime) -> ExitCode {
             Vec::new(rt.alloc())
         }
     };
+    if let Some(text) = help_of(&arguments) {
+        return print_help(&rt, text);
+    }
     let found = command_of(&arguments);
     let command = found.as_ref();
     if let Some(Command::Diff(comparison)) = command {
         return run_diff(&rt, command, comparison);
     }
-    let table = Source::of_arguments(&rt, &arguments, command);
+    let table = TableSource::of_arguments(&rt, &arguments, command);
     if matches!(command, Some(Command::Lines(..))) {
         let second = BufReader::with_capacity(rt.alloc(), BUFFER_SIZE, rt.stdin());
         if let Ok(mut second) = second {

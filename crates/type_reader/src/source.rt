@@ -8,7 +8,7 @@ use type_reader_io::command::Command;
 
 /// Where a table is read from.
 #[derive(Drop)]
-pub enum Source {
+pub enum TableSource {
     /// A file.
     File(File),
     /// The standard input.
@@ -17,38 +17,38 @@ pub enum Source {
     Missing,
 }
 
-impl Source {
+impl TableSource {
     /// The table that the second argument names: the standard input for `-`, and else a file. No
     /// file is opened where the arguments name no command.
     pub fn of_arguments(
         rt: &HostRuntime,
         arguments: &[Text],
         command: Option<&Command<'_>>,
-    ) -> Source {
+    ) -> TableSource {
         match arguments {
-            [_, table, ..] if command.is_some() => Source::of_name(rt, table.as_str()),
-            _ => Source::Missing,
+            [_, table, ..] if command.is_some() => TableSource::of_name(rt, table.as_str()),
+            _ => TableSource::Missing,
         }
     }
 
     /// The standard input for `-`, and else the file with this name.
-    pub fn of_name(rt: &HostRuntime, name: &str) -> Source {
+    pub fn of_name(rt: &HostRuntime, name: &str) -> TableSource {
         if name == "-" {
-            return Source::Stdin(rt.stdin());
+            return TableSource::Stdin(rt.stdin());
         }
         match File::open(rt, name) {
-            Ok(file) => Source::File(file),
-            Err(_) => Source::Missing,
+            Ok(file) => TableSource::File(file),
+            Err(_) => TableSource::Missing,
         }
     }
 }
 
-impl Read for Source {
+impl Read for TableSource {
     fn read(&mut self, buf: &mut [u8]) -> io::Result<usize> {
         match self {
-            Source::File(file) => file.read(buf),
-            Source::Stdin(stdin) => stdin.read(buf),
-            Source::Missing => Err(io::Error::from(ErrorKind::NotFound)),
+            TableSource::File(file) => file.read(buf),
+            TableSource::Stdin(stdin) => stdin.read(buf),
+            TableSource::Missing => Err(io::Error::from(ErrorKind::NotFound)),
         }
     }
 }

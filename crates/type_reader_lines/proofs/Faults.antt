@@ -2,7 +2,7 @@
 use Rattle.std.proofs.Common.{◌≡◌, ℕ, List, Some, inl, inr}
 use Rattle.serde_json.specs.Data.{Data}
 use Rattle.scale_info_hexadecimal.specs.Digits.{bytes_by_digits}
-use Rattle.scale_info_tables.specs.declared.portable.PortableRegistry.{PortableRegistry}
+use Rattle.scale_info_table.specs.declared.portable.PortableRegistry.{PortableRegistry}
 use Rattle.scale_info_value.specs.Readings.{reading}
 use Rattle.scale_info_value_json.specs.Takings.{taking}
 use Rattle.type_reader_io.specs.declared.error.LineError.{LineError}

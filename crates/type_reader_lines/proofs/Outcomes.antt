@@ -2,7 +2,7 @@
 use Rattle.std.proofs.Common.{◌≡◌, ◌+◌, ◌++◌, ◌&&◌, ℕ, List, [], ◌∷◌, ap, arith, length, refl}
 use Rattle.type_reader_io.specs.Lines.{bad_line}
 use Rattle.type_reader_io.specs.declared.command.Conversion.{Conversion}
-use Rattle.scale_info_tables.specs.declared.portable.PortableRegistry.{PortableRegistry}
+use Rattle.scale_info_table.specs.declared.portable.PortableRegistry.{PortableRegistry}
 use Rattle.type_reader_lines.specs.Outcomes.{AreOutcomes, Outcome, are_good, bad, made}
 use Rattle.type_reader_lines.specs.Outcomes.{reports_from}
 

@@ -1,6 +1,6 @@
 -- Values of a type, each converted to a line.
 use Rattle.std.specs.Prelude.{◌≡◌, ◌++◌, ℕ, List}
-use Rattle.scale_info_tables.specs.declared.portable.PortableRegistry.{PortableRegistry}
+use Rattle.scale_info_table.specs.declared.portable.PortableRegistry.{PortableRegistry}
 use Rattle.type_reader_io.specs.declared.command.Conversion.{Conversion}
 use Rattle.type_reader_io.specs.declared.command.Conversion.TheVariants as conversions
 use Rattle.type_reader_io.specs.declared.error.LineError.{LineError}

@@ -3,10 +3,10 @@ use Rattle.std.specs.Prelude.{◌≡◌, ◌⊎◌, ◌++◌, ℕ, IsUtf8, List,
 use Rattle.hex.specs.Hex.{encode_lower}
 use Rattle.serde_json.specs.Data.{Data}
 use Rattle.serde_json.specs.Read.{read as read_text}
-use Rattle.scale_info_encode.specs.Writers.{written}
-use Rattle.scale_info_encode.specs.Writings.{writing}
-use Rattle.scale_info_tables.specs.declared.portable.PortableRegistry.{PortableRegistry}
-use Rattle.scale_info_value.specs.declared.value.Dyn.{Dyn}
+use Rattle.scale_info_value_encode.specs.Writers.{written}
+use Rattle.scale_info_value_encode.specs.Writings.{writing}
+use Rattle.scale_info_table.specs.declared.portable.PortableRegistry.{PortableRegistry}
+use Rattle.scale_info_value.specs.declared.value.Value.{Value}
 use Rattle.scale_info_value_json.specs.Takers.{Taken, taken, refused, no_such_type, unsupported}
 use Rattle.scale_info_value_json.specs.Takers.{too_deep, mismatch}
 use Rattle.scale_info_value_json.specs.Takings.{taking}
@@ -25,14 +25,14 @@ pub record IsJsonOf (tree : Data) (json : List ℕ) : Type 0 where
 pub record IsEncodedLine (table : PortableRegistry) (id : ℕ) (json line : List ℕ) : Type 0 where
   pub tree : Data
   pub is_json : IsJsonOf tree json
-  pub value : Dyn
+  pub value : Value
   pub is_taken : taking table id 1 tree ≡ taken value
   pub bytes : List ℕ
   pub is_written : writing table id 1 value ≡ written bytes
   pub parts : line ≡ codes "0x" ++ encode_lower bytes ++ codes "\n"
 
 -- why no value is taken, by what comes of it
-abbrev pub IsTakingFault : Taken Dyn → ValueFault → Type 0
+abbrev pub IsTakingFault : Taken Value → ValueFault → Type 0
 IsTakingFault outcome faults.NoSuchType = outcome ≡ refused no_such_type
 IsTakingFault outcome faults.Unsupported = outcome ≡ refused unsupported
 IsTakingFault outcome faults.TooDeep = outcome ≡ refused too_deep
@@ -40,7 +40,7 @@ IsTakingFault outcome faults.Mismatch = outcome ≡ refused mismatch
 IsTakingFault outcome fault = ⊥
 
 -- the same of an error; an allocation may fail
-abbrev pub IsTakingError : Taken Dyn → LineError → Type 0
+abbrev pub IsTakingError : Taken Value → LineError → Type 0
 IsTakingError outcome error = IfFault (IsTakingFault outcome) error
 
 -- the bytes are no JSON

@@ -1,11 +1,11 @@
 -- Values that hexadecimal digits write, and their JSON text.
 use Rattle.std.specs.Prelude.{◌≡◌, ◌⊎◌, ◌++◌, ℕ, List, Some, None, codes}
 use Rattle.scale_info_hexadecimal.specs.Digits.{bytes_by_digits}
-use Rattle.scale_info_tables.specs.declared.portable.PortableRegistry.{PortableRegistry}
+use Rattle.scale_info_table.specs.declared.portable.PortableRegistry.{PortableRegistry}
 use Rattle.scale_info_value.specs.Outcomes.{Outcome, failed, no_such_type, unsupported, too_deep}
 use Rattle.scale_info_value.specs.Outcomes.{malformed}
 use Rattle.scale_info_value.specs.Readings.{reading}
-use Rattle.scale_info_value.specs.declared.value.Dyn.{Dyn}
+use Rattle.scale_info_value.specs.declared.value.Value.{Value}
 use Rattle.scale_info_value_text.specs.ValueTexts.{HasBytesLeft, IsTextOf}
 use Rattle.type_reader_io.specs.declared.error.LineError.{LineError}
 use Rattle.type_reader_io.specs.declared.error.ValueFault.{ValueFault}
@@ -22,7 +22,7 @@ pub record IsValueLine (table : PortableRegistry) (id : ℕ) (digits line : List
   pub parts : line ≡ text ++ codes "\n"
 
 -- why bytes are not one value, by what comes of decoding them
-abbrev pub IsReadingFault : Outcome Dyn → ValueFault → Type 0
+abbrev pub IsReadingFault : Outcome Value → ValueFault → Type 0
 IsReadingFault outcome faults.NoSuchType = outcome ≡ failed no_such_type
 IsReadingFault outcome faults.Unsupported = outcome ≡ failed unsupported
 IsReadingFault outcome faults.TooDeep = outcome ≡ failed too_deep
@@ -31,7 +31,7 @@ IsReadingFault outcome faults.TrailingBytes = HasBytesLeft outcome
 IsReadingFault outcome fault = ⊥
 
 -- the same of an error; an allocation may fail
-abbrev pub IsReadingError : Outcome Dyn → LineError → Type 0
+abbrev pub IsReadingError : Outcome Value → LineError → Type 0
 IsReadingError outcome error = IfFault (IsReadingFault outcome) error
 
 -- the digits write bytes that are not one value of the type, for this reason

@@ -5,7 +5,7 @@ ghost use Rattle.type_reader_lines.specs.Conversions.{AppendsLine, IsLine, IsLin
 use crate::encode::append_encoded_line;
 use crate::value::append_value_line;
 use scale_info_hexadecimal::digits::Digits;
-use scale_info_tables::portable::PortableRegistry;
+use scale_info_table::portable::PortableRegistry;
 use std::alloc::Global;
 use type_reader_io::command::Conversion;
 use type_reader_io::error::LineError;

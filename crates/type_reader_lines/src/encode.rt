@@ -2,22 +2,21 @@
 ghost use Rattle.std.specs.Prelude.{◌≡◌, ◌++◌, IfOk, IfErr, OnErr, OnOk, codes};
 ghost use Rattle.hex.specs.Hex.{encode_lower};
 ghost use Rattle.serde_json.specs.View.{view};
-ghost use Rattle.scale_info_encode.specs.Writers.{written};
-ghost use Rattle.scale_info_encode.specs.Writings.{writing};
-ghost use Rattle.scale_info_value.specs.declared.value.Dyn.{Dyn as DynValue};
+ghost use Rattle.scale_info_value_encode.specs.Writers.{written};
+ghost use Rattle.scale_info_value_encode.specs.Writings.{writing};
+ghost use Rattle.scale_info_value.specs.declared.value.Value.{Value as AnyValue};
 ghost use Rattle.scale_info_value_json.specs.Takers.{IsErrorOf, Taken};
 ghost use Rattle.type_reader_io.specs.declared.error.LineError.TheVariants as line_error;
 ghost use Rattle.type_reader_lines.specs.Conversions.{AppendsLine};
 ghost use Rattle.type_reader_lines.specs.Encodings.{IsEncodedLine, IsEncodingError, IsJsonOf};
 ghost use Rattle.type_reader_lines.specs.Encodings.{IsTakingError, IsTreeError};
 
-use scale_info_encode::encode::encode_value;
 use scale_info_hexadecimal::encode::encode;
-use scale_info_tables::portable::PortableRegistry;
-use scale_info_value::value::Dyn;
+use scale_info_table::portable::PortableRegistry;
+use scale_info_value::value::Value;
+use scale_info_value_encode::encode::encode_value;
 use scale_info_value_json::error::ValueJsonError;
 use scale_info_value_json::take::from_json;
-use serde_json::Value;
 use std::alloc::{AllocError, Global};
 use std::str;
 use type_reader_io::error::{LineError, ValueFault};
@@ -25,14 +24,14 @@ use type_reader_io::error::{LineError, ValueFault};
 /// The tree of a JSON text.
 ///
 /// Errors: `Fault(NoJson)`, where the bytes are no JSON; `Memory`, if an allocation failed.
-fn tree_of(alloc: Global, json: &[u8]) -> Result<Value, LineError>
+fn tree_of(alloc: Global, json: &[u8]) -> Result<serde_json::Value, LineError>
     ensures ok { IfOk result (λ tree. IsJsonOf (view tree) json.now) }
     ensures err { IfErr result (IsTreeError json.now) }
 {
     let Ok(text) = str::from_utf8(json) else {
         return Err(LineError::Fault(ValueFault::NoJson));
     };
-    match Value::from_str(alloc, text) {
+    match serde_json::Value::from_str(alloc, text) {
         Ok(tree) => Ok(tree),
         Err(error) if error.is_memory() => Err(LineError::Memory),
         Err(_) => Err(LineError::Fault(ValueFault::NoJson)),
@@ -41,7 +40,7 @@ fn tree_of(alloc: Global, json: &[u8]) -> Result<Value, LineError>
 
 /// The error of a line for one of taking a value from a tree.
 fn error_of(error: ValueJsonError) -> LineError
-    ensures { (outcome : Taken DynValue) → IsErrorOf outcome error
+    ensures { (outcome : Taken AnyValue) → IsErrorOf outcome error
         → IsTakingError outcome result }
 {
     let fault = match error {
@@ -62,7 +61,7 @@ fn encoding_of(
     alloc: Global,
     table: &PortableRegistry,
     id: u32,
-    value: &Dyn,
+    value: &Value,
 ) -> Result<Vec<u8>, LineError>
     ensures ok { IfOk result (λ bytes. writing table.now id 1 value.now ≡ written bytes.items) }
     ensures err { IfErr result (λ e. e ≡ line_error.Memory) }

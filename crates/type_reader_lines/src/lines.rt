@@ -31,7 +31,7 @@ pub struct Progress {
     pub is_good: bool,
     /// The output of lines that is not written yet.
     pub pending: Vec<u8>,
-    /// Room for the digits of a value.
+    /// Buffers for the digits of a value.
     pub digits: Digits,
 }
 

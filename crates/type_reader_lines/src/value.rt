@@ -2,13 +2,13 @@
 ghost use Rattle.std.specs.Prelude.{◌≡◌, ◌++◌, List, ℕ, IfErr, OnErr, OnOk};
 ghost use Rattle.scale_info_value.specs.Outcomes.{IsErrorOf, Outcome};
 ghost use Rattle.scale_info_value.specs.Readings.{reading};
-ghost use Rattle.scale_info_value.specs.declared.value.Dyn.{Dyn as DynValue};
+ghost use Rattle.scale_info_value.specs.declared.value.Value.{Value as AnyValue};
 ghost use Rattle.scale_info_value_text.specs.ValueTexts.{IsTextOf};
 ghost use Rattle.type_reader_lines.specs.Conversions.{AppendsLine};
 ghost use Rattle.type_reader_lines.specs.Values.{IsReadingError, IsValueError, IsValueLine};
 
 use scale_info_hexadecimal::digits::Digits;
-use scale_info_tables::portable::PortableRegistry;
+use scale_info_table::portable::PortableRegistry;
 use scale_info_value::value::ValueError;
 use scale_info_value_text::value_text::append_value_json;
 use std::alloc::Global;
@@ -16,7 +16,7 @@ use type_reader_io::error::{LineError, ValueFault};
 
 /// The error of a line for one of decoding a value.
 fn error_of(error: ValueError) -> LineError
-    ensures { (outcome : Outcome DynValue) → IsErrorOf outcome error
+    ensures { (outcome : Outcome AnyValue) → IsErrorOf outcome error
         → IsReadingError outcome result }
 {
     let fault = match error {

@@ -4,13 +4,13 @@ use Rattle.std.proofs.Common.{All, ap, arith, flat_map, get_or, if◌then◌else
 use Rattle.std.proofs.Math.Logic.{⊎_map}
 use Rattle.std.proofs.KnownBytes.{Appends-nil, Keeps-refl}
 use Rattle.std.proofs.lemmas.List.Concat.{flat_map-cons}
-use Rattle.scale_info_describe.specs.PathSearches.{indices_from}
-use Rattle.scale_info_diff.proofs.Encoded.{one_table}
-use Rattle.scale_info_diff.proofs.WithoutDocs.{dangling_with_docs}
-use Rattle.scale_info_diff.specs.TableChanges.{IsDangling}
-use Rattle.scale_info_diff.specs.TypesByPath.{has_path, ids_of}
-use Rattle.scale_info_diff.specs.declared.change.Change.TheVariants.{Removed, Added, Changed}
-use Rattle.scale_info_docs.specs.WithoutDocs.{entry_without_docs}
+use Rattle.scale_info_table_describe.specs.PathSearches.{indices_from}
+use Rattle.scale_info_table_diff.proofs.Encoded.{one_table}
+use Rattle.scale_info_table_diff.proofs.WithoutDocs.{dangling_with_docs}
+use Rattle.scale_info_table_diff.specs.TableChanges.{IsDangling}
+use Rattle.scale_info_table_diff.specs.TypesByPath.{has_path, ids_of}
+use Rattle.scale_info_table_diff.specs.declared.change.Change.TheVariants.{Removed, Added, Changed}
+use Rattle.scale_info_table_docs.specs.WithoutDocs.{entry_without_docs}
 use Rattle.scale_info_grammar.specs.Ty.{EncodesTypes}
 use Rattle.scale_info_types.specs.declared.ty.PortableType.{PortableType}
 use Rattle.type_reader_io.specs.declared.command.Docs.{Docs}

@@ -6,8 +6,8 @@ use Rattle.std.proofs.lemmas.Grind.{flat_map-append}
 use Rattle.std.proofs.lemmas.List.{drop_more, map-append}
 use Rattle.std.proofs.lemmas.List.Elements.{All-append, All-cons, All-nil}
 use Rattle.std.specs.List.{All, filter}
-use Rattle.scale_info_diff.specs.declared.change.Change.{Change}
-use Rattle.scale_info_diff.specs.TypesByPath.{ids_of}
+use Rattle.scale_info_table_diff.specs.declared.change.Change.{Change}
+use Rattle.scale_info_table_diff.specs.TypesByPath.{ids_of}
 use Rattle.scale_info_types.specs.declared.ty.PortableType.{PortableType}
 use Rattle.type_reader_io.specs.declared.error.ReaderError.{ReaderError}
 use Rattle.type_reader_io.specs.declared.error.ReaderError.TheVariants as errors

@@ -4,13 +4,13 @@ use Rattle.std.specs.Prelude.{Option, None, Some, filter, map}
 use Rattle.std.specs.Io.KnownBytes.{Appends, Keeps}
 use Rattle.std.specs.List.{flat_map, list_any}
 use Rattle.std.specs.Str.{bytes_eq}
-use Rattle.scale_info_diff.specs.Declarations.{TellsDeclaredChange}
-use Rattle.scale_info_diff.specs.TableChanges.{AreChanges, IsDangling}
-use Rattle.scale_info_diff.specs.TypesByPath.{ids_of}
-use Rattle.scale_info_diff.specs.declared.change.Change.{Change}
-use Rattle.scale_info_diff.specs.declared.change.Change.TheVariants.{Removed, Added, Changed}
-use Rattle.scale_info_docs.specs.WithoutDocs.{entry_without_docs}
-use Rattle.scale_info_prune.specs.Prunes.{DanglesFrom}
+use Rattle.scale_info_table_diff.specs.Declarations.{TellsDeclaredChange}
+use Rattle.scale_info_table_diff.specs.TableChanges.{AreChanges, IsDangling}
+use Rattle.scale_info_table_diff.specs.TypesByPath.{ids_of}
+use Rattle.scale_info_table_diff.specs.declared.change.Change.{Change}
+use Rattle.scale_info_table_diff.specs.declared.change.Change.TheVariants.{Removed, Added, Changed}
+use Rattle.scale_info_table_docs.specs.WithoutDocs.{entry_without_docs}
+use Rattle.scale_info_table_prune.specs.Prunes.{DanglesFrom}
 use Rattle.scale_info_types.specs.declared.ty.PortableType.{PortableType}
 use Rattle.type_reader_io.specs.declared.command.Comparison.{Comparison}
 use Rattle.type_reader_io.specs.declared.command.Docs.{Docs}

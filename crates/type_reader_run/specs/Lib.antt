@@ -7,7 +7,7 @@ pub mod Runs
 pub mod Selections
 pub mod Tables
 pub use Rattle.scale_info_grammar.specs.Ty
-pub use Rattle.scale_info_metadata.specs.TablesFound
+pub use Rattle.scale_info_table_metadata.specs.TablesFound
 pub use Rattle.type_reader_io.specs.Commands
 pub use Rattle.type_reader_io.specs.Inputs
 pub use Rattle.type_reader_io.specs.Lines

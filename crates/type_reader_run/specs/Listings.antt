@@ -2,10 +2,10 @@
 use Rattle.std.specs.Prelude.{◌≡◌, ◌++◌, ℕ, List, [], ◌∷◌, Option, Some, None, codes, decimal}
 use Rattle.std.specs.Prelude.{unwrap_or, length, take}
 use Rattle.std.specs.List.{range_with_len}
-use Rattle.scale_info_describe.specs.TypeDeclarations.{description_at}
-use Rattle.scale_info_describe.specs.TypeNames.{type_at}
+use Rattle.scale_info_table_describe.specs.TypeDeclarations.{description_at}
+use Rattle.scale_info_table_describe.specs.TypeNames.{type_at}
 use Rattle.scale_info_segments.specs.TypePaths.{joined}
-use Rattle.scale_info_tables.specs.declared.portable.PortableRegistry.{PortableRegistry}
+use Rattle.scale_info_table.specs.declared.portable.PortableRegistry.{PortableRegistry}
 use Rattle.scale_info_types.specs.Portable.{Description}
 use Rattle.scale_info_types.specs.declared.ty.PortableType.{PortableType}
 use Rattle.type_reader_run.specs.Selections.{AreSelected}

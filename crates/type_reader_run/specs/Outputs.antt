@@ -5,14 +5,14 @@ use Rattle.std.specs.BTreeMap.{BTreeMap, IsOrdered}
 use Rattle.std.specs.Ordering.{nat_cmp}
 use Rattle.std.specs.Io.KnownBytes.{Appends}
 use Rattle.std.specs.List.{flat_map}
-use Rattle.scale_info_describe.specs.PathSearches.{AreIdsBy, stands_in}
-use Rattle.scale_info_docs.specs.WithoutDocs.{entry_without_docs}
+use Rattle.scale_info_table_describe.specs.PathSearches.{AreIdsBy, stands_in}
+use Rattle.scale_info_table_docs.specs.WithoutDocs.{entry_without_docs}
 use Rattle.scale_info_grammar.specs.Ty.{EncodesTypes}
-use Rattle.scale_info_graph.specs.GraphTexts.{AppendsGraph}
-use Rattle.scale_info_prune.specs.Prunes.{HasNewIds, IsPrunedEncoding}
-use Rattle.scale_info_metadata.specs.TablesFound.{IsTableOf}
-use Rattle.scale_info_metadata.specs.declared.metadata.Source.{Source}
-use Rattle.scale_info_tables.specs.declared.portable.PortableRegistry.{PortableRegistry}
+use Rattle.scale_info_table_dot.specs.GraphTexts.{AppendsGraph}
+use Rattle.scale_info_table_prune.specs.Prunes.{HasNewIds, IsPrunedEncoding}
+use Rattle.scale_info_table_metadata.specs.TablesFound.{IsTableOf}
+use Rattle.scale_info_table_metadata.specs.declared.metadata.Source.{Source}
+use Rattle.scale_info_table.specs.declared.portable.PortableRegistry.{PortableRegistry}
 use Rattle.scale_info_types.specs.declared.ty.PortableType.{PortableType}
 use Rattle.type_reader_io.specs.declared.command.Request.{Request}
 use Rattle.type_reader_io.specs.declared.command.Request.TheVariants as requests
@@ -131,7 +131,7 @@ pub record WritesPrefix (request : Request) (old new : Option (List ℕ)) (input
   pub has_output : HasOutput request input output notes
   pub appends : AppendsPrefix old new output
 
--- the bytes of an output that is lent or was made
+-- the bytes of an output that is borrowed or was made
 abbrev pub bytes_of : OutputBytes → List ℕ
-bytes_of (output_bytes.Lent bytes) = bytes.now
+bytes_of (output_bytes.Borrowed bytes) = bytes.now
 bytes_of (output_bytes.Made bytes) = bytes.items

@@ -4,7 +4,7 @@ use Rattle.std.specs.declared.option.Option.{Option}
 use Rattle.std.specs.Io.KnownBytes.{Keeps}
 use Rattle.scale_info_grammar.specs.Ty.{EncodesTypes}
 use Rattle.scale_info_numberings.specs.Systems.{IsFirstOutside}
-use Rattle.scale_info_prune.specs.Prunes.{HasDangling}
+use Rattle.scale_info_table_prune.specs.Prunes.{HasDangling}
 use Rattle.scale_info_types.specs.declared.ty.PortableType.{PortableType}
 use Rattle.scale_info_walk.specs.TypeSystems.{types_system}
 use Rattle.type_reader_io.specs.declared.command.Request.{Request}

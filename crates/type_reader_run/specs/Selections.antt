@@ -1,6 +1,6 @@
 -- Types that are given by their ids or their paths.
 use Rattle.std.specs.Prelude.{◌≡◌, ◌≢◌, ◌<◌, ◌≤◌, ◌++◌, ℕ, List, [], ◌∷◌, length}
-use Rattle.scale_info_describe.specs.PathSearches.{AreIdsBy, is_path}
+use Rattle.scale_info_table_describe.specs.PathSearches.{AreIdsBy, is_path}
 use Rattle.scale_info_types.specs.declared.ty.PortableType.{PortableType}
 use Rattle.type_reader_io.specs.declared.error.ReaderError.{ReaderError}
 use Rattle.type_reader_io.specs.declared.error.ReaderError.TheVariants as errors

@@ -2,12 +2,12 @@
 use Rattle.std.specs.Prelude.{◌++◌, ℕ, List, [], Bool, true, false, codes, decimal, is_some}
 use Rattle.std.specs.Prelude.{unwrap_or}
 use Rattle.scale_info_grammar.specs.Ty.{EncodesTypes}
-use Rattle.scale_info_metadata.specs.HexTexts.{bytes_in}
-use Rattle.scale_info_metadata.specs.TablesFound.{IsErrorOf, IsTableOf}
-use Rattle.scale_info_metadata.specs.declared.metadata.Source.{Source}
-use Rattle.scale_info_metadata.specs.declared.metadata.Source.TheVariants as sources
-use Rattle.scale_info_metadata.specs.declared.metadata.MetadataError.{MetadataError}
-use Rattle.scale_info_metadata.specs.declared.metadata.MetadataError.TheVariants as metadata_errors
+use Rattle.scale_info_table_metadata.specs.HexTexts.{bytes_in}
+use Rattle.scale_info_table_metadata.specs.TablesFound.{IsErrorOf, IsTableOf}
+use Rattle.scale_info_table_metadata.specs.declared.metadata.Source.{Source}
+use Rattle.scale_info_table_metadata.specs.declared.metadata.Source.TheVariants as sources
+use Rattle.scale_info_table_metadata.specs.declared.metadata.MetadataError.{MetadataError}
+use Rattle.scale_info_table_metadata.specs.declared.metadata.MetadataError.TheVariants as metadata_errors
 use Rattle.scale_info_types.specs.declared.ty.PortableType.{PortableType}
 use Rattle.type_reader_io.specs.declared.error.ReaderError.{ReaderError}
 use Rattle.type_reader_io.specs.declared.error.ReaderError.TheVariants as errors

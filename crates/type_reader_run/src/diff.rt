@@ -1,10 +1,10 @@
 //! What changed between two tables, as lines.
 ghost use Rattle.std.specs.Prelude.{◌≡◌, ◌++◌, [], All, IfErr, IfOk, IsFalse, IsTrue, OnOk, codes};
 ghost use Rattle.std.specs.Prelude.{filter, option_map, string_bytes};
-ghost use Rattle.scale_info_describe.specs.TypeNames.{Appends};
-ghost use Rattle.scale_info_diff.specs.TableChanges.{AreChanges};
-ghost use Rattle.scale_info_diff.specs.TypesByPath.{ids_of};
-ghost use Rattle.scale_info_diff.specs.declared.change.Change.TheVariants as changed;
+ghost use Rattle.scale_info_table_describe.specs.TypeNames.{Appends};
+ghost use Rattle.scale_info_table_diff.specs.TableChanges.{AreChanges};
+ghost use Rattle.scale_info_table_diff.specs.TypesByPath.{ids_of};
+ghost use Rattle.scale_info_table_diff.specs.declared.change.Change.TheVariants as changed;
 ghost use Rattle.type_reader_run.specs.Differences.{AppendsChange, AreLines, AreLinesBetween};
 ghost use Rattle.type_reader_run.specs.Differences.{AreLinesOf, IsDiffError, IsInEither};
 ghost use Rattle.type_reader_run.specs.Differences.{IsPathError, IsReferenceError, IsTablesError};
@@ -13,11 +13,11 @@ ghost use Rattle.type_reader_run.specs.Differences.{change_line, is_of, path_of}
 use crate::pruning::error_of;
 use crate::reason::{compared_bytes, named_table, reason_of};
 use crate::selection::no_such_path;
-use crate::table::{Input, table_in};
+use crate::table::{TableInput, table_in};
 use scale_info_collections::text::Text;
-use scale_info_diff::change::Change;
-use scale_info_diff::changes::changes;
-use scale_info_diff::named::NamedTable;
+use scale_info_table_diff::change::Change;
+use scale_info_table_diff::named::NamedTable;
+use scale_info_table_diff::tables::changes;
 use std::alloc::{AllocError, Global};
 use type_reader_io::command::Comparison;
 use type_reader_io::error::ReaderError;
@@ -187,8 +187,8 @@ fn lines_of_tables(
 pub fn lines_between(
     alloc: Global,
     comparison: &Comparison<'_>,
-    old: &Input,
-    new: &Input,
+    old: &TableInput,
+    new: &TableInput,
 ) -> Result<Vec<u8>, ReaderError>
     ensures ok { IfOk result
         (λ lines. AreLines comparison.now old.now.bytes.items new.now.bytes.items lines.items) }

@@ -1,12 +1,12 @@
 //! Graphs.
 ghost use Rattle.std.specs.Prelude.{[], IfOk, IfErr, List, ℕ};
-ghost use Rattle.scale_info_graph.specs.GraphTexts.{AppendsGraph, IsGraphError};
-ghost use Rattle.scale_info_tables.specs.declared.portable.PortableRegistry as registries;
+ghost use Rattle.scale_info_table_dot.specs.GraphTexts.{AppendsGraph, IsGraphError};
+ghost use Rattle.scale_info_table.specs.declared.portable.PortableRegistry as registries;
 ghost use Rattle.type_reader_run.specs.Refusals.{IsLeadingError};
 
-use scale_info_graph::error::GraphError;
-use scale_info_graph::graph::append_graph;
-use scale_info_tables::portable::PortableRegistry;
+use scale_info_table::portable::PortableRegistry;
+use scale_info_table_dot::error::GraphError;
+use scale_info_table_dot::graph::append_graph;
 use std::alloc::Global;
 use type_reader_io::error::ReaderError;
 

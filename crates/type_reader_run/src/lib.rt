@@ -18,7 +18,7 @@ mod table;
 
 pub use output::{Output, OutputBytes, output_of};
 pub use program::{run, run_with};
-pub use table::{Input, input_of};
+pub use table::{TableInput, input_of};
 pub use type_reader_io::error::ReaderError;
 pub use type_reader_io::message::Message;
 pub use type_reader_io::reporter::{Kept, Reporter};

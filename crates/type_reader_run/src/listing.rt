@@ -1,13 +1,13 @@
 //! Types as lines of text.
 ghost use Rattle.std.specs.Prelude.{◌≡◌, IfOk, length, take};
 ghost use Rattle.std.specs.List.{flat_map, range_with_len};
-ghost use Rattle.scale_info_describe.specs.TypeNames.{Appends};
+ghost use Rattle.scale_info_table_describe.specs.TypeNames.{Appends};
 ghost use Rattle.type_reader_run.specs.Listings.{listed_type, path_text, title_line};
 
 use itoa::Buffer;
 use scale_info_collections::text::Text;
-use scale_info_describe::describe::append_description;
-use scale_info_tables::portable::PortableRegistry;
+use scale_info_table::portable::PortableRegistry;
+use scale_info_table_describe::describe::append_description;
 use std::alloc::{AllocError, Global};
 
 /// Appends a blank and the path of these segments; nothing, where there is none.

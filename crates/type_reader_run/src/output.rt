@@ -16,11 +16,11 @@ use crate::pruning::pruned;
 use crate::selection::selected;
 use crate::source::source_line;
 use crate::strip::stripped;
-use crate::table::{Input, find_table, registry_of};
+use crate::table::{TableInput, find_table, registry_of};
 use scale_info_collections::text::Text;
-use scale_info_describe::search::find_containing;
-use scale_info_metadata::metadata::Source;
-use scale_info_tables::portable::PortableRegistry;
+use scale_info_table::portable::PortableRegistry;
+use scale_info_table_describe::search::find_containing;
+use scale_info_table_metadata::metadata::Source;
 use std::alloc::{AllocError, Global};
 use type_reader_io::command::Request;
 use type_reader_io::error::ReaderError;
@@ -29,7 +29,7 @@ use type_reader_io::error::ReaderError;
 #[derive(Drop)]
 pub enum OutputBytes<'a> {
     /// They stand in the input.
-    Lent(&'a [u8]),
+    Borrowed(&'a [u8]),
     /// They were made.
     Made(Vec<u8>),
 }
@@ -40,7 +40,7 @@ impl OutputBytes<'_> {
         ensures { result.now ≡ bytes_of self.now }
     {
         match self {
-            OutputBytes::Lent(bytes) => bytes,
+            OutputBytes::Borrowed(bytes) => bytes,
             OutputBytes::Made(bytes) => bytes,
         }
     }
@@ -160,7 +160,7 @@ fn output_for<'a>(
 {
     let bytes = match request {
         Request::Table => {
-            let bytes = OutputBytes::Lent(table);
+            let bytes = OutputBytes::Borrowed(table);
             return Ok(with_source(alloc, bytes, source, is_hexadecimal)?);
         }
         Request::Strip => {
@@ -194,7 +194,7 @@ fn output_for<'a>(
 pub fn output_of<'a>(
     alloc: Global,
     request: &Request,
-    input: &'a Input,
+    input: &'a TableInput,
 ) -> Result<Output<'a>, ReaderError>
     ensures ok { IfOk result (λ output. MakesOf request.now input.now.is_hexadecimal
         input.now.bytes.items (bytes_of output.bytes) output.notes.items) }

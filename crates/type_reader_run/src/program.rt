@@ -18,7 +18,7 @@ use crate::compare::compare;
 use crate::convert::converter_of;
 use crate::output::output_of;
 use crate::reading::{read_input, read_whole};
-use crate::table::{Input, input_of, table_in};
+use crate::table::{TableInput, input_of, table_in};
 use scale_info_collections::text::Text;
 use std::alloc::Global;
 use std::io::{BufRead, Read, Write};
@@ -57,7 +57,7 @@ fn converter_in(
     alloc: Global,
     conversion: Conversion,
     text: &Text,
-    input: &Input,
+    input: &TableInput,
 ) -> Result<Converter, ReaderError>
     ensures ok { IfOk result (λ converter.
         HasType input.now.bytes.items text.now converter.registry converter.id) }
@@ -132,10 +132,10 @@ fn run_command<R: Read, S: BufRead, W: Write, T: Reporter<Message>>(
 /// Runs the command as [`run`], and gives its messages to any reporter in the place of a writer for
 /// errors.
 ///
-/// The status is that of [`run`]. The reporter is given [`Message::Usage`] at status 2, and at
-/// status 0 the notes, if there are any. At status 1 it is given [`Message::BadLine`] for each bad
-/// line, and then the error, if there is one; where tables were compared and something changed, it
-/// is given nothing.
+/// The status is that of [`run`]. The reporter is given the usage line at status 2, and at status 0
+/// the notes, if there are any. At status 1 it is given a line for each bad line, and then the
+/// error's, if there is one; where tables were compared and something changed, it is given nothing.
+/// What the clauses say of a message is its text.
 pub fn run_with<R: Read, S: BufRead, W: Write, T: Reporter<Message>>(
     alloc: Global,
     command: Option<&Command<'_>>,

@@ -1,9 +1,9 @@
 //! Pruned tables.
 ghost use Rattle.std.specs.Prelude.{◌≡◌, IfOk, IfErr, List, ℕ};
 ghost use Rattle.std.specs.List.{flat_map};
-ghost use Rattle.scale_info_describe.specs.TypeNames.{Appends};
-ghost use Rattle.scale_info_diff.specs.TableChanges.{IsCompareError};
-ghost use Rattle.scale_info_prune.specs.Prunes.{IsPruneError};
+ghost use Rattle.scale_info_table_describe.specs.TypeNames.{Appends};
+ghost use Rattle.scale_info_table_diff.specs.TableChanges.{IsCompareError};
+ghost use Rattle.scale_info_table_prune.specs.Prunes.{IsPruneError};
 ghost use Rattle.scale_info_types.specs.declared.ty.PortableType.{PortableType};
 ghost use Rattle.type_reader_run.specs.Differences.{IsReferenceError};
 ghost use Rattle.type_reader_run.specs.Outputs.{IsPruned, bytes_of, id_line};
@@ -11,7 +11,7 @@ ghost use Rattle.type_reader_run.specs.Refusals.{IsReachingError};
 
 use crate::output::{Output, OutputBytes};
 use itoa::Buffer;
-use scale_info_prune::prune::{PruneError, prune};
+use scale_info_table_prune::prune::{PruneError, prune};
 use std::alloc::{AllocError, Global};
 use std::collections::BTreeMap;
 use type_reader_io::error::ReaderError;

@@ -4,7 +4,7 @@ ghost use Rattle.std.specs.Io.KnownBytes.{IsAtEnd};
 ghost use Rattle.type_reader_io.specs.Inputs.{IsReadError};
 ghost use Rattle.type_reader_run.specs.Tables.{input_bytes};
 
-use crate::table::{Input, input_of};
+use crate::table::{TableInput, input_of};
 use std::alloc::Global;
 use std::io::Read;
 use type_reader_io::error::ReaderError;
@@ -28,7 +28,7 @@ pub fn read_input<R: Read>(alloc: Global, reader: &mut R) -> Result<Vec<u8>, Rea
 }
 
 /// The same, as an input.
-pub fn read_whole<R: Read>(alloc: Global, reader: &mut R) -> Result<Input, ReaderError>
+pub fn read_whole<R: Read>(alloc: Global, reader: &mut R) -> Result<TableInput, ReaderError>
     ensures bytes { IfOk result (λ input. IfSome (R.remaining reader.old)
         (λ bytes. input.bytes.items ≡ input_bytes bytes)) }
     ensures end { OnOk result (IsAtEnd (R.remaining reader.new)) }

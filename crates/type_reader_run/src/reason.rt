@@ -6,10 +6,10 @@ ghost use Rattle.type_reader_io.specs.declared.error.ReaderError.TheVariants as 
 ghost use Rattle.type_reader_run.specs.Differences.{IsReason, compared};
 
 use scale_info_collections::text::Text;
-use scale_info_diff::changes::without_docs;
-use scale_info_diff::declarations::declared_change_of;
-use scale_info_diff::named::NamedTable;
-use scale_info_prune::prune::PruneError;
+use scale_info_table_diff::declarations::declared_change_of;
+use scale_info_table_diff::named::NamedTable;
+use scale_info_table_diff::tables::without_docs;
+use scale_info_table_prune::prune::PruneError;
 use std::alloc::{AllocError, Global};
 use type_reader_io::command::Docs;
 use type_reader_io::error::ReaderError;

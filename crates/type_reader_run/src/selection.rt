@@ -6,8 +6,8 @@ ghost use Rattle.type_reader_run.specs.Selections.{AreSeveral, IsChoiceError, Is
 ghost use Rattle.type_reader_run.specs.Selections.{IsSelectionError};
 
 use scale_info_collections::text::Text;
-use scale_info_describe::search::find_by_path;
-use scale_info_tables::portable::PortableRegistry;
+use scale_info_table::portable::PortableRegistry;
+use scale_info_table_describe::search::find_by_path;
 use std::alloc::Global;
 use type_reader_io::error::ReaderError;
 use type_table_io::id::id_of;

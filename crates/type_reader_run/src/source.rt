@@ -1,10 +1,10 @@
 //! What is noted of an input.
 ghost use Rattle.std.specs.Prelude.{◌≡◌, ◌++◌, IfOk, codes, decimal};
-ghost use Rattle.scale_info_describe.specs.TypeNames.{Appends};
+ghost use Rattle.scale_info_table_describe.specs.TypeNames.{Appends};
 ghost use Rattle.type_reader_run.specs.Tables.{source_line, source_text};
 
 use itoa::Buffer;
-use scale_info_metadata::metadata::Source;
+use scale_info_table_metadata::metadata::Source;
 use std::alloc::{AllocError, Global};
 
 /// Appends the words for metadata of this version.

@@ -4,7 +4,7 @@ ghost use Rattle.type_reader_io.specs.declared.error.ReaderError.TheVariants as 
 ghost use Rattle.type_reader_run.specs.Outputs.{IsStripped};
 ghost use Rattle.type_reader_run.specs.Tables.{IsOneTable};
 
-use scale_info_docs::docs::append_without_docs;
+use scale_info_table_docs::docs::append_without_docs;
 use std::alloc::Global;
 use type_reader_io::error::ReaderError;
 

@@ -1,20 +1,20 @@
 //! The table of an input.
 ghost use Rattle.std.specs.Prelude.{◌≡◌, IfOk, IfErr};
 ghost use Rattle.scale_info_grammar.specs.Ty.{EncodesTypes};
-ghost use Rattle.scale_info_metadata.specs.TablesFound.{IsTableOf};
+ghost use Rattle.scale_info_table_metadata.specs.TablesFound.{IsTableOf};
 ghost use Rattle.type_reader_io.specs.declared.error.ReaderError.TheVariants as reader_error;
 ghost use Rattle.type_reader_run.specs.Tables.{HasTable, IsFoundError, IsOneTable, error_of};
 ghost use Rattle.type_reader_run.specs.Tables.{input_bytes, is_hexadecimal};
 
-use scale_info_metadata::hexadecimal::bytes_of_text;
-use scale_info_metadata::metadata::{MetadataError, Source, table_of};
-use scale_info_tables::portable::PortableRegistry;
+use scale_info_table::portable::PortableRegistry;
+use scale_info_table_metadata::hexadecimal::bytes_of_text;
+use scale_info_table_metadata::metadata::{MetadataError, Source, table_of};
 use std::alloc::{AllocError, Global};
 use type_reader_io::error::ReaderError;
 
 /// An input.
 #[derive(Drop)]
-pub struct Input {
+pub struct TableInput {
     /// Its bytes: those that it writes in hexadecimal digits, or its own.
     pub bytes: Vec<u8>,
     /// Whether it writes them in hexadecimal digits.
@@ -24,16 +24,16 @@ pub struct Input {
 /// The input that has these bytes of its own.
 ///
 /// Errors: an allocation failed.
-pub fn input_of(alloc: Global, input: Vec<u8>) -> Result<Input, AllocError>
+pub fn input_of(alloc: Global, input: Vec<u8>) -> Result<TableInput, AllocError>
     ensures bytes { IfOk result (λ found. found.bytes.items ≡ input_bytes input.items) }
     ensures form { IfOk result (λ found. found.is_hexadecimal ≡ is_hexadecimal input.items) }
 {
     match bytes_of_text(alloc, &input)? {
-        Some(bytes) => Ok(Input {
+        Some(bytes) => Ok(TableInput {
             bytes,
             is_hexadecimal: true,
         }),
-        None => Ok(Input {
+        None => Ok(TableInput {
             bytes: input,
             is_hexadecimal: false,
         }),
@@ -70,7 +70,7 @@ pub fn find_table(bytes: &[u8]) -> Result<(Source, &[u8]), ReaderError>
 /// The bytes of the table of an input. Nothing is allocated.
 ///
 /// Errors: as those of [`find_table`].
-pub fn table_in(input: &Input) -> Result<&[u8], ReaderError>
+pub fn table_in(input: &TableInput) -> Result<&[u8], ReaderError>
     ensures ok { IfOk result (λ table. HasTable input.now.bytes.items table.now) }
     ensures table { IfOk result (λ table. IsOneTable table.now) }
     ensures err { IfErr result (IsFoundError input.now.bytes.items) }

@@ -1,5 +1,5 @@
 //! A number that sums up results.
-use scale_info::value::Dyn;
+use scale_info::value::Value;
 use scale_info::{Items, Text};
 
 /// A number that sums up all that was put in, in order.
@@ -60,22 +60,22 @@ impl Digest {
     }
 
     /// Puts in a value.
-    pub fn put_value(&mut self, value: &Dyn) {
+    pub fn put_value(&mut self, value: &Value) {
         put_value(value, self);
     }
 }
 
 /// Puts in a value.
 #[cycle(values)]
-fn put_value(value: &Dyn, digest: &mut Digest) {
+fn put_value(value: &Value, digest: &mut Digest) {
     match value {
-        Dyn::Bool(truth) => digest.put(if *truth { 1 } else { 2 }),
-        Dyn::Unsigned(number) => digest.put_wide(*number),
-        Dyn::Signed(number) => digest.put_wide(number.unsigned_abs()),
-        Dyn::Text(text) => digest.put_bytes(text.as_bytes()),
-        Dyn::List(values) => put_list(values, digest),
-        Dyn::Record(fields) => put_fields(fields, digest),
-        Dyn::Variant {
+        Value::Bool(truth) => digest.put(if *truth { 1 } else { 2 }),
+        Value::Unsigned(number) => digest.put_wide(*number),
+        Value::Signed(number) => digest.put_wide(number.unsigned_abs()),
+        Value::Text(text) => digest.put_bytes(text.as_bytes()),
+        Value::List(values) => put_list(values, digest),
+        Value::Record(fields) => put_fields(fields, digest),
+        Value::Variant {
             name,
             index,
             fields,
@@ -89,7 +89,7 @@ fn put_value(value: &Dyn, digest: &mut Digest) {
 
 /// Puts in values and their count.
 #[cycle(values)]
-fn put_list(values: &Items<Dyn>, digest: &mut Digest) {
+fn put_list(values: &Items<Value>, digest: &mut Digest) {
     digest.put(values.len() as u64);
     for value in values.as_slice() {
         put_value(value, digest);
@@ -98,7 +98,7 @@ fn put_list(values: &Items<Dyn>, digest: &mut Digest) {
 
 /// Puts in fields and their count.
 #[cycle(values)]
-fn put_fields(fields: &Items<(Option<Text>, Dyn)>, digest: &mut Digest) {
+fn put_fields(fields: &Items<(Option<Text>, Value)>, digest: &mut Digest) {
     digest.put(fields.len() as u64);
     for (name, value) in fields.as_slice() {
         match name {

@@ -1,4 +1,4 @@
-//! Values that are shown, or lent, and not made.
+//! Values that are shown, or borrowed, and not made.
 use crate::digest::Digest;
 use crate::readings::{Input, Reading};
 use anyhow::{Result, bail};

@@ -3,8 +3,8 @@ pub mod Outputs
 pub mod Refusals
 pub use Rattle.scale_info_grammar.specs.Ty
 pub use Rattle.scale_info_json_trees.specs.EntryTrees
-pub use Rattle.scale_info_prune.specs.Prunes
-pub use Rattle.scale_info_prune.specs.TableIndexes
+pub use Rattle.scale_info_table_prune.specs.Prunes
+pub use Rattle.scale_info_table_prune.specs.TableIndexes
 pub use Rattle.type_table_io.specs.Commands
 pub use Rattle.type_table_io.specs.Ids
 pub use Rattle.type_table_io.specs.Lines

@@ -2,7 +2,7 @@
 use Rattle.std.specs.Prelude.{ℕ, List}
 use Rattle.scale_info_bytes.specs.Encodings.{HasNoPrefix}
 use Rattle.scale_info_grammar.specs.Ty.{EncodesTypes}
-use Rattle.scale_info_prune.specs.TableIndexes.{HasTrailing}
+use Rattle.scale_info_table_prune.specs.TableIndexes.{HasTrailing}
 use Rattle.scale_info_types.specs.declared.ty.PortableType.{PortableType}
 use Rattle.type_table_io.specs.declared.error.RunError.{RunError}
 use Rattle.type_table_io.specs.declared.error.RunError.TheVariants.{Malformed, TrailingBytes}

@@ -6,7 +6,7 @@ use Rattle.serde_json.specs.Written.{compact_text}
 use Rattle.scale_info_bytes.specs.Encodings.{HasPrefix}
 use Rattle.scale_info_grammar.specs.Ty.{EncodesTypes}
 use Rattle.scale_info_json_trees.specs.EntryTrees.{types_tree}
-use Rattle.scale_info_prune.specs.Prunes.{IsPrunedEncoding}
+use Rattle.scale_info_table_prune.specs.Prunes.{IsPrunedEncoding}
 use Rattle.scale_info_types.specs.declared.ty.PortableType.{PortableType}
 use Rattle.type_table_io.specs.Commands.{given_ids}
 use Rattle.type_table_io.specs.declared.command.Command.{Command}

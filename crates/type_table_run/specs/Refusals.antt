@@ -4,8 +4,8 @@ use Rattle.std.specs.declared.option.Option.{Option}
 use Rattle.std.specs.Io.KnownBytes.{Keeps}
 use Rattle.scale_info_bytes.specs.Encodings.{HasNoPrefix}
 use Rattle.scale_info_grammar.specs.Ty.{EncodesTypes}
-use Rattle.scale_info_prune.specs.Prunes.{HasDangling, HasNoSuchType}
-use Rattle.scale_info_prune.specs.TableIndexes.{HasTrailing}
+use Rattle.scale_info_table_prune.specs.Prunes.{HasDangling, HasNoSuchType}
+use Rattle.scale_info_table_prune.specs.TableIndexes.{HasTrailing}
 use Rattle.type_table_io.specs.Commands.{HasCommand, IsCommand, given_ids}
 use Rattle.type_table_io.specs.declared.command.Command.{Command}
 use Rattle.type_table_io.specs.declared.error.RunError.{RunError}

@@ -6,7 +6,7 @@ ghost use Rattle.type_table_run.specs.Outputs.{BeginsWithJson, IsJsonOf};
 ghost use Rattle.type_table_run.specs.OneTable.{IsCheckError};
 
 use scale_info_bytes::error::DecodeError;
-use scale_info_transcode::append_json_of;
+use scale_info_json_bytes::append_json_of;
 use std::alloc::Global;
 use type_table_io::error::RunError;
 

@@ -1,7 +1,7 @@
 //! What a command writes for its input.
 ghost use Rattle.std.specs.Prelude.{◌≡◌, ◌↔◌, All, IfOk, IfErr, List, map, ℕ};
-ghost use Rattle.scale_info_prune.specs.Prunes.{IsPruneError};
-ghost use Rattle.scale_info_prune.specs.declared.prune.PruneError.TheVariants as prune_error;
+ghost use Rattle.scale_info_table_prune.specs.Prunes.{IsPruneError};
+ghost use Rattle.scale_info_table_prune.specs.declared.prune.PruneError.TheVariants as prune_error;
 ghost use Rattle.type_table_io.specs.Commands.{HasIdTexts, given_ids};
 ghost use Rattle.type_table_io.specs.Ids.{IsIdText, id_in};
 ghost use Rattle.type_table_io.specs.declared.error.RunError.TheVariants as run_error;
@@ -11,7 +11,7 @@ ghost use Rattle.type_table_run.specs.Refusals.{IsCommandError};
 use crate::json_line::json_of;
 use crate::table::check_table;
 use scale_info_collections::text::Text;
-use scale_info_prune::prune::{PruneError, append_pruned};
+use scale_info_table_prune::prune::{PruneError, append_pruned};
 use std::alloc::Global;
 use type_table_io::command::Command;
 use type_table_io::error::RunError;

@@ -3,8 +3,8 @@ ghost use Rattle.std.specs.Prelude.{◌≡◌, ◌≢◌, ◌≤◌, ℕ, Err, I
 ghost use Rattle.std.specs.Io.KnownBytes.{IsAtEnd, Keeps};
 ghost use Rattle.scale_info_bytes.specs.Encodings.{HasNoPrefix};
 ghost use Rattle.scale_info_grammar.specs.Ty.{EncodesTypes};
-ghost use Rattle.scale_info_prune.specs.Prunes.{HasDangling, HasNoSuchType};
-ghost use Rattle.scale_info_prune.specs.TableIndexes.{HasTrailing};
+ghost use Rattle.scale_info_table_prune.specs.Prunes.{HasDangling, HasNoSuchType};
+ghost use Rattle.scale_info_table_prune.specs.TableIndexes.{HasTrailing};
 ghost use Rattle.type_table_io.specs.Commands.{HasCommand, HasIdTexts, IsCommand, given_ids};
 ghost use Rattle.type_table_io.specs.Lines.{line_of, usage_line};
 ghost use Rattle.type_table_io.specs.declared.error.RunError.{RunError};

@@ -7,8 +7,8 @@ ghost use Rattle.scale_info_catalogue.specs.Discoveries.{nodes_of};
 ghost use Rattle.scale_info_registry.specs.Registrations.{IsRegistration, Registered, registered};
 ghost use Rattle.scale_info_types.specs.Shapes.{Shape};
 ghost use Rattle.scale_info_walk.specs.TypeSystems.{entry_of};
-ghost use Rattle.scale_info_tables.specs.BuiltTables.{numbered_from};
-ghost use Rattle.scale_info_tables.specs.declared.portable.PortableRegistry as tables;
+ghost use Rattle.scale_info_table.specs.BuiltTables.{numbered_from};
+ghost use Rattle.scale_info_table.specs.declared.portable.PortableRegistry as tables;
 ghost use Rattle.std.specs.Prelude.{◌≡◌, [], List, length, map};
 
 use scale_info_registry::laws::registered_afresh;

@@ -5,7 +5,7 @@ ghost use Rattle.serde_json.specs.Data.{array, boolean, string, object, number, 
 ghost use Rattle.serde_json.specs.Data.{no_members, member};
 ghost use Rattle.scale_info_types.specs.declared.ty.TypeDef.TheVariants as def;
 ghost use Rattle.scale_info_primitives.specs.declared.primitive.TypeDefPrimitive.TheVariants as kind;
-ghost use Rattle.scale_info_value.specs.declared.value.Dyn.TheVariants as dyn;
+ghost use Rattle.scale_info_value.specs.declared.value.Value.TheVariants as Values;
 ghost use Rattle.scale_info_value.specs.ValueExamples.{table_of, list_of_u32, compact_of};
 ghost use Rattle.scale_info_value.specs.ValueExamples.{array_of_missing, map_of_u32_to_bool};
 ghost use Rattle.scale_info_value.specs.ValueExamples.{named_fields, equal_indices};
@@ -20,14 +20,14 @@ ghost use Rattle.scale_info_value_json.specs.TreeExamples.{array_of, one_member,
 /// deep. The item type of an empty array may be missing.
 pub fn lists()
     ensures two { taking list_of_u32 0 1 (array_of (plain 1 ∷ string (codes "2") ∷ []))
-        ≡ taken (dyn.List (dyn.Unsigned 1 ∷ dyn.Unsigned 2 ∷ [])) }
+        ≡ taken (Values.List (Values.Unsigned 1 ∷ Values.Unsigned 2 ∷ [])) }
     ensures wide { taking list_of_u32 0 1 (array_of (plain 4294967296 ∷ [])) ≡ refused mismatch }
     ensures other_kind { taking list_of_u32 0 1 (plain 1) ≡ refused mismatch }
     ensures text { taking list_of_u32 0 1 (string (codes "0x01000000")) ≡ refused mismatch }
     ensures outside { taking list_of_u32 2 1 (array_of []) ≡ refused no_such_type }
-    ensures deepest { taking list_of_u32 0 128 (array_of []) ≡ taken (dyn.List []) }
+    ensures deepest { taking list_of_u32 0 128 (array_of []) ≡ taken (Values.List []) }
     ensures items { taking list_of_u32 0 128 (array_of (plain 1 ∷ [])) ≡ refused too_deep }
-    ensures missing { taking (array_of_missing 0) 0 1 (array_of []) ≡ taken (dyn.List []) }
+    ensures missing { taking (array_of_missing 0) 0 1 (array_of []) ≡ taken (Values.List []) }
     ensures too_many { taking (array_of_missing 0) 0 1 (array_of (plain 1 ∷ []))
         ≡ refused mismatch }
 {}
@@ -36,14 +36,14 @@ pub fn lists()
 /// array. An odd digit is none, and another prefix is none.
 pub fn bytes()
     ensures prefixed { taking list_of_u8 0 1 (string (codes "0x01fF"))
-        ≡ taken (dyn.List (dyn.Unsigned 1 ∷ dyn.Unsigned 255 ∷ [])) }
+        ≡ taken (Values.List (Values.Unsigned 1 ∷ Values.Unsigned 255 ∷ [])) }
     ensures plain { taking list_of_u8 0 1 (string (codes "01ff"))
-        ≡ taken (dyn.List (dyn.Unsigned 1 ∷ dyn.Unsigned 255 ∷ [])) }
+        ≡ taken (Values.List (Values.Unsigned 1 ∷ Values.Unsigned 255 ∷ [])) }
     ensures digits { taking list_of_u8 0 1 (string (codes "10"))
-        ≡ taken (dyn.List (dyn.Unsigned 16 ∷ [])) }
+        ≡ taken (Values.List (Values.Unsigned 16 ∷ [])) }
     ensures numbers { taking list_of_u8 0 1 (array_of (plain 1 ∷ string (codes "255") ∷ []))
-        ≡ taken (dyn.List (dyn.Unsigned 1 ∷ dyn.Unsigned 255 ∷ [])) }
-    ensures none { taking list_of_u8 0 1 (string []) ≡ taken (dyn.List []) }
+        ≡ taken (Values.List (Values.Unsigned 1 ∷ Values.Unsigned 255 ∷ [])) }
+    ensures none { taking list_of_u8 0 1 (string []) ≡ taken (Values.List []) }
     ensures odd { taking list_of_u8 0 1 (string (codes "0x1")) ≡ refused mismatch }
     ensures capital { taking list_of_u8 0 1 (string (codes "0X01")) ≡ refused mismatch }
     ensures too_deep { taking list_of_u8 0 128 (string (codes "01")) ≡ refused too_deep }
@@ -52,23 +52,23 @@ pub fn bytes()
 /// Integers: within their types, as numbers and as strings, of which zeros may lead.
 pub fn integers()
     ensures zeros { taking (table_of (def.Primitive kind.U8 ∷ [])) 0 1 (string (codes "007"))
-        ≡ taken (dyn.Unsigned 7) }
+        ≡ taken (Values.Unsigned 7) }
     ensures plus { taking (table_of (def.Primitive kind.U8 ∷ [])) 0 1 (string (codes "+7"))
         ≡ refused mismatch }
     ensures none { taking (table_of (def.Primitive kind.U8 ∷ [])) 0 1 (string [])
         ≡ refused mismatch }
     ensures most { taking (table_of (def.Primitive kind.U8 ∷ [])) 0 1 (plain 255)
-        ≡ taken (dyn.Unsigned 255) }
+        ≡ taken (Values.Unsigned 255) }
     ensures over { taking (table_of (def.Primitive kind.U8 ∷ [])) 0 1 (string (codes "256"))
         ≡ refused mismatch }
     ensures least { taking (table_of (def.Primitive kind.I8 ∷ [])) 0 1 (string (codes "-128"))
-        ≡ taken (dyn.Signed (negsuc 127)) }
+        ≡ taken (Values.Signed (negsuc 127)) }
     ensures under { taking (table_of (def.Primitive kind.I8 ∷ [])) 0 1
         (number (negative (negsuc 128))) ≡ refused mismatch }
     ensures positive { taking (table_of (def.Primitive kind.I8 ∷ [])) 0 1 (plain 5)
-        ≡ taken (dyn.Signed (pos 5)) }
+        ≡ taken (Values.Signed (pos 5)) }
     ensures large { taking (compact_of kind.U128) 0 1 (string (codes "18446744073709551616"))
-        ≡ taken (dyn.Unsigned 18446744073709551616) }
+        ≡ taken (Values.Unsigned 18446744073709551616) }
     ensures signed { taking (compact_of kind.I32) 0 1 (plain 1) ≡ refused unsupported }
     ensures nothing { taking (table_of (def.Primitive kind.Bool ∷ [])) 0 1 null ≡ refused mismatch }
 {}
@@ -77,8 +77,8 @@ pub fn integers()
 pub fn fields()
     ensures named { taking named_fields 0 1
         (object (member (codes "a") (plain 7) (member (codes "b") (boolean true) no_members)))
-        ≡ taken (dyn.Record
-        ((Some (codes "a"), dyn.Unsigned 7) ∷ (Some (codes "b"), dyn.Bool true) ∷ [])) }
+        ≡ taken (Values.Record
+        ((Some (codes "a"), Values.Unsigned 7) ∷ (Some (codes "b"), Values.Bool true) ∷ [])) }
     ensures missing { taking named_fields 0 1 (one_member (codes "a") (plain 7))
         ≡ refused mismatch }
     ensures unknown { taking named_fields 0 1
@@ -87,8 +87,8 @@ pub fn fields()
     ensures array { taking named_fields 0 1 (array_of (plain 7 ∷ boolean true ∷ []))
         ≡ refused mismatch }
     ensures twice { taking one_name_twice 0 1 (array_of (plain 7 ∷ plain 8 ∷ []))
-        ≡ taken (dyn.Record
-        ((Some (codes "a"), dyn.Unsigned 7) ∷ (Some (codes "a"), dyn.Unsigned 8) ∷ [])) }
+        ≡ taken (Values.Record
+        ((Some (codes "a"), Values.Unsigned 7) ∷ (Some (codes "a"), Values.Unsigned 8) ∷ [])) }
     ensures once { taking one_name_twice 0 1 (one_member (codes "a") (plain 7))
         ≡ refused mismatch }
 {}
@@ -97,19 +97,19 @@ pub fn fields()
 /// variants share a name, the index says which one is meant.
 pub fn variants()
     ensures name { taking equal_indices 0 1 (string (codes "A"))
-        ≡ taken (dyn.Variant (codes "A") 3 []) }
+        ≡ taken (Values.Variant (codes "A") 3 []) }
     ensures empty { taking equal_indices 0 1 (one_member (codes "A") (array_of []))
-        ≡ taken (dyn.Variant (codes "A") 3 []) }
+        ≡ taken (Values.Variant (codes "A") 3 []) }
     ensures filled { taking equal_indices 0 1
         (one_member (codes "A") (array_of (boolean true ∷ []))) ≡ refused mismatch }
     ensures hidden { taking equal_indices 0 1
         (one_member (codes "B") (array_of (boolean true ∷ []))) ≡ refused mismatch }
     ensures none { taking equal_indices 0 1 (string (codes "C")) ≡ refused mismatch }
     ensures shared { taking shared_names 0 1 (one_member (codes "A") (array_of (plain 3 ∷ [])))
-        ≡ taken (dyn.Variant (codes "A") 3 []) }
+        ≡ taken (Values.Variant (codes "A") 3 []) }
     ensures with_fields { taking shared_names 0 1 (one_member (codes "A")
         (array_of (plain 4 ∷ one_member (codes "n") (boolean true) ∷ [])))
-        ≡ taken (dyn.Variant (codes "A") 4 ((Some (codes "n"), dyn.Bool true) ∷ [])) }
+        ≡ taken (Values.Variant (codes "A") 4 ((Some (codes "n"), Values.Bool true) ∷ [])) }
     ensures ambiguous { taking shared_names 0 1 (string (codes "A")) ≡ refused mismatch }
     ensures without_index { taking shared_names 0 1
         (one_member (codes "A") (one_member (codes "n") (boolean true))) ≡ refused mismatch }
@@ -119,7 +119,7 @@ pub fn variants()
 pub fn maps()
     ensures one { taking map_of_u32_to_bool 0 1
         (array_of (array_of (plain 7 ∷ boolean true ∷ []) ∷ []))
-        ≡ taken (dyn.List (dyn.List (dyn.Unsigned 7 ∷ dyn.Bool true ∷ []) ∷ [])) }
+        ≡ taken (Values.List (Values.List (Values.Unsigned 7 ∷ Values.Bool true ∷ []) ∷ [])) }
     ensures object { taking map_of_u32_to_bool 0 1 (one_member (codes "7") (boolean true))
         ≡ refused mismatch }
     ensures key_alone { taking map_of_u32_to_bool 0 1 (array_of (array_of (plain 7 ∷ []) ∷ []))

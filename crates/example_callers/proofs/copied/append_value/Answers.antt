@@ -1,7 +1,7 @@
 use Rattle.std.proofs.Common.{◌≡◌, ◌++◌, List, ℕ, length, ap, sym, ◌∙◌, arith}
 use Rattle.std.proofs.lemmas.List.{append-nil, nil_from_length}
 use Rattle.std.proofs.lemmas.Grind.{common_steps}
-use Rattle.scale_info.specs.LentBytes.{are_bytes}
+use Rattle.scale_info.specs.BorrowedBytes.{are_bytes}
 use Rattle.scale_info.specs.Writers.{written}
 use Rattle.example_callers.proofs.copied.append_value.Goals as goal
 

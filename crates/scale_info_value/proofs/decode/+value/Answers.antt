@@ -1,6 +1,6 @@
 use Rattle.std.proofs.Common.{◌≡◌, ◌-◌, Some, None, find, ◌==◌, arith, ap, sym, ◌∙◌, map}
 use Rattle.std.proofs.lemmas.Grind.{common_steps}
-use Rattle.scale_info_value.specs.declared.value.Dyn.TheVariants as dyn
+use Rattle.scale_info_value.specs.declared.value.Value.TheVariants as Values
 use Rattle.scale_info_value.specs.Outcomes.{decoded, outcome_map, and_then}
 use Rattle.scale_info_value.specs.Readings.{value_within, definition_within, pair_within}
 use Rattle.scale_info_value.specs.Readings.{fields_within, items_within, pairs_within, part_within}
@@ -80,14 +80,14 @@ composite_value-returns-in_err-values-clause-err g t c =
     (λ why e.
     composite_is c.args.left (g.T.Definitions.table c.args.table.now) c.args.composite.now c.as_slice.result.now c.args.input.now
     c.as_slice.ensures
-    ∙ ap (λ o. outcome_map dyn.Record o) e)
+    ∙ ap (λ o. outcome_map Values.Record o) e)
     c.in_err-values.ensures.err
 
 pub composite_value-returns-clause-ok : goal.composite_value-returns-clause-ok
 composite_value-returns-clause-ok g t c =
     composite_is c.args.left (g.T.Definitions.table c.args.table.now) c.args.composite.now c.as_slice.result.now c.args.input.now
     c.as_slice.ensures
-    ∙ ap (λ o. outcome_map dyn.Record o) c.in_ok-values.ensures.ok
+    ∙ ap (λ o. outcome_map Values.Record o) c.in_ok-values.ensures.ok
 
 pub variant_value-returns-in-None-clause-err : goal.variant_value-returns-in-None-clause-err
 variant_value-returns-in-None-clause-err g t c =
@@ -105,7 +105,7 @@ variant_value-returns-in_err-fields-in-Some-clause-err g t c =
     (λ why e.
     variant_found c.args.left (g.T.Definitions.table c.args.table.now) c.args.choice.now.variants c.args.input.now c.in_ok-index.rest.now
     c.in_ok-index.index c.in-Some.variant.now c.as_slice-in-Some.result.now c.in_ok-index.ensures.ok some c.as_slice-in-Some.ensures
-    ∙ ap (λ o. outcome_map (λ values. dyn.Variant c.in-Some.variant.now.name c.in_ok-index.index values) o) e)
+    ∙ ap (λ o. outcome_map (λ values. Values.Variant c.in-Some.variant.now.name c.in_ok-index.index values) o) e)
     c.in_err-fields-in-Some.ensures.err
 
 pub variant_value-returns-in_ok-name-in-Some-clause-ok : goal.variant_value-returns-in_ok-name-in-Some-clause-ok
@@ -114,10 +114,10 @@ variant_value-returns-in_ok-name-in-Some-clause-ok g t c =
     grind (arith, common_steps) in
     variant_found c.args.left (g.T.Definitions.table c.args.table.now) c.args.choice.now.variants c.args.input.now c.in_ok-index.rest.now
     c.in_ok-index.index c.in-Some.variant.now c.as_slice-in-Some.result.now c.in_ok-index.ensures.ok some c.as_slice-in-Some.ensures
-    ∙ ap (λ o. outcome_map (λ values. dyn.Variant c.in-Some.variant.now.name c.in_ok-index.index values) o)
+    ∙ ap (λ o. outcome_map (λ values. Values.Variant c.in-Some.variant.now.name c.in_ok-index.index values) o)
     c.in_ok-fields-in-Some.ensures.ok
     ∙ ap (λ name.
-    decoded (dyn.Variant name c.in_ok-index.index c.in_ok-fields-in-Some.fields) c.in_ok-fields-in-Some.rest.now)
+    decoded (Values.Variant name c.in_ok-index.index c.in_ok-fields-in-Some.fields) c.in_ok-fields-in-Some.rest.now)
     (sym c.in_ok-name-in-Some.ensures)
 
 pub variant_value-returns-in_err-index-clause-err : goal.variant_value-returns-in_err-index-clause-err
@@ -131,13 +131,13 @@ variant_value-returns-in_err-index-clause-err g t c =
 pub sequence_value-returns-in_err-count-clause-err : goal.sequence_value-returns-in_err-count-clause-err
 sequence_value-returns-in_err-count-clause-err g t c =
     failed_as c.from_residual.result c.in_err-count.field-0.0 c.from_residual.ensures.1 _
-    (ap (λ o. outcome_map dyn.List (and_then o (λ n rest.
+    (ap (λ o. outcome_map Values.List (and_then o (λ n rest.
     items_within c.args.left (g.T.Definitions.table c.args.table.now) c.args.sequence.now.type_param n rest)))
     c.in_err-count.ensures.err)
 
 pub map_value-returns-in_err-count-clause-err : goal.map_value-returns-in_err-count-clause-err
 map_value-returns-in_err-count-clause-err g t c =
     failed_as c.from_residual.result c.in_err-count.field-0.0 c.from_residual.ensures.1 _
-    (ap (λ o. outcome_map dyn.List (and_then o (λ n rest.
+    (ap (λ o. outcome_map Values.List (and_then o (λ n rest.
     pairs_within c.args.left (g.T.Definitions.table c.args.table.now) c.args.map.now.key c.args.map.now.value n rest)))
     c.in_err-count.ensures.err)

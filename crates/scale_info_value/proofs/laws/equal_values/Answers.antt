@@ -1,5 +1,5 @@
 use Rattle.std.proofs.Common.{IsTrue, subst}
-use Rattle.scale_info_value.specs.contracts.value.DynPartialEq.TheImpl.{ghosts}
+use Rattle.scale_info_value.specs.contracts.value.ValuePartialEq.TheImpl.{ghosts}
 use Rattle.scale_info_value.proofs.Equal.{one_value}
 use Rattle.scale_info_value.proofs.laws.equal_values.Goals as goal
 

@@ -1,5 +1,5 @@
 use Rattle.std.proofs.Common.{arith}
-use Rattle.scale_info_value.specs.declared.value.Dyn.TheVariants as dyn
+use Rattle.scale_info_value.specs.declared.value.Value.TheVariants as Values
 use Rattle.scale_info_value.specs.ValueDefinitions.{truth}
 use Rattle.scale_info_value.proofs.Errors.{failed_as}
 use Rattle.scale_info_value.proofs.InOrder.{done_more, done_fails, done_all}
@@ -20,7 +20,7 @@ loop-preserved c = record {
   done =
       rw c.push_reserved.ensures.items
       (done_more c.args.count truth c.args.input.now c.loop.counter c.loop.values.items c.loop.rest.now
-      (dyn.Bool c.in_ok-value.value) c.in_ok-value.after.now c.loop-test.true c.loop.invariant.done
+      (Values.Bool c.in_ok-value.value) c.in_ok-value.after.now c.loop-test.true c.loop.invariant.done
       c.in_ok-value.ensures.ok);
   long = omega arith;
   room = omega arith;

@@ -1,5 +1,5 @@
 use Rattle.std.proofs.Common.{◌≡◌, drop, map}
-use Rattle.scale_info_visit.specs.Events.{all_named}
+use Rattle.scale_info_value_visit.specs.Events.{all_named}
 use Rattle.scale_info_value_json.proofs.names.all_named.Given as goal
 
 abbrev pub invariant-loop-field : goal.invariant-loop-field

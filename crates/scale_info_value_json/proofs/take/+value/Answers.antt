@@ -1,6 +1,6 @@
 use Rattle.std.proofs.Common.{◌≡◌, ◌==◌, subst, sym, ◌∙◌, ap, map, find}
 use Rattle.std.specs.Str.{bytes_eq}
-use Rattle.scale_info_value.specs.declared.value.Dyn.TheVariants as dyn
+use Rattle.scale_info_value.specs.declared.value.Value.TheVariants as Values
 use Rattle.std.specs.Prelude.{IfOk, IfErr}
 use Rattle.serde_json.specs.View.{view}
 use Rattle.std.proofs.lemmas.Result.{IfOk-weaker}
@@ -86,7 +86,7 @@ variant_value-returns-in_err-fields-clause-err g t c =
     c.in_err-fields.field-0.0) c.as_slice-all.ensures c.in_err-fields.ensures.err in
     passed c.from_residual.result c.in_err-fields.field-0.0 _ c.from_residual.ensures.1
     (passes part _ c.in_err-fields.field-0.0
-    (λ why r. named ∙ ap (taken_map (λ values. dyn.Variant v.name c.in-Some-chosen.index values)) r) of_part)
+    (λ why r. named ∙ ap (taken_map (λ values. Values.Variant v.name c.in-Some-chosen.index values)) r) of_part)
 
 pub variant_value-returns-clause-ok : goal.variant_value-returns-clause-ok
 variant_value-returns-clause-ok g t c =
@@ -96,11 +96,11 @@ variant_value-returns-clause-ok g t c =
     (c.in-Some-chosen.ensures ∙ ap (λ vs. chosen vs c.in-Some.name.now (seen c.in-Some.content)) c.as_slice.ensures) v
     (sym (c.in-Some-variant_with_index.ensures ∙ ap (find (λ v. v.index == c.in-Some-chosen.index)) c.as_slice-2.ensures))
     (ap (λ s. bytes_eq s c.in-Some.name.now) (sym c.as_str.ensures) ∙ sym c.eq-is_named.ensures ∙ c.if-not-is_named.false)
-    ∙ ap (taken_map (λ values. dyn.Variant v.name c.in-Some-chosen.index values))
+    ∙ ap (taken_map (λ values. Values.Variant v.name c.in-Some-chosen.index values))
     (ap (λ fs. variant_fields_within c.args.left (g.T.Definitions.table c.args.table.now) fs (seen c.in-Some-chosen.content))
     (sym c.as_slice-all.ensures)
     ∙ c.in_ok-fields.ensures.ok)
-    ∙ ap (λ n. taken (dyn.Variant n c.in-Some-chosen.index c.in_ok-fields.fields)) (sym c.in_ok-name.ensures)
+    ∙ ap (λ n. taken (Values.Variant n c.in-Some-chosen.index c.in_ok-fields.fields)) (sym c.in_ok-name.ensures)
 
 pub value_within-returns-in_err-definition-clause-err : goal.value_within-returns-in_err-definition-clause-err
 value_within-returns-in_err-definition-clause-err g t c =
@@ -127,9 +127,9 @@ value_by-returns-in_err-kind-in-Compact-clause-err g t c =
 
 pub composite_value-returns-clause-ok : goal.composite_value-returns-clause-ok
 composite_value-returns-clause-ok g t c =
-    ap (λ fs. taken_map dyn.Record (fields_within c.args.left (g.T.Definitions.table c.args.table.now) fs (view c.args.tree.now)))
+    ap (λ fs. taken_map Values.Record (fields_within c.args.left (g.T.Definitions.table c.args.table.now) fs (view c.args.tree.now)))
     (sym c.as_slice.ensures)
-    ∙ ap (taken_map dyn.Record) c.in_ok-values.ensures.ok
+    ∙ ap (taken_map Values.Record) c.in_ok-values.ensures.ok
 
 pub tuple_value-returns-in_err-members-in-Some-clause-err : goal.tuple_value-returns-in_err-members-in-Some-clause-err
 tuple_value-returns-in_err-members-in-Some-clause-err g t c =
@@ -141,5 +141,5 @@ tuple_value-returns-in_err-members-in-Some-clause-err g t c =
     c.in_err-members-in-Some.field-0.0) c.as_slice-types.ensures c.in_err-members-in-Some.ensures.err in
     passed c.from_residual.result c.in_err-members-in-Some.field-0.0 _ c.from_residual.ensures.1
     (passes part _ c.in_err-members-in-Some.field-0.0
-    (λ why r. ap (λ found. taken_map dyn.List (if_found found (in_turn takers))) (sym c.in-Some.ensures) ∙ ap (taken_map dyn.List) r)
+    (λ why r. ap (λ found. taken_map Values.List (if_found found (in_turn takers))) (sym c.in-Some.ensures) ∙ ap (taken_map Values.List) r)
     of_part)

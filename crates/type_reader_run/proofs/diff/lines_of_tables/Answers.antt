@@ -1,6 +1,6 @@
 use Rattle.std.proofs.Common.{List, rules, subst}
 use Rattle.std.specs.List.{filter}
-use Rattle.scale_info_diff.specs.declared.change.Change.{Change}
+use Rattle.scale_info_table_diff.specs.declared.change.Change.{Change}
 use Rattle.type_reader_run.proofs.Differences.{changes_error, path_error}
 use Rattle.type_reader_run.specs.Differences.{AreLinesOf, is_of}
 use Rattle.type_reader_run.proofs.diff.lines_of_tables.Goals as goal

@@ -1,6 +1,6 @@
 use Rattle.std.proofs.Common.{List, map, subst, sym}
-use Rattle.scale_info_diff.proofs.Encoded.{one_table}
-use Rattle.scale_info_docs.specs.WithoutDocs.{entry_without_docs}
+use Rattle.scale_info_table_diff.proofs.Encoded.{one_table}
+use Rattle.scale_info_table_docs.specs.WithoutDocs.{entry_without_docs}
 use Rattle.scale_info_grammar.specs.Ty.{EncodesTypes}
 use Rattle.scale_info_types.specs.declared.ty.PortableType.{PortableType}
 use Rattle.type_reader_run.specs.Differences.{compared}

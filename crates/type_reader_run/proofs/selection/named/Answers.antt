@@ -1,6 +1,6 @@
 use Rattle.std.proofs.Common.{◌<◌, ◌∷◌, ◌∙◌, [], ap, arith, length, subst}
 use Rattle.std.proofs.lemmas.Bool.Decides.{nat_tests}
-use Rattle.scale_info_describe.specs.PathSearches.{AreIdsBy, is_path}
+use Rattle.scale_info_table_describe.specs.PathSearches.{AreIdsBy, is_path}
 use Rattle.type_reader_run.specs.Selections.{by_id, by_path}
 use Rattle.type_reader_run.proofs.selection.named.Goals as goal
 

@@ -1,6 +1,6 @@
 use Rattle.std.proofs.Common.{◌≡◌, ◌++◌, ◌∙◌, ℕ, List, [], map, ap, subst, sym}
-use Rattle.scale_info_docs.specs.Changes.{AppendsChanged}
-use Rattle.scale_info_docs.specs.WithoutDocs.{entry_without_docs}
+use Rattle.scale_info_table_docs.specs.Changes.{AppendsChanged}
+use Rattle.scale_info_table_docs.specs.WithoutDocs.{entry_without_docs}
 use Rattle.scale_info_grammar.specs.Ty.{EncodesTypes}
 use Rattle.type_reader_run.proofs.Tables.{encodes_whole}
 use Rattle.type_reader_run.specs.Outputs.{IsStripped}

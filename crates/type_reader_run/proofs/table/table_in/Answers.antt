@@ -1,5 +1,5 @@
 use Rattle.std.proofs.Common.{subst}
-use Rattle.scale_info_metadata.specs.TablesFound.{IsTableOf}
+use Rattle.scale_info_table_metadata.specs.TablesFound.{IsTableOf}
 use Rattle.type_reader_run.proofs.table.table_in.Goals as goal
 
 pub returns-clause-ok : goal.returns-clause-ok

@@ -1,5 +1,5 @@
 use Rattle.std.proofs.Common.{rules, ◌≡◌, map, subst}
-use Rattle.scale_info_prune.specs.Prunes.{IsPruneError}
+use Rattle.scale_info_table_prune.specs.Prunes.{IsPruneError}
 use Rattle.type_table_io.specs.Ids.{id_in}
 use Rattle.type_table_run.proofs.output.pruned.Goals as goal
 

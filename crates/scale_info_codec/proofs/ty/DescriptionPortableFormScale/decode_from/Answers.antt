@@ -1,9 +1,12 @@
-use Rattle.scale_info_grammar.specs.Ty.{description_parts}
-use Rattle.scale_info_bytes.proofs.Errors.{passed_malformed}
-use Rattle.scale_info_bytes.proofs.Steps.{no_prefix_through}
+use Rattle.std.proofs.Common.{subst}
+use Rattle.scale_info_bytes.proofs.Results.{ok_on}
+use Rattle.scale_info_bytes.specs.Encodings.{HasPrefix}
+use Rattle.scale_info_codec.proofs.Own.{own_description}
+use Rattle.scale_info_grammar.specs.Ty.{EncodesDescription}
 use Rattle.scale_info_codec.proofs.ty.DescriptionPortableFormScale.decode_from.Goals as goal
 
-pub returns-in_err-parts-clause-malformed : goal.returns-in_err-parts-clause-malformed
-returns-in_err-parts-clause-malformed c =
-    passed_malformed c.from_residual.result c.in_err-parts.field-0.0 c.from_residual.ensures.1
-    (λ n. no_prefix_through description_parts n) c.in_err-parts.ensures.malformed
+pub returns-clause-ok : goal.returns-clause-ok
+returns-clause-ok c =
+    ok_on c.decode_part.result
+    (λ found. subst (λ v. HasPrefix (EncodesDescription v) c.args.input.now found.1.now) (own_description found.0))
+    c.decode_part.ensures.ok

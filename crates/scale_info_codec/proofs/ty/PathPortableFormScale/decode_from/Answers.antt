@@ -1,8 +1,12 @@
-use Rattle.scale_info_bytes.proofs.Errors.{passed_malformed}
-use Rattle.scale_info_bytes.proofs.Steps.{no_prefix_through}
+use Rattle.std.proofs.Common.{subst}
+use Rattle.scale_info_bytes.proofs.Results.{ok_on}
+use Rattle.scale_info_bytes.specs.Encodings.{HasPrefix}
+use Rattle.scale_info_codec.proofs.Own.{own_path}
+use Rattle.scale_info_grammar.specs.Ty.{EncodesPath}
 use Rattle.scale_info_codec.proofs.ty.PathPortableFormScale.decode_from.Goals as goal
 
-pub returns-in_err-segments-clause-malformed : goal.returns-in_err-segments-clause-malformed
-returns-in_err-segments-clause-malformed c =
-    passed_malformed c.from_residual.result c.in_err-segments.field-0.0 c.from_residual.ensures.1
-    (λ n. no_prefix_through (λ v. v.segments) n) c.in_err-segments.ensures.malformed
+pub returns-clause-ok : goal.returns-clause-ok
+returns-clause-ok c =
+    ok_on c.decode_part.result
+    (λ found. subst (λ v. HasPrefix (EncodesPath v) c.args.input.now found.1.now) (own_path found.0))
+    c.decode_part.ensures.ok

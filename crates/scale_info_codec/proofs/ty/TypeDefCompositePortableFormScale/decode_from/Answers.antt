@@ -1,8 +1,14 @@
-use Rattle.scale_info_bytes.proofs.Errors.{passed_malformed}
-use Rattle.scale_info_bytes.proofs.Steps.{no_prefix_through}
+use Rattle.std.proofs.Common.{subst}
+use Rattle.scale_info_bytes.proofs.Results.{ok_on}
+use Rattle.scale_info_bytes.specs.Encodings.{HasPrefix}
+use Rattle.scale_info_codec.proofs.Own.{own_fields}
+use Rattle.scale_info_grammar.specs.Ty.{EncodesComposite}
 use Rattle.scale_info_codec.proofs.ty.TypeDefCompositePortableFormScale.decode_from.Goals as goal
 
-pub returns-in_err-fields-clause-malformed : goal.returns-in_err-fields-clause-malformed
-returns-in_err-fields-clause-malformed c =
-    passed_malformed c.from_residual.result c.in_err-fields.field-0.0 c.from_residual.ensures.1
-    (λ n. no_prefix_through (λ v. v.fields) n) c.in_err-fields.ensures.malformed
+pub returns-clause-ok : goal.returns-clause-ok
+returns-clause-ok c =
+    ok_on c.decode_part.result
+    (λ found.
+    subst (λ fields. HasPrefix (EncodesComposite (record { fields = fields })) c.args.input.now found.1.now)
+    (own_fields found.0.fields))
+    c.decode_part.ensures.ok

@@ -1,18 +1,12 @@
-use Rattle.std.proofs.Common.{arith, refl}
-use Rattle.scale_info_bytes.proofs.Errors.{passed_malformed}
-use Rattle.scale_info_bytes.proofs.Index.{begins}
-use Rattle.scale_info_grammar.proofs.Definitions.{prefix_definition, no_prefix_definition}
+use Rattle.std.proofs.Common.{subst}
+use Rattle.scale_info_bytes.proofs.Results.{ok_on}
+use Rattle.scale_info_bytes.specs.Encodings.{HasPrefix}
+use Rattle.scale_info_codec.proofs.Own.{own_definition}
+use Rattle.scale_info_grammar.specs.Ty.{EncodesTypeDef}
 use Rattle.scale_info_codec.proofs.ty.TypeDefPortableFormScale.decode_from.Goals as goal
 
-pub returns-in_err-def-in-len1-up-clause-malformed :
-    goal.returns-in_err-def-in-len1-up-clause-malformed
-returns-in_err-def-in-len1-up-clause-malformed c =
-    passed_malformed c.from_residual.result c.in_err-def-in-len1-up.field-0.0
-    c.from_residual.ensures.1
-    (λ n. no_prefix_definition _ (begins _ c.args.input.now (omega arith) refl) n)
-    c.in_err-def-in-len1-up.ensures.malformed
-
-pub returns-in_ok-def-in-len1-up-clause-ok : goal.returns-in_ok-def-in-len1-up-clause-ok
-returns-in_ok-def-in-len1-up-clause-ok c =
-    prefix_definition _ (begins _ c.args.input.now (omega arith) refl)
-    c.in_ok-def-in-len1-up.ensures.ok
+pub returns-clause-ok : goal.returns-clause-ok
+returns-clause-ok c =
+    ok_on c.decode_part.result
+    (λ found. subst (λ v. HasPrefix (EncodesTypeDef v) c.args.input.now found.1.now) (own_definition found.0))
+    c.decode_part.ensures.ok

@@ -1,8 +1,14 @@
-use Rattle.scale_info_bytes.proofs.Errors.{passed_malformed}
-use Rattle.scale_info_bytes.proofs.Steps.{no_prefix_through}
+use Rattle.std.proofs.Common.{subst}
+use Rattle.scale_info_bytes.proofs.Results.{ok_on}
+use Rattle.scale_info_bytes.specs.Encodings.{HasPrefix}
+use Rattle.scale_info_codec.proofs.Own.{own_variants}
+use Rattle.scale_info_grammar.specs.Ty.{EncodesVariants}
 use Rattle.scale_info_codec.proofs.ty.TypeDefVariantPortableFormScale.decode_from.Goals as goal
 
-pub returns-in_err-variants-clause-malformed : goal.returns-in_err-variants-clause-malformed
-returns-in_err-variants-clause-malformed c =
-    passed_malformed c.from_residual.result c.in_err-variants.field-0.0 c.from_residual.ensures.1
-    (λ n. no_prefix_through (λ v. v.variants) n) c.in_err-variants.ensures.malformed
+pub returns-clause-ok : goal.returns-clause-ok
+returns-clause-ok c =
+    ok_on c.decode_part.result
+    (λ found.
+    subst (λ variants. HasPrefix (EncodesVariants (record { variants = variants })) c.args.input.now found.1.now)
+    (own_variants found.0.variants))
+    c.decode_part.ensures.ok

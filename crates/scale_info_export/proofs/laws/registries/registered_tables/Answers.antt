@@ -2,7 +2,7 @@ use Rattle.std.proofs.Common.{ap, map, length, sym, ◌∙◌, subst}
 use Rattle.scale_info_numberings.specs.Tables.{IsTable}
 use Rattle.scale_info_catalogue.specs.Discoveries.{nodes_of}
 use Rattle.scale_info_walk.specs.TypeSystems.{entry_of}
-use Rattle.scale_info_tables.proofs.Interned.{length_numbered}
+use Rattle.scale_info_table.proofs.Interned.{length_numbered}
 use Rattle.scale_info_export.proofs.NumberedEntries.{numbered_entries}
 use Rattle.scale_info_export.proofs.laws.registries.registered_tables.Goals as goal
 

@@ -1,0 +1,9 @@
+pub mod Changes
+pub mod Encodings
+pub mod FoundTables
+pub mod Rooms
+pub mod SameTypes
+pub mod Statuses
+pub mod Types
+pub mod Values
+pub mod WholeTables

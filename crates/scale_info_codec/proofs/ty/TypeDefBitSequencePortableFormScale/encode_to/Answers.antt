@@ -1,7 +1,0 @@
-use Rattle.scale_info_codec.proofs.ty.TypeDefBitSequencePortableFormScale.encode_to.Goals as goal
-
-pub returns-clause-ok : goal.returns-clause-ok
-returns-clause-ok c = c.encode_two.ensures.ok
-
-pub returns-clause-too_long : goal.returns-clause-too_long
-returns-clause-too_long c = c.encode_two.ensures.too_long

@@ -1,8 +1,0 @@
-use Rattle.scale_info_bytes.proofs.Errors.{passed_malformed}
-use Rattle.scale_info_bytes.proofs.Steps.{no_prefix_through}
-use Rattle.scale_info_codec.proofs.ty.TypeDefTuplePortableFormScale.decode_from.Goals as goal
-
-pub returns-in_err-fields-clause-malformed : goal.returns-in_err-fields-clause-malformed
-returns-in_err-fields-clause-malformed c =
-    passed_malformed c.from_residual.result c.in_err-fields.field-0.0 c.from_residual.ensures.1
-    (λ n. no_prefix_through (λ v. v.fields) n) c.in_err-fields.ensures.malformed

@@ -1,0 +1,12 @@
+use Rattle.scale_info_grammar.specs.Ty.{description_parts}
+use Rattle.scale_info_bytes.proofs.Errors.{passed_malformed}
+use Rattle.scale_info_bytes.proofs.Steps.{no_prefix_through}
+use Rattle.scale_info_description_codec.proofs.ty.DescriptionDecodePart.decode_part.Goals as goal
+
+pub returns-in_err-parts-clause-malformed : goal.returns-in_err-parts-clause-malformed
+returns-in_err-parts-clause-malformed g c =
+    passed_malformed c.from_residual.result c.in_err-parts.field-0.0 c.from_residual.ensures.1
+    (λ n. no_prefix_through description_parts n) c.in_err-parts.ensures.malformed
+
+pub returns-clause-ok : goal.returns-clause-ok
+returns-clause-ok g c = rw (← c.description_of.ensures) at c.in_ok-parts.ensures.ok

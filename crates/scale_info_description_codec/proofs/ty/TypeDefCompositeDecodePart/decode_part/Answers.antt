@@ -1,0 +1,8 @@
+use Rattle.scale_info_bytes.proofs.Errors.{passed_malformed}
+use Rattle.scale_info_bytes.proofs.Steps.{no_prefix_through}
+use Rattle.scale_info_description_codec.proofs.ty.TypeDefCompositeDecodePart.decode_part.Goals as goal
+
+pub returns-in_err-fields-clause-malformed : goal.returns-in_err-fields-clause-malformed
+returns-in_err-fields-clause-malformed g c =
+    passed_malformed c.from_residual.result c.in_err-fields.field-0.0 c.from_residual.ensures.1
+    (λ n. no_prefix_through (λ v. v.fields) n) c.in_err-fields.ensures.malformed

@@ -1,5 +1,0 @@
-use Rattle.std.proofs.Common.{length}
-use Rattle.scale_info_diff.proofs.compare.+push_by_halves.Given as goal
-
-abbrev pub decreases-push_by_halves : goal.decreases-push_by_halves
-decreases-push_by_halves l = length l.paths.now

@@ -1,8 +1,0 @@
-use Rattle.std.proofs.Common.{All}
-use Rattle.scale_info_diff.specs.Differing.{AreDiffering, IsEdge}
-use Rattle.scale_info_diff.proofs.differing.find_differing.Given as goal
-
-abbrev pub invariant-loop : goal.invariant-loop
-invariant-loop l =
-    AreDiffering l.old.table.now l.new.table.now l.pairs.items.items l.marks.items
-    × All (IsEdge l.old.table.now l.new.table.now l.pairs.items.items) l.edges.items

@@ -1,8 +1,0 @@
-use Rattle.scale_info_diff.proofs.CommonIds.{is_some}
-use Rattle.scale_info_diff.proofs.differing.have_changed.Goals as goal
-
-pub returns : goal.returns
-returns c = λ yes types others are. (
-  is_some c.args.others.now c.is_empty.result c.is_empty.ensures c.if-is_empty.false,
-  c.have_no_match.ensures yes types others are,
-)

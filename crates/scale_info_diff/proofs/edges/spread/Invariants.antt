@@ -1,5 +1,0 @@
-use Rattle.scale_info_diff.specs.Differing.{StayDiffering}
-use Rattle.scale_info_diff.proofs.edges.spread.Given as goal
-
-abbrev pub invariant-loop : goal.invariant-loop
-invariant-loop l = StayDiffering l.edges l.initial.marks.items l.marks.items

@@ -1,8 +1,0 @@
-use Rattle.std.proofs.Common.{rules}
-use Rattle.scale_info_encode.specs.Writings.{value_within, compact_within}
-use Rattle.scale_info_encode.proofs.ValueKinds.{outs}
-use Rattle.scale_info_encode.proofs.laws.examples.integers.Goals as goal
-
-pub returns : goal.returns
-unfolding value_within compact_within
-returns c = search (rules, outs)

@@ -1,5 +1,0 @@
-use Rattle.scale_info_encode.proofs.Pruned.{writes_alike}
-use Rattle.scale_info_encode.proofs.laws.writes_alike.Goals as goal
-
-pub returns : goal.returns
-returns c = writes_alike

@@ -1,5 +1,0 @@
-use Rattle.scale_info_encode.proofs.Levels.{written_as_read}
-use Rattle.scale_info_encode.proofs.laws.written_as_read.Goals as goal
-
-pub returns : goal.returns
-returns c = written_as_read

@@ -1,3 +1,0 @@
-pub mod IntegerLists
-pub mod LentValues
-pub mod ValueParts

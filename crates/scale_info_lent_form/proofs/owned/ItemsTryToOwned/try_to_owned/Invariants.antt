@@ -1,5 +1,0 @@
-use Rattle.std.proofs.Common.{map, take, ◌≡◌}
-use Rattle.scale_info_lent_form.proofs.owned.ItemsTryToOwned.try_to_owned.Given as goal
-
-abbrev pub invariant-loop-item : goal.invariant-loop-item
-invariant-loop-item g l = l.copies ≡ map g.T.Encoded.owned (take l.item-index l.item-items)

@@ -1,8 +1,0 @@
-use Rattle.scale_info_bytes.proofs.Errors.{passed_malformed}
-use Rattle.scale_info_bytes.proofs.Steps.{no_prefix_through}
-use Rattle.scale_info_lent_form.proofs.ty.PathDecodeLent.decode_lent.Goals as goal
-
-pub returns-in_err-segments-clause-malformed : goal.returns-in_err-segments-clause-malformed
-returns-in_err-segments-clause-malformed g c =
-    passed_malformed c.from_residual.result c.in_err-segments.field-0.0 c.from_residual.ensures.1
-    (λ n. no_prefix_through (λ v. v.segments) n) c.in_err-segments.ensures.malformed

@@ -1,5 +1,0 @@
-use Rattle.std.proofs.Common.{rules}
-use Rattle.scale_info_metadata.proofs.laws.equal_sources.Goals as goal
-
-pub returns : goal.returns
-returns c = search rules

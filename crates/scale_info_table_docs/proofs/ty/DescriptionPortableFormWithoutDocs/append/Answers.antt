@@ -1,0 +1,14 @@
+use Rattle.std.proofs.Common.{refl}
+use Rattle.scale_info_bytes.proofs.Results.{ok_on}
+use Rattle.scale_info_grammar.specs.Ty.{description_parts}
+use Rattle.scale_info_table_docs.proofs.Changes.{made, no_parts}
+use Rattle.scale_info_table_docs.proofs.OfParts.{description_of}
+use Rattle.scale_info_table_docs.proofs.ty.DescriptionPortableFormWithoutDocs.append.Goals as goal
+
+pub returns-clause-ok : goal.returns-clause-ok
+returns-clause-ok c =
+    ok_on c.append.result (λ rest p. made description_of (λ v b e. e) (λ v. refl) p)
+    c.append.ensures.ok
+
+pub returns-clause-malformed : goal.returns-clause-malformed
+returns-clause-malformed c = no_parts _ _ _ description_parts c.append.ensures.malformed

@@ -1,0 +1,13 @@
+use Rattle.std.proofs.Common.{refl}
+use Rattle.scale_info_bytes.proofs.Results.{ok_on}
+use Rattle.scale_info_grammar.specs.Ty.{variant_parts}
+use Rattle.scale_info_table_docs.proofs.Changes.{made, no_parts}
+use Rattle.scale_info_table_docs.proofs.OfParts.{variant_of}
+use Rattle.scale_info_table_docs.proofs.ty.VariantPortableFormWithoutDocs.append.Goals as goal
+
+pub returns-clause-ok : goal.returns-clause-ok
+returns-clause-ok c =
+    ok_on c.append.result (λ rest p. made variant_of (λ v b e. e) (λ v. refl) p) c.append.ensures.ok
+
+pub returns-clause-malformed : goal.returns-clause-malformed
+returns-clause-malformed c = no_parts _ _ _ variant_parts c.append.ensures.malformed

@@ -1,0 +1,9 @@
+use Rattle.std.proofs.Common.{◌≡◌, length}
+use Rattle.scale_info_table_metadata.specs.HexTexts.{trimmed_end}
+use Rattle.scale_info_table_metadata.proofs.hexadecimal.trim_end.Given as goal
+
+abbrev pub invariant-loop-rest : goal.invariant-loop-rest
+invariant-loop-rest l = trimmed_end l.rest ≡ trimmed_end l.text
+
+abbrev pub decreases-loop-rest : goal.decreases-loop-rest
+decreases-loop-rest l = length l.rest

@@ -1,0 +1,5 @@
+use Rattle.std.proofs.Common.{rules}
+use Rattle.scale_info_table_metadata.proofs.laws.equal_metadata_errors.Goals as goal
+
+pub returns : goal.returns
+returns c = search rules

@@ -1,5 +1,0 @@
-use Rattle.std.proofs.Common.{rules}
-use Rattle.scale_info_tables.proofs.renumbering.renumbered_definition.Goals as goal
-
-pub returns-in-Map : goal.returns-in-Map
-returns-in-Map c = search rules

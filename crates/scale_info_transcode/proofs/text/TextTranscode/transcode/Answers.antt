@@ -1,8 +1,0 @@
-use Rattle.scale_info_transcode.proofs.text.TextTranscode.transcode.Goals as goal
-
-pub returns-clause-ok : goal.returns-clause-ok
-returns-clause-ok c = record {
-  value = c.in_ok-text.text.now;
-  read = c.in_ok-text.ensures.ok;
-  tokens = c.in_ok-string.ensures.ok;
-}

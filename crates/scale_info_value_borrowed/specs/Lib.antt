@@ -1,0 +1,3 @@
+pub mod BorrowedValues
+pub mod IntegerLists
+pub mod ValueParts

@@ -1,0 +1,10 @@
+use Rattle.std.proofs.Common.{◌-◌, replicate}
+use Rattle.scale_info_primitives.specs.declared.primitive.TypeDefPrimitive.TheVariants as kinds
+use Rattle.scale_info_value_visit.specs.Reads.{each, primitive_read}
+use Rattle.scale_info_value_visit.proofs.Visiting.{IsAt}
+use Rattle.scale_info_value_visit.proofs.list.truths.Given as goal
+
+abbrev pub invariant-loop : goal.invariant-loop
+invariant-loop g l =
+    IsAt g.V.ValueVisitor.visited (each (replicate l.count (primitive_read kinds.Bool)) l.input)
+    (each (replicate (l.count - l.counter) (primitive_read kinds.Bool)) l.rest) l.fn.visitor l.visitor
