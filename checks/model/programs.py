@@ -126,8 +126,8 @@ def pathed(table, number):
 
 
 def listing(table, words):
-    """The declarations of the types that are given, or of all."""
-    ids = types_given(table, words) if words else range(len(table))
+    """The declarations of the types that are given, or of all: of those with a path before the others."""
+    ids = types_given(table, words) if words else sorted(range(len(table)), key=lambda it: not table[it].ty.path)
     return "".join(f"// {pathed(table, it)}\n{declarations.describe(table, it)}\n" for it in ids).encode()
 
 

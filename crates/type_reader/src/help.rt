@@ -47,7 +47,7 @@ const LIST: &str = "\
 usage: type_reader list TABLE [TYPE ..]
 
 Writes types as Rust declares them, each after a line with its id and its path: those that are
-named, or all.
+named, in that order; or all, first those that have a path and then the others.
 
   type_reader list samples/chain.hex demo::Account
 ";

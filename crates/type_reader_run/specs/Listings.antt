@@ -1,6 +1,6 @@
 -- Types as lines of text.
-use Rattle.std.specs.Prelude.{◌≡◌, ◌++◌, ℕ, List, [], ◌∷◌, Option, Some, None, codes, decimal}
-use Rattle.std.specs.Prelude.{unwrap_or, length, take}
+use Rattle.std.specs.Prelude.{◌≡◌, ◌++◌, ℕ, List, [], ◌∷◌, Bool, true, false, not, Option, Some, None}
+use Rattle.std.specs.Prelude.{codes, decimal, filter, unwrap_or, length, take}
 use Rattle.std.specs.List.{range_with_len}
 use Rattle.scale_info_table_describe.specs.TypeDeclarations.{description_at}
 use Rattle.scale_info_table_describe.specs.TypeNames.{type_at}
@@ -29,8 +29,32 @@ abbrev pub listed_type : PortableRegistry → ℕ → List ℕ
 listed_type table id =
     codes "// " ++ title_line table id ++ unwrap_or (description_at table id) [] ++ codes "\n"
 
+-- there is a segment
+abbrev pub has_segment : List (List ℕ) → Bool
+has_segment [] = false
+has_segment (segment ∷ segments) = true
+
+-- there is a type, and it has a path
+abbrev pub is_named : Option Description → Bool
+is_named None = false
+is_named (Some ty) = has_segment ty.path.segments
+
+-- the type with an id has a path
+abbrev pub has_path : List PortableType → ℕ → Bool
+has_path types id = is_named (type_at (record { types = types }) id)
+
+-- the ids of all types. An id is below 4294967296.
+abbrev pub ids_below : List PortableType → List ℕ
+ids_below types = range_with_len 0 (length (take 4294967296 types))
+
+-- the ids of all types: of those that have a path, ascending, and then of the others, ascending
+abbrev pub all_ids : List PortableType → List ℕ
+all_ids types =
+    filter (has_path types) (ids_below types)
+    ++ filter (λ id. not (has_path types id)) (ids_below types)
+
 -- the ids of the types that are listed for these texts: those that they give; and those of all
--- types, where there is no text. An id is below 4294967296.
+-- types, where there is no text
 abbrev pub AreListed : List PortableType → List (List ℕ) → List ℕ → Type 0
-AreListed types [] ids = ids ≡ range_with_len 0 (length (take 4294967296 types))
+AreListed types [] ids = ids ≡ all_ids types
 AreListed types (text ∷ texts) ids = AreSelected types (text ∷ texts) ids

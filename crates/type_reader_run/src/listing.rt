@@ -1,8 +1,9 @@
 //! Types as lines of text.
-ghost use Rattle.std.specs.Prelude.{◌≡◌, IfOk, length, take};
-ghost use Rattle.std.specs.List.{flat_map, range_with_len};
+ghost use Rattle.std.specs.Prelude.{◌≡◌, IfOk};
+ghost use Rattle.std.specs.List.{flat_map};
 ghost use Rattle.scale_info_table_describe.specs.TypeNames.{Appends};
-ghost use Rattle.type_reader_run.specs.Listings.{listed_type, path_text, title_line};
+ghost use Rattle.type_reader_run.specs.Listings.{all_ids, has_path, listed_type, path_text};
+ghost use Rattle.type_reader_run.specs.Listings.{title_line};
 
 use itoa::Buffer;
 use scale_info_collections::text::Text;
@@ -71,17 +72,33 @@ pub fn titles_of(
     Ok(out.into_bytes())
 }
 
-/// The ids of all types of a table, ascending.
+/// Whether the type with this id has a path.
+fn has_path(table: &PortableRegistry, id: u32) -> bool
+    ensures { result ≡ has_path table.now.types id }
+{
+    match table.resolve(id) {
+        Some(ty) => !ty.path.segments.is_empty(),
+        None => false,
+    }
+}
+
+/// The ids of all types of a table: first of those that have a path, as they are declared, and then
+/// of the others; each ascending.
 ///
 /// Errors: an allocation failed.
 pub fn all_ids(alloc: Global, table: &PortableRegistry) -> Result<Vec<u32>, AllocError>
-    ensures { IfOk result (λ ids. ids.items
-        ≡ range_with_len 0 (length (take 4294967296 table.now.types))) }
+    ensures { IfOk result (λ ids. ids.items ≡ all_ids table.now.types) }
 {
-    let count = table.len().min(4294967296);
-    let mut ids = Vec::with_capacity(alloc, count)?;
-    for index in 0..count {
-        ids.push(index as u32)?;
+    let mut ids = Vec::new(alloc);
+    let mut others = Vec::new(alloc);
+    for index in 0..table.len().min(4294967296) {
+        let id = index as u32;
+        if has_path(table, id) {
+            ids.push(id)?;
+        } else {
+            others.push(id)?;
+        }
     }
+    ids.extend_from_slice(&others)?;
     Ok(ids)
 }
