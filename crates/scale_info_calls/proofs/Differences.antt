@@ -1,17 +1,21 @@
 -- Why two tables, or one type of each, are not compared.
-use Rattle.std.proofs.Common.{◌≡◌, ℕ, zero, suc, List, [], ◌∷◌, Contains, ap, arith, inl, inr}
+use Rattle.std.proofs.Common.{◌≡◌, ◌∙◌, ℕ, zero, suc, Bool, false, List, [], ◌∷◌, Contains, ap, arith, inl, inr}
 use Rattle.std.proofs.Common.{length, refl, subst, sym, lit<}
+use Rattle.std.proofs.lemmas.Bool.{false≢true}
 use Rattle.scale_info_calls.specs.Changes.{IsChangesRefusal}
-use Rattle.scale_info_calls.specs.SameTypes.{IsPairRefusal, IsSameRefusal}
+use Rattle.scale_info_calls.specs.SameTypes.{IsPairRefusal, IsSameRefusal, TellsDifferenceOfInputs}
+use Rattle.scale_info_calls.specs.SameTypes.{TellsOfInputs, TellsOfTypes, TellsSame}
+use Rattle.scale_info_calls.specs.SameTypes.TellsOfTypes.{differ}
 use Rattle.scale_info_calls.specs.WholeTables.{error_of}
 use Rattle.scale_info_calls.specs.declared.error.CallError.{CallError}
 use Rattle.scale_info_calls.specs.declared.error.CallError.TheVariants as errors
-use Rattle.scale_info_table_diff.specs.Differences.{IsDifferenceError}
+use Rattle.scale_info_table_diff.proofs.Encoded.{one_table}
+use Rattle.scale_info_table_diff.specs.Declarations.{IsDeclaredChangeError}
 use Rattle.scale_info_table_diff.specs.TableChanges.{IsCompareError}
 use Rattle.scale_info_grammar.specs.Ty.{EncodesTypes}
 use Rattle.scale_info_table_prune.specs.Prunes.{DanglesFrom, LeadsOutside}
 use Rattle.scale_info_table_prune.specs.Roots.{AreRoots}
-use Rattle.scale_info_table_prune.specs.SameTypes.{IsMatchError}
+use Rattle.scale_info_table_prune.specs.SameTypes.{HaveMatch, IsMatchError}
 use Rattle.scale_info_table_prune.specs.declared.prune.PruneError.{PruneError}
 use Rattle.scale_info_table_prune.specs.declared.prune.PruneError.TheVariants as prune_errors
 use Rattle.scale_info_types.specs.declared.ty.PortableType.{PortableType}
@@ -58,10 +62,10 @@ not_matched types id others other (prune_errors.Dangling missing) (inl cause) = 
 not_matched types id others other (prune_errors.Dangling missing) (inr cause) = inr cause.1
 not_matched types id others other prune_errors.Memory cause = tt
 
--- why one type of each table is not pruned to
+-- why one type of each table is not gone over from
 pub not_told :
     (types : List PortableType) (id : ℕ) (others : List PortableType) (other : ℕ)
-    (error : PruneError) → IsDifferenceError types (id ∷ []) others (other ∷ []) error
+    (error : PruneError) → IsDeclaredChangeError types (id ∷ []) others (other ∷ []) error
     → IsPairRefusal types id others other (error_of error)
 not_told types id others other prune_errors.Malformed (inl cause) = absurd cause
 not_told types id others other prune_errors.Malformed (inr cause) = absurd cause.1
@@ -100,6 +104,30 @@ pair_refused first second id other types others errors.TooDeep e o cause = absur
 pair_refused first second id other types others errors.MalformedValue e o cause = absurd cause
 pair_refused first second id other types others errors.TrailingValue e o cause = absurd cause
 pair_refused first second id other types others errors.Mismatch e o cause = absurd cause
+
+-- where types of two inputs are not the same, what differs first is what is told of them
+pub differs :
+    (first second : List ℕ) (id other : ℕ) (text : List ℕ) (same : Bool) → same ≡ false
+    → TellsSame first id second other same → TellsDifferenceOfInputs first id second other text
+    → TellsOfInputs first id second other text
+differs first second id other text same is s d =
+    let types = one_table d.types s.types first d.encodes s.encodes in
+    let others = one_table d.others s.others second d.other_encodes s.other_encodes in
+    record {
+      types = d.types;
+      others = d.others;
+      encodes = d.encodes;
+      other_encodes = d.other_encodes;
+      tells =
+          differ
+          (λ have.
+          false≢true
+          (sym is
+          ∙ s.is.1
+          (subst (λ ts. HaveMatch s.types (id ∷ []) ts (other ∷ [])) others
+          (subst (λ ts. HaveMatch ts (id ∷ []) d.others (other ∷ [])) types have))))
+          d.tells;
+    }
 
 -- why the types of two inputs, which are tables, are not compared
 pub not_compared :

@@ -1,6 +1,6 @@
 -- Types of two tables that are whole inputs, compared.
-use Rattle.std.specs.Prelude.{◌≡◌, ◌⊎◌, ℕ, List, [], ◌∷◌, Option, None, Some, codes}
-use Rattle.std.specs.Prelude.{length}
+use Rattle.std.specs.Prelude.{◌≡◌, ◌↔◌, ◌⊎◌, ℕ, List, [], ◌∷◌, Bool, IsTrue, Option, None, Some}
+use Rattle.std.specs.Prelude.{codes, length}
 use Rattle.scale_info_table_diff.specs.Declarations.{TellsDeclaredChange}
 use Rattle.scale_info_grammar.specs.Ty.{EncodesTypes}
 use Rattle.scale_info_table_prune.specs.Prunes.{HasNoSuchType, LeadsOutside}
@@ -34,6 +34,25 @@ pub data TellsOfTypes (types : List PortableType) (id : ℕ) (others : List Port
       ¬ (HaveMatch types (id ∷ []) others (other ∷ []))
       → TellsDifference types id others other text
       → TellsOfTypes types id others other text
+
+-- both inputs are tables, and this says whether what types with these ids reach matches, one to one
+-- and in order
+pub record TellsSame (first : List ℕ) (id : ℕ) (second : List ℕ) (other : ℕ) (same : Bool)
+    : Type 0 where
+  pub types : List PortableType
+  pub others : List PortableType
+  pub encodes : EncodesTypes types first
+  pub other_encodes : EncodesTypes others second
+  pub is : IsTrue same ↔ HaveMatch types (id ∷ []) others (other ∷ [])
+
+-- both inputs are tables, and what is declared otherwise first, from types with these ids on, is told
+pub record TellsDifferenceOfInputs (first : List ℕ) (id : ℕ) (second : List ℕ) (other : ℕ)
+    (text : List ℕ) : Type 0 where
+  pub types : List PortableType
+  pub others : List PortableType
+  pub encodes : EncodesTypes types first
+  pub other_encodes : EncodesTypes others second
+  pub tells : TellsDifference types id others other text
 
 -- both inputs are tables, and this is told of the types with these ids
 pub record TellsOfInputs (first : List ℕ) (id : ℕ) (second : List ℕ) (other : ℕ)

@@ -18,7 +18,7 @@ use scale_info_table_diff::tables::changes as changes_of;
 use std::alloc::{AllocError, Global};
 
 /// The table that the input is, with its types by their paths.
-fn named(alloc: Global, input: &[u8]) -> Result<NamedTable<'_>, CallError>
+pub(crate) fn named(alloc: Global, input: &[u8]) -> Result<NamedTable<'_>, CallError>
     ensures ok { IfOk result (λ table. EncodesTypes table input.now) }
     ensures err { IfErr result (IsTableRefusal input.now) }
 {

@@ -1,11 +1,12 @@
 //! Types of two tables, compared.
 ghost use Rattle.std.specs.Prelude.{◌≡◌, IfErr, IfOk, OnErr, option_map, string_bytes};
 ghost use Rattle.scale_info_calls.specs.Rooms.{Gives, Refuses};
-ghost use Rattle.scale_info_calls.specs.SameTypes.{IsPairRefusal, IsSameRefusal, TellsOfInputs};
-ghost use Rattle.scale_info_calls.specs.SameTypes.{TellsDifference, TellsOfTypes, text_of};
+ghost use Rattle.scale_info_calls.specs.SameTypes.{IsSameRefusal, TellsDifferenceOfInputs};
+ghost use Rattle.scale_info_calls.specs.SameTypes.{TellsOfInputs, TellsSame, text_of};
 ghost use Rattle.scale_info_calls.specs.WholeTables.{IsTableRefusal};
 ghost use Rattle.scale_info_grammar.specs.Ty.{EncodesTypes};
 
+use crate::changes::named;
 use crate::error::CallError;
 use crate::pruning::error_of;
 use crate::room::give;
@@ -34,45 +35,48 @@ fn text_of(alloc: Global, found: Option<String>) -> Result<String, AllocError>
     }
 }
 
-/// What differs first between two types that are not the same.
+/// Whether types of the tables that two inputs are are the same.
+fn are_same(
+    alloc: Global,
+    first: &[u8],
+    id: u32,
+    second: &[u8],
+    other: u32,
+) -> Result<bool, CallError>
+    ensures ok { IfOk result (TellsSame first.now id second.now other) }
+    ensures err { IfErr result (IsSameRefusal first.now id second.now other) }
+{
+    let mut table = indexed(alloc, first)?;
+    let mut other_table = indexed(alloc, second)?;
+    match table.same_types(alloc, &[id], &mut other_table, &[other]) {
+        Ok(same) => Ok(same),
+        Err(error) => Err(error_of(error)),
+    }
+}
+
+/// What differs first between types, which are not the same, of the tables that two inputs are.
 fn difference(
     alloc: Global,
-    first: &mut IndexedTable<'_>,
+    first: &[u8],
     id: u32,
-    second: &mut IndexedTable<'_>,
+    second: &[u8],
     other: u32,
 ) -> Result<String, CallError>
     ensures ok { IfOk result
-        (λ text. TellsDifference first.old id second.old other (string_bytes text)) }
-    ensures err { IfErr result (IsPairRefusal first.old id second.old other) }
+        (λ text. TellsDifferenceOfInputs first.now id second.now other (string_bytes text)) }
+    ensures err { IfErr result (IsSameRefusal first.now id second.now other) }
 {
-    match first_declared_change(alloc, first, &[id], second, &[other]) {
+    let mut table = named(alloc, first)?;
+    let mut other_table = named(alloc, second)?;
+    match first_declared_change(alloc, &mut table, &[id], &mut other_table, &[other]) {
         Ok(found) => Ok(text_of(alloc, found)?),
         Err(error) => Err(error_of(error)),
     }
 }
 
-/// What is told of two types: nothing, where they are the same, and else what differs first.
+/// What is told of types of the tables that two inputs are: nothing, where they are the same, and
+/// else what differs first.
 fn told(
-    alloc: Global,
-    first: &mut IndexedTable<'_>,
-    id: u32,
-    second: &mut IndexedTable<'_>,
-    other: u32,
-) -> Result<String, CallError>
-    ensures ok { IfOk result
-        (λ text. TellsOfTypes first.old id second.old other (string_bytes text)) }
-    ensures err { IfErr result (IsPairRefusal first.old id second.old other) }
-{
-    match first.same_types(alloc, &[id], second, &[other]) {
-        Ok(true) => Ok(String::new(alloc)),
-        Ok(false) => difference(alloc, first, id, second, other),
-        Err(error) => Err(error_of(error)),
-    }
-}
-
-/// What is told of types of the tables that two inputs are.
-fn told_of(
     alloc: Global,
     first: &[u8],
     id: u32,
@@ -83,9 +87,10 @@ fn told_of(
         (λ text. TellsOfInputs first.now id second.now other (string_bytes text)) }
     ensures err { IfErr result (IsSameRefusal first.now id second.now other) }
 {
-    let mut table = indexed(alloc, first)?;
-    let mut other_table = indexed(alloc, second)?;
-    told(alloc, &mut table, id, &mut other_table, other)
+    if are_same(alloc, first, id, second, other)? {
+        return Ok(String::new(alloc));
+    }
+    difference(alloc, first, id, second, other)
 }
 
 /// Compares a type of one table with one of another. Returns 0 and leaves the room as it was, where
@@ -120,6 +125,6 @@ pub fn same(
         (IsSameRefusal first.now id second.now other) room.old) }
     ensures kept { OnErr result (room.new ≡ room.old) }
 {
-    let text = told_of(alloc, first, id, second, other)?;
+    let text = told(alloc, first, id, second, other)?;
     give(text.as_str().as_bytes(), room)
 }

@@ -1,5 +1,6 @@
 -- Pruned tables, compared place by place.
-use Rattle.std.proofs.Common.{◌≡◌, ◌∙◌, ◌++◌, ℕ, List, [], Some, ap, length, slice_get, subst, sym, refl, arith}
+use Rattle.std.proofs.Common.{◌≡◌, ◌∙◌, ◌++◌, ℕ, List, [], Option, Some, ap, length, slice_get, subst, sym, refl, arith}
+use Rattle.std.specs.Prelude.{MatchOption}
 use Rattle.std.proofs.lemmas.List.{length-map}
 use Rattle.std.proofs.lemmas.Option.{slice_get_within}
 use Rattle.std.specs.BTreeMap.{BTreeMap, get}
@@ -14,7 +15,8 @@ use Rattle.scale_info_table_prune.specs.declared.prune.PruneError.TheVariants.{T
 use Rattle.scale_info_types.specs.declared.ty.PortableType.{PortableType}
 use Rattle.scale_info_walk.specs.TypeSystems.{entry_of}
 use Rattle.scale_info_table_diff.proofs.Encoded.{has_prefix, no_trailing, one_table}
-use Rattle.scale_info_table_diff.specs.Differences.{CanBePruned, IsPrunedTo, TellsOfPruned}
+use Rattle.scale_info_table_diff.specs.Differences.{AgreeThroughout, CanBePruned, IsFirstDifference}
+use Rattle.scale_info_table_diff.specs.Differences.{IsPrunedTo, TellsDifference}
 
 -- what pruning appends to no bytes encodes the entries that it keeps
 pub kept_encoding :
@@ -76,13 +78,14 @@ of_same P {entries} {others} {read} {other_read} is are x =
 
 -- what is told of two tables that are pruned to their ids
 pub told :
-    {T : Type 0} {types_of : T → List PortableType} {types others : List PortableType}
-    {ids other_ids : List ℕ}
-    {Told : (order other_order : List ℕ) → (kept other_kept : T) → Type 0} (kept other_kept : T)
-    (x : (order : List ℕ) × IsPrunedTo types ids order (types_of kept))
-    (y : (order : List ℕ) × IsPrunedTo others other_ids order (types_of other_kept))
-    → Told x.0 y.0 kept other_kept → TellsOfPruned types_of types ids others other_ids Told
-told kept other_kept x y tells =
+    {types others kept other_kept : List PortableType} {ids other_ids : List ℕ}
+    {found : Option (ℕ × ℕ)}
+    (x : (order : List ℕ) × IsPrunedTo types ids order kept)
+    (y : (order : List ℕ) × IsPrunedTo others other_ids order other_kept)
+    → MatchOption found (AgreeThroughout kept other_kept)
+    (λ at. IsFirstDifference x.0 y.0 kept other_kept at.0 at.1)
+    → TellsDifference types ids others other_ids found
+told {types} {others} {kept} {other_kept} x y tells =
     record {
       order = x.0;
       other_order = y.0;

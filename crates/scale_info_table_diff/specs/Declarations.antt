@@ -1,15 +1,17 @@
 -- The first lines in which the declarations of two tables' types differ.
-use Rattle.std.specs.Prelude.{◌≡◌, ◌≢◌, ◌<◌, ◌++◌, ℕ, List, [], ◌∷◌, Option, None, Some}
-use Rattle.std.specs.Prelude.{MatchOption, ◌==◌, codes, if◌then◌else◌, slice_get, unwrap_or}
+use Rattle.std.specs.Prelude.{◌≡◌, ◌≢◌, ◌<◌, ◌⊎◌, ◌++◌, ℕ, List, [], ◌∷◌, Option, None, Some}
+use Rattle.std.specs.Prelude.{MatchOption, ◌==◌, codes, if◌then◌else◌, option_map, slice_get}
+use Rattle.std.specs.Prelude.{unwrap_or}
 use Rattle.std.specs.List.{repeat}
 use Rattle.std.specs.Str.Lines.{lines}
 use Rattle.scale_info_table_describe.specs.TypeDeclarations.{description_at}
 use Rattle.scale_info_table_describe.specs.TypeNames.{type_at}
 use Rattle.scale_info_segments.specs.TypePaths.{joined}
 use Rattle.scale_info_table.specs.declared.portable.PortableRegistry.{PortableRegistry}
+use Rattle.scale_info_table_prune.specs.Prunes.{IsOrderFrom, IsTypesPruneError}
+use Rattle.scale_info_table_prune.specs.declared.prune.PruneError.{PruneError}
 use Rattle.scale_info_types.specs.Portable.{Text, Description}
 use Rattle.scale_info_types.specs.declared.ty.PortableType.{PortableType}
-use Rattle.scale_info_table_diff.specs.Differences.{TellsOfPruned}
 
 -- the line at a place; past the last one it is empty
 abbrev pub line_at : List Text → ℕ → Text
@@ -44,6 +46,10 @@ pub record IsLineChange (texts others : List Text) (change : Text) : Type 0 wher
 abbrev pub lines_at : PortableRegistry → ℕ → List Text
 lines_at table id = lines (unwrap_or (description_at table id) [])
 
+-- the lines of the declaration of the type whose id stands at a place of an order; none, past its end
+abbrev pub lines_in : PortableRegistry → (order : List ℕ) → (place : ℕ) → List Text
+lines_in table order place = unwrap_or (option_map (lines_at table) (slice_get order place)) []
+
 -- a path, a colon and a blank; nothing, where there is no segment
 abbrev pub path_before : List Text → Text
 path_before [] = []
@@ -54,27 +60,49 @@ abbrev pub type_before : Option Description → Text
 type_before None = []
 type_before (Some ty) = path_before ty.path.segments
 
--- the same of the type at a place; nothing of the first one, which is that of the least given id
-abbrev pub place_before : PortableRegistry → ℕ → Text
-place_before table place = if place == 0 then [] else type_before (type_at table place)
+-- the same of the type whose id stands at a place of an order; nothing of the first one, which is
+-- that of the least given id
+abbrev pub place_before : PortableRegistry → (order : List ℕ) → (place : ℕ) → Text
+place_before table order place =
+    if place == 0 then []
+    else unwrap_or (option_map (λ id. type_before (type_at table id)) (slice_get order place)) []
 
--- at no place are types of both tables declared by lines that differ
-abbrev pub AreDeclaredAlike : PortableRegistry → PortableRegistry → Type 0
-AreDeclaredAlike table other = (id : ℕ) → AreLinesAlike (lines_at table id) (lines_at other id)
+-- Two tables, each with an order of ids of its types.
+module _ (table : PortableRegistry) (order : List ℕ) (other : PortableRegistry) (other_order : List ℕ) where
+  -- at this place of both orders are types that are declared by the same lines
+  abbrev pub AreAlikeAt : ℕ → Type 0
+  AreAlikeAt place = AreLinesAlike (lines_in table order place) (lines_in other other_order place)
 
--- the text is the change of the first line in which the first type that is declared by other lines
--- in the other table differs, after the path of that type, unless it has the least given id
-pub record IsDeclaredChange (table other : PortableRegistry) (text : Text) : Type 0 where
-  pub place : ℕ
-  pub below : (id : ℕ) → id < place → AreLinesAlike (lines_at table id) (lines_at other id)
-  pub change : Text
-  pub first : IsLineChange (lines_at table place) (lines_at other place) change
-  pub is : text ≡ place_before table place ++ change
+  -- at no place are types that are declared by lines that differ
+  abbrev pub AreDeclaredAlike : Type 0
+  AreDeclaredAlike = (place : ℕ) → AreAlikeAt place
 
--- two tables, each pruned to its ids, are first declared by other lines so; or they are by none
-abbrev pub TellsDeclaredChange : (types : List PortableType) → (ids : List ℕ)
-    → (others : List PortableType) → (other_ids : List ℕ) → Option Text → Type 0
-TellsDeclaredChange types ids others other_ids found =
-    TellsOfPruned (λ (table : PortableRegistry). table.types) types ids others other_ids
-    (λ order other_order table other.
-    MatchOption found (AreDeclaredAlike table other) (IsDeclaredChange table other))
+  -- the text is the change of the first line in which the first type that is declared by other lines
+  -- in the other table differs, after the path of that type, unless it has the least given id
+  pub record IsDeclaredChange (text : Text) : Type 0 where
+    pub place : ℕ
+    pub below : (p : ℕ) → p < place → AreAlikeAt p
+    pub change : Text
+    pub first : IsLineChange (lines_in table order place) (lines_in other other_order place) change
+    pub is : text ≡ place_before table order place ++ change
+
+-- what two tables declare otherwise first, each from its ids on, in depth-first order of discovery;
+-- or that it is nothing
+pub record TellsDeclaredChange (types : List PortableType) (ids : List ℕ) (others : List PortableType)
+    (other_ids : List ℕ) (found : Option Text) : Type 0 where
+  pub order : List ℕ
+  pub other_order : List ℕ
+  pub reached : IsOrderFrom types ids order
+  pub other_reached : IsOrderFrom others other_ids other_order
+  pub tells :
+      MatchOption found
+      (AreDeclaredAlike (record { types = types }) order (record { types = others }) other_order)
+      (IsDeclaredChange (record { types = types }) order (record { types = others }) other_order)
+
+-- why nothing is told of two tables: the old one can't be gone over from its ids; or it can, and the
+-- new one can't
+abbrev pub IsDeclaredChangeError : (types : List PortableType) → (ids : List ℕ)
+    → (others : List PortableType) → (other_ids : List ℕ) → PruneError → Type 0
+IsDeclaredChangeError types ids others other_ids error =
+    IsTypesPruneError types ids error
+    ⊎ (((order : List ℕ) × IsOrderFrom types ids order) × IsTypesPruneError others other_ids error)

@@ -53,25 +53,16 @@ pub record IsFirstDifference (order other_order : List ℕ) (entries others : Li
   pub is : slice_get order place ≡ Some id
   pub other_is : slice_get other_order place ≡ Some other_id
 
--- this is told of two tables, each pruned to its ids: of the old ids in their orders, and of what is
--- kept
-pub record TellsOfPruned {T : Type 0} (types_of : T → List PortableType)
-    (types : List PortableType) (ids : List ℕ) (others : List PortableType) (other_ids : List ℕ)
-    (Told : (order other_order : List ℕ) → (kept other_kept : T) → Type 0) : Type 0 where
-  pub order : List ℕ
-  pub other_order : List ℕ
-  pub kept : T
-  pub other_kept : T
-  pub pruned : IsPrunedTo types ids order (types_of kept)
-  pub other_pruned : IsPrunedTo others other_ids other_order (types_of other_kept)
-  pub tells : Told order other_order kept other_kept
-
 -- two tables, each pruned to its ids, differ first at these old ids; or they differ at no place that
 -- both have
-abbrev pub TellsDifference : (types : List PortableType) → (ids : List ℕ)
-    → (others : List PortableType) → (other_ids : List ℕ) → Option (ℕ × ℕ) → Type 0
-TellsDifference types ids others other_ids found =
-    TellsOfPruned (λ entries. entries) types ids others other_ids
-    (λ order other_order entries other_entries.
-    MatchOption found (AgreeThroughout entries other_entries)
-    (λ at. IsFirstDifference order other_order entries other_entries at.0 at.1))
+pub record TellsDifference (types : List PortableType) (ids : List ℕ) (others : List PortableType)
+    (other_ids : List ℕ) (found : Option (ℕ × ℕ)) : Type 0 where
+  pub order : List ℕ
+  pub other_order : List ℕ
+  pub kept : List PortableType
+  pub other_kept : List PortableType
+  pub pruned : IsPrunedTo types ids order kept
+  pub other_pruned : IsPrunedTo others other_ids other_order other_kept
+  pub tells :
+      MatchOption found (AgreeThroughout kept other_kept)
+      (λ at. IsFirstDifference order other_order kept other_kept at.0 at.1)

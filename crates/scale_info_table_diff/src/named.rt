@@ -19,7 +19,7 @@ use std::marker::Model;
 /// A table that stays bytes, with its types by their paths.
 ///
 /// Contracts see it as the entries that its bytes encode. It is read once, however often it is
-/// compared.
+/// compared, and holds its descriptions too, for what is told of them.
 ///
 /// ```text
 /// let table = NamedTable::of(alloc, &bytes)?;
@@ -29,6 +29,8 @@ use std::marker::Model;
 pub struct NamedTable<'a> {
     /// The table's bytes, and where its entries are in them.
     pub(crate) table: IndexedTable<'a>,
+    /// The same table, decoded.
+    pub(crate) decoded: PortableRegistry,
     /// The paths of its types, each once, in the order of the first types that have them.
     pub(crate) paths: Interner<Text>,
     /// For each path the ids of its types, ascending.
@@ -36,7 +38,7 @@ pub struct NamedTable<'a> {
 }
 
 impl<'a> Model for NamedTable<'a> {
-    ghost use Rattle.std.specs.Prelude.{List, map};
+    ghost use Rattle.std.specs.Prelude.{◌≡◌, List, map};
     ghost use Rattle.scale_info_table_diff.specs.NamedTables.{AreTypesByPath};
     ghost use Rattle.scale_info_types.specs.declared.ty.PortableType.{PortableType};
 
@@ -44,8 +46,8 @@ impl<'a> Model for NamedTable<'a> {
 
     ghost view = { λ named. named.table };
 
-    ghost invariant = { λ named. AreTypesByPath named.table named.paths
-        (map (λ row. row.items) named.ids.items) };
+    ghost invariant = { λ named. (named.decoded.types ≡ named.table)
+        × AreTypesByPath named.table named.paths (map (λ row. row.items) named.ids.items) };
 }
 
 impl<'a> NamedTable<'a> {
@@ -57,9 +59,15 @@ impl<'a> NamedTable<'a> {
         ensures ok { IfOk result (λ table. EncodesTypes table bytes.now) }
         ensures cause { IfErr result (IsTableError bytes.now) }
     {
-        let (paths, ids) = paths_in(alloc, bytes)?;
+        let decoded = table_of(alloc, bytes)?;
+        let (paths, ids) = paths_with_ids(alloc, decoded.types())?;
         let table = IndexedTable::of(alloc, bytes)?;
-        Ok(NamedTable { table, paths, ids })
+        Ok(NamedTable {
+            table,
+            decoded,
+            paths,
+            ids,
+        })
     }
 
     /// The bytes of the table, which are its encoding.
@@ -90,19 +98,6 @@ pub(crate) fn row_of<'r>(paths: &Interner<Text>, ids: &'r [Vec<u32>], path: &Tex
         Some(row) => row,
         None => &[],
     }
-}
-
-/// The paths of the types of the table that bytes are, and the ids of the types with each. The
-/// table is decoded for it, and let go.
-///
-/// Errors: as those of [`NamedTable::of`].
-fn paths_in(alloc: Global, bytes: &[u8]) -> Result<(Interner<Text>, Vec<Vec<u32>>), PruneError>
-    ensures ok { IfOk result (λ found. (types : List PortableType) × EncodesTypes types bytes.now
-        × AreTypesByPath types found.0 (map (λ row. row.items) found.1.items)) }
-    ensures cause { IfErr result (IsTableError bytes.now) }
-{
-    let table = table_of(alloc, bytes)?;
-    Ok(paths_with_ids(alloc, table.types())?)
 }
 
 /// The table that bytes are.

@@ -32,6 +32,13 @@ abbrev pub HasNewIds : List ℕ → BTreeMap ℕ ℕ → Type 0
 HasNewIds order new_ids =
     (old new : ℕ) → (get nat_cmp new_ids old ≡ Some new) ↔ (slice_get order new ≡ Some old)
 
+-- the ids of what the given ids reach, in depth-first order of discovery, where the given ones are
+-- taken in ascending order, each once
+pub record IsOrderFrom (types : List PortableType) (given order : List ℕ) : Type 0 where
+  pub roots : List ℕ
+  pub are_roots : AreRoots (length types) given roots
+  pub numbering : IsNumbering (types_system types) roots order
+
 -- new is old followed by an encoding of the table of the numbering, in this order, of these types,
 -- from the given ids in ascending order, each once
 pub record AppendsPruned (types : List PortableType) (given order old new : List ℕ) : Type 0 where

@@ -3,7 +3,8 @@ ghost use Rattle.std.specs.Prelude.{◌≡◌, ◌↔◌, ℕ, List, None, IfErr
 ghost use Rattle.std.specs.Prelude.{OnErr, OnOk, length, slice_get};
 ghost use Rattle.scale_info_grammar.specs.Ty.{EncodesTypes};
 ghost use Rattle.scale_info_table_prune.specs.Prunes.{AppendsPruned, HasNewIds, IsNumbered};
-ghost use Rattle.scale_info_table_prune.specs.Prunes.{IsNumberedFrom, IsRootsNumberingError};
+ghost use Rattle.scale_info_table_prune.specs.Prunes.{IsNumberedFrom, IsOrderFrom};
+ghost use Rattle.scale_info_table_prune.specs.Prunes.{IsRootsNumberingError};
 ghost use Rattle.scale_info_table_prune.specs.Prunes.{IsTableError, IsTypesPruneError};
 ghost use Rattle.scale_info_table_prune.specs.SameTypes.{HaveMatch, IsMatchError, IsRenumbered};
 ghost use Rattle.scale_info_table_prune.specs.SameTypes.{IsTypesRenumberingError, StaysInside};
@@ -157,6 +158,26 @@ impl<'a> IndexedTable<'a> {
         append_kept(alloc, self.body, &self.index, &found, out)?;
         self.room = Some(found);
         Ok(())
+    }
+
+    /// The ids of what the given ids reach, in depth-first order of discovery: what
+    /// [`prune`](IndexedTable::prune) keeps, in its order. Nothing is copied but these ids.
+    ///
+    /// Errors: as those of [`prune`](IndexedTable::prune).
+    ///
+    /// ```text
+    /// table.order_from(alloc, &[7, 0])?  // [0, 3, 4, 7, 9], where 0 refers to 3 and 4, and 7 to 9
+    /// ```
+    pub fn order_from(&mut self, alloc: Global, ids: &[u32]) -> Result<Vec<u32>, PruneError>
+        ensures ok { IfOk result (λ order. IsOrderFrom self.old ids.now order.items) }
+        ensures cause { IfErr result (IsTypesPruneError self.old ids.now) }
+        ensures table { self.new ≡ self.old }
+    {
+        let found = self.number(alloc, ids)?;
+        let mut order = Vec::new(alloc);
+        order.extend_from_slice(&found.order)?;
+        self.room = Some(found);
+        Ok(order)
     }
 
     /// Whether types of two tables are the same, as [`same_types`] says it of bytes. Each table is

@@ -87,9 +87,22 @@ fn difference(alloc: Global, old: &Chosen, new: &Chosen) -> Result<Option<(u32, 
     first_difference(alloc, &mut read, &old.ids, &mut other, &new.ids)
 }
 
+/// The tables of both parts of a row, read, with their types by their paths. What is wrong comes in
+/// the order in which [`read_both`] has it.
+fn named_both<'a>(
+    alloc: Global,
+    old: &'a Chosen,
+    new: &'a Chosen,
+) -> Result<(NamedTable<'a>, NamedTable<'a>), PruneError> {
+    read_both(alloc, old, new)?;
+    let read = NamedTable::of(alloc, &old.table)?;
+    let other = NamedTable::of(alloc, &new.table)?;
+    Ok((read, other))
+}
+
 /// Where types of two tables differ first, in words.
 fn in_words(alloc: Global, old: &Chosen, new: &Chosen) -> Result<Option<String>, PruneError> {
-    let (mut read, mut other) = read_both(alloc, old, new)?;
+    let (mut read, mut other) = named_both(alloc, old, new)?;
     first_declared_change(alloc, &mut read, &old.ids, &mut other, &new.ids)
 }
 
@@ -106,11 +119,11 @@ fn find(rt: &HostRuntime, name: &str, row: &str) -> Result<Outcome, Fail> {
 }
 
 /// Where types of two tables differ first in words, of tables that were read and asked before: each
-/// is pruned reusing the buffers of the call before.
+/// is numbered reusing the buffers of the call before.
 fn find_again(rt: &HostRuntime, row: &str) -> Result<Outcome, Fail> {
     let alloc = rt.alloc();
     let (old, new) = both_chosen(alloc, row)?;
-    let (mut read, mut other) = read_both(alloc, &old, &new)?;
+    let (mut read, mut other) = named_both(alloc, &old, &new)?;
     first_declared_change(alloc, &mut read, &old.ids, &mut other, &new.ids)?;
     let returned =
         marked!(rt; first_declared_change(alloc, &mut read, &old.ids, &mut other, &new.ids));

@@ -20,7 +20,7 @@ pub returns-in_default-clause-ok : goal.returns-in_default-clause-ok
 returns-in_default-clause-ok c =
     let x = c.in_ok-table.ensures.ok in
     let y = c.in_ok-other_table.ensures.ok in
-    told c.in_ok-table.table.types c.in_ok-other_table.other_table.types (x.0, x.2) (y.0, y.2)
+    told (x.0, x.2) (y.0, y.2)
     (of_same AgreeThroughout c.types.ensures c.types-2.ensures c.in_default.ensures.none)
 
 pub id_at-requires : goal.id_at-requires
@@ -41,7 +41,7 @@ pub returns-clause-ok : goal.returns-clause-ok
 returns-clause-ok c =
     let x = c.in_ok-table.ensures.ok in
     let y = c.in_ok-other_table.ensures.ok in
-    told c.in_ok-table.table.types c.in_ok-other_table.other_table.types (x.0, x.2) (y.0, y.2)
+    told (x.0, x.2) (y.0, y.2)
     (record {
       place = c.in-Some.place;
       first =

@@ -24,10 +24,10 @@ returns-then-branch-clause-ok c =
     (subst (λ same. TellsSame types others (unmarked paths c.deref-2.result.now) same) c.if-branch.true
     (c.in_ok-are_same.ensures.ok
     (given_rows (λ row. row.items) types c.old.inside.paths paths c.old.inside.ids.items c.deref.result.now
-    c.elements-paths.ensures.list c.deref.ensures.value c.old.invariant.are_ids))) in
+    c.elements-paths.ensures.list c.deref.ensures.value c.old.invariant.1.are_ids))) in
     subst (λ ts. AddsOldChanges ts others (paths_of ts) c.args.changes.now.items c.push_marked.new.changes.items) c.old.view_is
     (subst (λ ps. AddsOldChanges types others ps c.args.changes.now.items c.push_marked.new.changes.items)
-    (c.elements-paths.ensures.list ∙ c.old.invariant.are_paths)
+    (c.elements-paths.ensures.list ∙ c.old.invariant.1.are_paths)
     (adds_marked types others paths given c.args.changes.now.items c.push_marked.new.changes.items tells
     (given_marks types others paths paths marks given refl c.deref-then-branch.ensures.value (no_marks types others paths marks long none))
     (c.in_ok-push_marked.ensures
@@ -47,12 +47,12 @@ returns-clause-ok c =
     (λ adds.
     subst (λ ts. AddsOldChanges ts others (paths_of ts) c.args.changes.now.items c.push_by_halves.new.changes.items) c.old.view_is
     (subst (λ ps. AddsOldChanges types others ps c.args.changes.now.items c.push_by_halves.new.changes.items)
-    (c.elements-paths.ensures.list ∙ c.old.invariant.are_paths)
+    (c.elements-paths.ensures.list ∙ c.old.invariant.1.are_paths)
     (adds
     (given_rows (λ row. row.items) types c.old.inside.paths paths c.old.inside.ids.items c.deref-4.result.now
-    c.elements-paths.ensures.list c.deref-4.ensures.value c.old.invariant.are_ids)
+    c.elements-paths.ensures.list c.deref-4.ensures.value c.old.invariant.1.are_ids)
     (given_marks types others paths paths c.in_ok-marks.marks.items c.deref-5.result.now refl c.deref-5.ensures.value
     ((rw (same, same_other) at c.in_ok-marks.ensures.marks)
     (given_rows (λ row. row.items) types c.old.inside.paths paths c.old.inside.ids.items c.deref-3.result.now
-    c.elements-paths.ensures.list c.deref-3.ensures.value c.old.invariant.are_ids))))))
+    c.elements-paths.ensures.list c.deref-3.ensures.value c.old.invariant.1.are_ids))))))
     (rw (same, same_other) at c.push_by_halves.ensures.ok)
