@@ -35,23 +35,23 @@ loop-index-preserved c =
     let named = one_more p n in
     let others = one_more q n in
     elim c.if-has_path.branch [
-      then-has_path+in_ok-push w ↦ (
+      | then-has_path+in_ok-push w ↦ (
         (let is = sym c.has_path.ensures ∙ w.if-has_path.true in
-        ap (λ v. v.items) w.ids-is ∙ w.in_ok-push.ensures.items
-        ∙ ap (λ l. l ++ n ∷ []) c.loop-index.invariant.0
-        ∙ ap (λ l. filter p (range_with_len 0 n) ++ l) (sym (kept p n is)) ∙ sym named),
+            ap (λ v. v.items) w.ids-is ∙ w.in_ok-push.ensures.items
+            ∙ ap (λ l. l ++ n ∷ []) c.loop-index.invariant.0
+            ∙ ap (λ l. filter p (range_with_len 0 n) ++ l) (sym (kept p n is)) ∙ sym named),
         (let is = ap not (sym c.has_path.ensures ∙ w.if-has_path.true) in
-        ap (λ v. v.items) w.others-is ∙ c.loop-index.invariant.1 ∙ sym (append-nil _)
-        ∙ ap (λ l. filter q (range_with_len 0 n) ++ l) (sym (left_out q n is)) ∙ sym others),
+            ap (λ v. v.items) w.others-is ∙ c.loop-index.invariant.1 ∙ sym (append-nil _)
+            ∙ ap (λ l. filter q (range_with_len 0 n) ++ l) (sym (left_out q n is)) ∙ sym others),
       )
       | else-has_path+in_ok-push-2 w ↦ (
         (let is = sym c.has_path.ensures ∙ w.if-has_path.false in
-        ap (λ v. v.items) w.ids-is ∙ c.loop-index.invariant.0 ∙ sym (append-nil _)
-        ∙ ap (λ l. filter p (range_with_len 0 n) ++ l) (sym (left_out p n is)) ∙ sym named),
+            ap (λ v. v.items) w.ids-is ∙ c.loop-index.invariant.0 ∙ sym (append-nil _)
+            ∙ ap (λ l. filter p (range_with_len 0 n) ++ l) (sym (left_out p n is)) ∙ sym named),
         (let is = ap not (sym c.has_path.ensures ∙ w.if-has_path.false) in
-        ap (λ v. v.items) w.others-is ∙ w.in_ok-push-2.ensures.items
-        ∙ ap (λ l. l ++ n ∷ []) c.loop-index.invariant.1
-        ∙ ap (λ l. filter q (range_with_len 0 n) ++ l) (sym (kept q n is)) ∙ sym others),
+            ap (λ v. v.items) w.others-is ∙ w.in_ok-push-2.ensures.items
+            ∙ ap (λ l. l ++ n ∷ []) c.loop-index.invariant.1
+            ∙ ap (λ l. filter q (range_with_len 0 n) ++ l) (sym (kept q n is)) ∙ sym others),
       )
     ]
 
