@@ -119,8 +119,9 @@ class Table:
         return f"{index} {path}" if path else str(index)
 
     def listed(self):
-        """What list writes of the table."""
-        return "".join(f"// {self.pathed(index)}\n{it.declared}\n" for index, it in enumerate(self.nodes)).encode()
+        """What list writes of the table: types with a path before the others."""
+        order = sorted(range(len(self.nodes)), key=lambda it: not self.nodes[it].path)
+        return "".join(f"// {self.pathed(it)}\n{self.nodes[it].declared}\n" for it in order).encode()
 
     def graph(self, order):
         """The graph of these types, in the order in which they are found."""

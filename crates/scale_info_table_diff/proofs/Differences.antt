@@ -43,6 +43,16 @@ only_memory kept bytes types given x (NoSuchType id) h = absurd h
 only_memory kept bytes types given x (Dangling id) h = absurd h
 only_memory kept bytes types given x Memory h = tt
 
+-- so why they are refused is that an allocation failed
+pub memory_alone :
+    (kept : List PortableType) (bytes : List ℕ) → EncodesTypes kept bytes
+    → (e : PruneError) → IsTableError bytes e → e ≡ Memory
+memory_alone kept bytes x Malformed h = absurd (has_prefix kept bytes x h)
+memory_alone kept bytes x Trailing h = absurd (no_trailing kept bytes x h)
+memory_alone kept bytes x (NoSuchType id) h = absurd h
+memory_alone kept bytes x (Dangling id) h = absurd h
+memory_alone kept bytes x Memory h = refl
+
 -- an entry that is kept has an old id
 pub old_id :
     (types : List PortableType) (given order : List ℕ) (kept : List PortableType) (place : ℕ)

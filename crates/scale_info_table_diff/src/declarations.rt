@@ -38,7 +38,8 @@ struct Ordered<'t> {
 /// last line of a declaration, and past the last type, come empty lines. Docs count: take both
 /// tables [`without_docs`] where they should not.
 ///
-/// What is reached takes time, and then each declaration up to the first that differs.
+/// What is reached takes time, and then each declaration up to the first that differs. The first
+/// such call of a table decodes it.
 ///
 /// Errors, of the old table before the new one: `NoSuchType`, for the first id that is no index;
 /// `Dangling`, for the first id that is reached and is no index; `Memory`, where an allocation
@@ -68,15 +69,20 @@ pub fn first_declared_change(
 {
     let order = old.table.order_from(alloc, old_ids)?;
     let other_order = new.table.order_from(alloc, new_ids)?;
+    let table = old.decode(alloc)?;
+    let other_table = new.decode(alloc)?;
     let types = Ordered {
-        table: &old.decoded,
+        table: &table,
         order: &order,
     };
     let others = Ordered {
-        table: &new.decoded,
+        table: &other_table,
         order: &other_order,
     };
-    Ok(change_between(alloc, &types, &others)?)
+    let found = change_between(alloc, &types, &others)?;
+    old.decoded = Some(table);
+    new.decoded = Some(other_table);
+    Ok(found)
 }
 
 /// Why a path has changed: what [`first_declared_change`] says of the types with the path in two

@@ -4,6 +4,7 @@ ghost use Rattle.scale_info_table_diff.specs.NamedTables.{AreTypesByPath};
 ghost use Rattle.scale_info_table_diff.specs.TypesByPath.{ids_of};
 ghost use Rattle.scale_info_grammar.specs.Ty.{EncodesTypes};
 ghost use Rattle.scale_info_table_prune.specs.Prunes.{IsTableError};
+ghost use Rattle.scale_info_table_prune.specs.declared.prune.PruneError.TheVariants as prune_error;
 ghost use Rattle.scale_info_types.specs.declared.ty.PortableType.{PortableType};
 
 use crate::paths::paths_with_ids;
@@ -19,7 +20,7 @@ use std::marker::Model;
 /// A table that stays bytes, with its types by their paths.
 ///
 /// Contracts see it as the entries that its bytes encode. It is read once, however often it is
-/// compared, and holds its descriptions too, for what is told of them.
+/// compared. Where something is told of its types, it is decoded once more, and held so.
 ///
 /// ```text
 /// let table = NamedTable::of(alloc, &bytes)?;
@@ -29,8 +30,8 @@ use std::marker::Model;
 pub struct NamedTable<'a> {
     /// The table's bytes, and where its entries are in them.
     pub(crate) table: IndexedTable<'a>,
-    /// The same table, decoded.
-    pub(crate) decoded: PortableRegistry,
+    /// The same table, decoded, from when something is told of its types on.
+    pub(crate) decoded: Option<PortableRegistry>,
     /// The paths of its types, each once, in the order of the first types that have them.
     pub(crate) paths: Interner<Text>,
     /// For each path the ids of its types, ascending.
@@ -38,7 +39,7 @@ pub struct NamedTable<'a> {
 }
 
 impl<'a> Model for NamedTable<'a> {
-    ghost use Rattle.std.specs.Prelude.{◌≡◌, List, map};
+    ghost use Rattle.std.specs.Prelude.{◌≡◌, IfSome, List, map};
     ghost use Rattle.scale_info_table_diff.specs.NamedTables.{AreTypesByPath};
     ghost use Rattle.scale_info_types.specs.declared.ty.PortableType.{PortableType};
 
@@ -46,7 +47,7 @@ impl<'a> Model for NamedTable<'a> {
 
     ghost view = { λ named. named.table };
 
-    ghost invariant = { λ named. (named.decoded.types ≡ named.table)
+    ghost invariant = { λ named. IfSome named.decoded (λ decoded. decoded.types ≡ named.table)
         × AreTypesByPath named.table named.paths (map (λ row. row.items) named.ids.items) };
 }
 
@@ -59,15 +60,28 @@ impl<'a> NamedTable<'a> {
         ensures ok { IfOk result (λ table. EncodesTypes table bytes.now) }
         ensures cause { IfErr result (IsTableError bytes.now) }
     {
-        let decoded = table_of(alloc, bytes)?;
-        let (paths, ids) = paths_with_ids(alloc, decoded.types())?;
+        let (paths, ids) = paths_in(alloc, bytes)?;
         let table = IndexedTable::of(alloc, bytes)?;
         Ok(NamedTable {
             table,
-            decoded,
+            decoded: None,
             paths,
             ids,
         })
+    }
+
+    /// The table, decoded before or now.
+    ///
+    /// Errors: `Memory`, where an allocation failed.
+    pub(crate) fn decode(&mut self, alloc: Global) -> Result<PortableRegistry, PruneError>
+        ensures ok { IfOk result (λ table. table.types ≡ self.old) }
+        ensures err { IfErr result (λ e. e ≡ prune_error.Memory) }
+        ensures same { self.new ≡ self.old }
+    {
+        if let Some(table) = self.decoded.take() {
+            return Ok(table);
+        }
+        table_of(alloc, self.table.as_bytes())
     }
 
     /// The bytes of the table, which are its encoding.
@@ -98,6 +112,19 @@ pub(crate) fn row_of<'r>(paths: &Interner<Text>, ids: &'r [Vec<u32>], path: &Tex
         Some(row) => row,
         None => &[],
     }
+}
+
+/// The paths of the types of the table that bytes are, and the ids of the types with each. The
+/// table is decoded for it, and let go.
+///
+/// Errors: as those of [`NamedTable::of`].
+fn paths_in(alloc: Global, bytes: &[u8]) -> Result<(Interner<Text>, Vec<Vec<u32>>), PruneError>
+    ensures ok { IfOk result (λ found. (types : List PortableType) × EncodesTypes types bytes.now
+        × AreTypesByPath types found.0 (map (λ row. row.items) found.1.items)) }
+    ensures cause { IfErr result (IsTableError bytes.now) }
+{
+    let table = table_of(alloc, bytes)?;
+    Ok(paths_with_ids(alloc, table.types())?)
 }
 
 /// The table that bytes are.
